@@ -1,0 +1,176 @@
+-- The paper's form has what the theory asks of a form: its tables stand apart, and rights and places settle its words.
+use Prim.Native.Nat.{ℕ, zero, suc, _+_, _*_, _-_, _/_, _%_, _≤_, _<_}
+use mathlib.Core.Path.{_≡_, refl, sym, ap, _∙_}
+use mathlib.Core.Bool.{Bool, true, false, _&&_, false≢true, and-eq-true-iff}
+use native.Mathlib.Omega.{arith}
+use native.Mathlib.Decide.{decLt}
+use native.Mathlib.Nat.{div-add-mod, div-lt-iff-lt-mul, mul-comm, mul-lt-mul-of-pos-left, add-sub-cancel-left, mul-mod-right}
+use lib.Dec.{ltb}
+use borrow.Author.Tests.{lt-ltb, le-ltb, ltb-true, le-leb, leb-true, eq-eqb, eqb-true}
+use Rattle.theory.specs.Settled.{Together, Says}
+use Rattle.theory.specs.Lawful.{Lawful, Exact}
+use Rattle.theory.proofs.RightLaws.{by-cases}
+use Rattle.words.specs.Rights.{rightAt, goodRights}
+use Rattle.words.proofs.RightsLaws.{good-low, digits-equal, good-digits-equal}
+use Rattle.table.specs.Shape.{firstMiddle, firstLeaf}
+use Rattle.table.specs.Map.{addresses, block, part, parts, size, index, leads, isPlace, good, zone, form}
+use Rattle.table.specs.Wants.{wordAt, wordsIn}
+use Rattle.table.proofs.BlockLaws.{block-together, first-word, word-below, word-block, word-number, entryAt, entry-below}
+use Rattle.table.proofs.BlockLaws.{entry-block, entry-index}
+use Rattle.table.proofs.ShapeLaws.{and-both}
+use Rattle.table.proofs.EntryLaws.{index-below}
+
+-- Both of two tests.
+both-and : (a b : Bool) → a ≡ true → b ≡ true → (a && b) ≡ true
+both-and a b x y = and-eq-true-iff a b .1 (x, y)
+
+-- The test of a place: it is the first word of the `p`-th of the `n` places, counted from 0.
+
+pub place-nth : (from long n w : ℕ) → 0 < long → isPlace from long n w ≡ true → (p : ℕ) × (p < n) × (w ≡ from + long * p)
+place-nth from long n w b e =
+    let (f, z) = and-both _ _ e in
+    let (lo, hi) = and-both _ _ f in
+    let low = leb-true from w lo in
+    let high = ltb-true w (from + long * n) hi in
+    let none = eqb-true ((w - from) % long) 0 z in
+    let d = div-add-mod (w - from) long in
+    let c = mul-comm long n in
+    ((w - from) / long, div-lt-iff-lt-mul b .1 (omega arith), omega arith)
+
+pub nth-place : (from long n p : ℕ) → 0 < long → p < n → isPlace from long n (from + long * p) ≡ true
+nth-place from long n p b h =
+    let m = mul-lt-mul-of-pos-left h b in
+    both-and _ _ (both-and _ _ (le-leb from (from + long * p) (omega arith)) (lt-ltb (from + long * p) (from + long * n) (omega arith)))
+    (eq-eqb _ 0 (ap (λ x. x % long) (add-sub-cancel-left from (long * p)) ∙ mul-mod-right long p))
+
+module _ (D M L : ℕ) where
+  -- Where the places of tables of a height begin, and how many they are.
+  abbrev pub firstPlace : ℕ → ℕ
+  firstPlace zero = firstLeaf D M
+  firstPlace (suc h) = firstMiddle D
+
+  abbrev pub places : ℕ → ℕ
+  places zero = L
+  places (suc h) = M
+
+  -- A good entry that leads is the first word of a place one height below ..
+  pub leads-place : (h w : ℕ) → good D M L (suc h) w ≡ true → leads (suc h) w ≡ true
+      → (h < 2) × (p : ℕ) × (p < places h) × (w ≡ firstPlace h + size h * p)
+  leads-place zero w g l =
+      let (p, b, e) = place-nth (firstLeaf D M) 64 L w (omega arith) (rw l at g) in
+      (omega arith, p, b, e)
+  leads-place (suc zero) w g l =
+      let (p, b, e) = place-nth (firstMiddle D) 1024 M w (omega arith) (rw l at g) in
+      (omega arith, p, b, e)
+  leads-place (suc (suc h)) w g l = absurd (false≢true g)
+
+  -- .. and each such word below 2^31 is one.
+  pub place-leads : (h p : ℕ) → h < 2 → p < places h → firstPlace h + size h * p < 2147483648
+      → (good D M L (suc h) (firstPlace h + size h * p) ≡ true) × (leads (suc h) (firstPlace h + size h * p) ≡ true)
+  place-leads zero p hi b low =
+      let l = lt-ltb (firstLeaf D M + 64 * p) 2147483648 low in
+      (rw l (nth-place (firstLeaf D M) 64 L p (omega arith) b), l)
+  place-leads (suc zero) p hi b low =
+      let l = lt-ltb (firstMiddle D + 1024 * p) 2147483648 low in
+      (rw l (nth-place (firstMiddle D) 1024 M p (omega arith) b), l)
+  place-leads (suc (suc h)) p hi b low = absurd (omega arith)
+
+  -- A good entry of a root or middle table that does not lead is eight rights, and the other way round.
+  pub good-eight : (h w : ℕ) → good D M L (suc h) w ≡ true → leads (suc h) w ≡ false → goodRights w ≡ true
+  good-eight zero w g l = rw l at g
+  good-eight (suc zero) w g l = rw l at g
+  good-eight (suc (suc h)) w g l = absurd (false≢true g)
+
+  pub eight-good : (h w : ℕ) → h < 2 → goodRights w ≡ true → (good D M L (suc h) w ≡ true) × (leads (suc h) w ≡ false)
+  eight-good h w hi g = (is h hi, high)
+    where
+      high : ltb w 2147483648 ≡ false
+      high = by-cases (ltb w 2147483648)
+          (λ l. absurd (false≢true (sym (good-low w (ltb-true w 2147483648 l)) ∙ g)))
+          (λ l. l)
+
+      is : (h : ℕ) → h < 2 → good D M L (suc h) w ≡ true
+      is zero hi = rw high g
+      is (suc zero) hi = rw high g
+      is (suc (suc h)) hi = absurd (omega arith)
+
+  -- Tables stand apart.
+
+  zone-root : (i : ℕ) → i < firstMiddle D → zone D M L i ≡ 2
+  zone-root i h = rw (lt-ltb i (firstMiddle D) h)
+
+  zone-middle : (i : ℕ) → firstMiddle D ≤ i → i < firstLeaf D M → zone D M L i ≡ 1
+  zone-middle i h k = rw (le-ltb i (firstMiddle D) h, lt-ltb i (firstLeaf D M) k)
+
+  zone-leaf : (i : ℕ) → firstLeaf D M ≤ i → zone D M L i ≡ 0
+  zone-leaf i h = rw (le-ltb i (firstMiddle D) (omega arith), le-ltb i (firstLeaf D M) h)
+
+  zone-place : (h p i : ℕ) → h < 2 → p < places h → i < size h → zone D M L (firstPlace h + size h * p + i) ≡ h
+  zone-place zero p i hi b c = zone-leaf _ (omega arith)
+  zone-place (suc zero) p i hi b c = zone-middle _ (omega arith) (omega arith)
+  zone-place (suc (suc h)) p i hi b c = absurd (omega arith)
+
+  places-apart : (h f p i q j : ℕ) → i < size h → j < size h → f + size h * p + i ≡ f + size h * q + j → f + size h * p ≡ f + size h * q
+  places-apart zero f p i q j b c e = omega arith
+  places-apart (suc h) f p i q j b c e = omega arith
+
+  pub lawful : Lawful (form D M L)
+  lawful = record {
+    index-below = index-below;
+    root-zone = λ d i b c. zone-root (1024 * d + i) (omega arith);
+    root-apart = λ d i e j b c p q r. omega arith;
+    target-zone = λ h w i g l c.
+        let (hi, p, b, e) = leads-place h w g l in
+        rw e (zone-place h p i hi b c);
+    target-apart = λ h w i x j g l k m b c e.
+        let (_, p, _, f) = leads-place h w g l in
+        let (_, q, _, s) = leads-place h x k m in
+        f ∙ places-apart h (firstPlace h) p i q j b c (ap (λ y. y + i) (sym f) ∙ e ∙ ap (λ y. y + j) s) ∙ sym s;
+  }
+
+  -- Rights and places settle the words.
+
+  -- An entry that says a block has in part `i` the right of each word of sub-block `i`.
+  pub says-word : (h a i j w : ℕ) (R : ℕ → ℕ) → a < addresses → i < parts h → j < wordsIn h → Says (form D M L) h R a w
+      → rightAt w i ≡ R (wordAt h a i j)
+  says-word h a i j w R ba bi bj s =
+      ap (rightAt w) (sym (word-number h a i j bi bj))
+      ∙ s .each (wordAt h a i j) (word-below h a i j ba bi bj) (block-together D M L h a _ (sym (word-block h a i j bi bj)))
+
+  rights-settle : (h w x : ℕ) → good D M L h w ≡ true → leads h w ≡ false → good D M L h x ≡ true → leads h x ≡ false
+      → ((i : ℕ) → i < parts h → rightAt w i ≡ rightAt x i) → w ≡ x
+  rights-settle zero w x g l k m e = digits-equal w x (ltb-true w addresses g) (ltb-true x addresses k) e
+  rights-settle (suc h) w x g l k m e =
+      let p = good-eight h w g l in
+      let q = good-eight h x k m in
+      good-digits-equal w x (rights-low w p) (rights-low x q) p q e
+    where
+      rights-low : (y : ℕ) → goodRights y ≡ true → y < addresses
+      rights-low y r = let z = eqb-true (y / 2147483648) 1 (and-both _ _ r .0) in omega arith
+
+  at-entry : (h a i : ℕ) → a < addresses → i < size h → (b : ℕ) × (b < addresses) × Together (form D M L) (suc h) a b × (index h b ≡ i)
+  at-entry h a i ba bi = elim (decLt h 2) [
+    | yes hi ↦ (
+      entryAt h a i,
+      entry-below h a i hi ba bi,
+      block-together D M L (suc h) a _ (sym (entry-block h a i hi bi)),
+      entry-index h a i hi bi,
+    )
+    | no hi ↦ above-all h (omega arith) bi
+  ]
+    where
+      -- Above a root there is nothing to lie together in.
+      above-all : (h : ℕ) → 2 ≤ h → i < size h → (b : ℕ) × (b < addresses) × Together (form D M L) (suc h) a b × (index h b ≡ i)
+      above-all zero lo bi = absurd (omega arith)
+      above-all (suc zero) lo bi = absurd (omega arith)
+      above-all (suc (suc h)) lo bi = (4194304 * i, omega arith, λ j up hi. absurd (omega arith), omega arith)
+
+  pub exact : Exact (form D M L)
+  exact = record {
+    some = omega arith;
+    last = λ w. refl;
+    target-exact = λ h w x g l k m e. e;
+    says-exact = λ h a w x R ba p q. rights-settle h w x (p .good) (p .rights) (q .good) (q .rights)
+        (λ i bi. says-word h a i 0 w R ba bi (first-word h) p ∙ sym (says-word h a i 0 x R ba bi (first-word h) q));
+    at-index = at-entry;
+  }

@@ -1,0 +1,9 @@
+pub mod ShapeLaws
+pub mod EntryLaws
+pub mod BlockLaws
+pub mod FormLaws
+pub mod WantLaws
+pub mod FreshLaws
+pub mod FreshWordLaws
+pub mod LookupLaws
+pub mod Witness

@@ -1,0 +1,28 @@
+-- The test of a shape says what it should.
+use Prim.Native.Nat.{ℕ, _+_, _*_, _≤_, _<_}
+use mathlib.Core.Path.{_≡_, refl}
+use mathlib.Core.Bool.{Bool, true, false, _&&_, false≢true}
+use lib.Dec.{eqb, leb}
+use borrow.Author.Tests.{leb-true, eqb-true, le-leb, eq-eqb}
+use Rattle.table.specs.declared.Shape.{Shape}
+use Rattle.table.specs.Shape.{InRange, Fits, fitsOf}
+
+-- Both halves of a test.
+pub and-both : (a b : Bool) → (a && b) ≡ true → (a ≡ true) × (b ≡ true)
+and-both true b e = (refl, e)
+and-both false b e = absurd (false≢true e)
+
+pub test-fits : (s : Shape) (n : ℕ) → fitsOf s n ≡ true → Fits s n
+test-fits s n e =
+    let (e1, long) = and-both _ _ e in
+    let (e2, leaf) = and-both _ _ e1 in
+    let (e3, mids) = and-both _ _ e2 in
+    let (some, doms) = and-both _ _ e3 in
+    record {
+      range = record { some-domain = leb-true _ _ some; domains = leb-true _ _ doms; middles = leb-true _ _ mids; leaves = leb-true _ _ leaf };
+      long = eqb-true _ _ long;
+    }
+
+pub fits-test : (s : Shape) (n : ℕ) → Fits s n → fitsOf s n ≡ true
+fits-test s n f =
+    simp (le-leb _ _ (f .range .some-domain), le-leb _ _ (f .range .domains), le-leb _ _ (f .range .middles), le-leb _ _ (f .range .leaves), eq-eqb _ _ (f .long))

@@ -1,0 +1,101 @@
+-- `table::fresh` meets its contract.
+use Prim.Native.Nat.{ℕ, _+_, _*_, _-_, _≤_}
+use mathlib.Core.Path.{_≡_, refl, sym, ap, _∙_}
+use mathlib.Core.Bool.{true, false, cond}
+use mathlib.Core.List.{List, _++_}
+use native.Mathlib.Omega.{arith}
+use borrow.Author.Needs.{needs}
+use borrow.Author.Tests.{not-true, not-false}
+use lib.ListN.{length, take, drop, replicate, length-append, length-take, length-replicate}
+use lib.Seq.{length-take-le}
+use Rattle.table.specs.Shape.{Fits}
+use Rattle.table.specs.Fresh.{freshPool}
+use Rattle.table.proofs.ShapeLaws.{test-fits}
+use Rattle.table.proofs.FreshLaws.{makes-none, makes-fresh, filled}
+use Rattle.table.proofs.fresh.Statement.{statement}
+use Rattle.table.proofs.fresh.Tie as tie
+
+shape-fits-requires : tie.Need-shape-fits-requires
+shape-fits-requires c κs = search needs
+
+returns : tie.Need-returns
+returns c = makes-none _ _ (sym (c .before .shape-fits .ensures) ∙ not-true _ (c .if1 .taken))
+
+-- Past the test the shape fits.
+fits : (c : tie.Else1) → Fits (c .before .before .before .args .shape) (length (c .before .before .before .args .pool .now))
+fits c = test-fits _ _ (sym (c .before .shape-fits .ensures) ∙ not-false _ (c .if1 .left))
+
+mul-roots : tie.Need-mul-roots
+mul-roots c = let f = fits c in omega arith
+
+cast-roots : tie.Need-cast-roots
+cast-roots c = search needs
+
+slice-relend-prefix-fill : tie.Need-slice-relend-prefix-fill
+slice-relend-prefix-fill c = let f = fits c in omega arith
+
+slice-aggregate-fill : tie.Need-slice-aggregate-fill
+slice-aggregate-fill c = let f = fits (c .before) in simp length-take (omega arith)
+
+fill-requires : tie.Need-fill-requires
+fill-requires c κs = search needs
+
+mul-fill : tie.Need-mul-fill
+mul-fill c = search needs
+
+-- The first fill leaves as many words as there were.
+room : (c : tie.After-slice-known2)
+    → 1024 * c .before .before .before .before .before .before .before .args .shape .domains
+    ≤ length (c .before .before .fill .last .0 ++ drop (1024 * c .before .before .before .before .before .before .before .args .shape .domains)
+    (c .before .before .before .before .before .before .before .args .pool .now))
+room c =
+    let f = fits (c .before .before .before .before) in
+    let s = c .before .before .before .before .before .before .before .args in
+    let r = 1024 * s .shape .domains in
+    let e = ap length (c .before .before .fill .ensures) ∙ length-replicate (length (take r (s .pool .now))) 2147483648 ∙ length-take-le r (s .pool .now) (omega arith) in
+    simp length-append (omega arith)
+
+sub-fill : tie.Need-sub-fill
+sub-fill c = let x = room c in omega arith
+
+part-fill-start : tie.Need-part-fill-start
+part-fill-start c = room c
+
+part-fill-end : tie.Need-part-fill-end
+part-fill-end c = search needs
+
+fill-requires-2 : tie.Need-fill-requires-2
+fill-requires-2 c κs = search needs
+
+same-length : tie.Need-same-length
+same-length c = search needs
+
+returns-2 : tie.Need-returns-2
+returns-2 c =
+    let g = c .before .before .before .before .before .before .before .before in
+    let f = fits g in
+    let s = g .before .before .before .args in
+    let D = s .shape .domains in
+    let e : length (s .pool .now) - 1024 * D ≡ 1024 * s .shape .middles + 64 * s .shape .leaves = omega (arith, f .long) in
+    makes-fresh (s .shape) (s .pool .now) _ (sym (g .before .shape-fits .ensures) ∙ not-false _ (g .if1 .left))
+    (filled (1024 * D) 2147483648 0 (s .pool .now) _ _ (omega arith) (c .before .before .before .before .before .before .fill .ensures) (c .before .before .fill2 .ensures)
+    ∙ ap (λ n. replicate (1024 * D) 2147483648 ++ replicate n 0) e)
+
+pub fresh-spec : {M : Type 1} → statement M
+fresh-spec =
+    tie.close
+    (tie.spec
+    shape-fits-requires
+    returns
+    mul-roots
+    cast-roots
+    slice-relend-prefix-fill
+    slice-aggregate-fill
+    fill-requires
+    mul-fill
+    sub-fill
+    part-fill-start
+    part-fill-end
+    fill-requires-2
+    same-length
+    returns-2)

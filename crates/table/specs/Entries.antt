@@ -1,0 +1,25 @@
+-- What an entry of a table says.
+use Prim.Native.Nat.{ℕ, zero, suc, _+_, _*_, _-_, _/_}
+use mathlib.Core.Bool.{Bool, cond}
+use lib.Dec.{eqb, ltb}
+use Rattle.words.specs.Rights.{goodRights}
+use Rattle.words.specs.declared.PoolWord.{PoolWord}
+use Rattle.table.specs.declared.Shape.{Shape}
+use Rattle.table.specs.declared.Entry.{Entry}
+use Rattle.table.specs.declared.Entry.the-variants.{Rights, Leads, Bad}
+use Rattle.table.specs.Shape.{firstMiddle, firstLeaf, maxMiddles}
+use Rattle.table.specs.Map.{isPlace}
+
+-- The word `w` leads to one of `n` places of `long` words from `from` on, which are numbered from `nth` on; or it is bad.
+abbrev pub leadsTo : ℕ → ℕ → ℕ → ℕ → ℕ → Entry
+leadsTo from long n nth w = cond (isPlace from long n w) (Leads (record { 0 = w }) (nth + (w - from) / long)) Bad
+
+-- The word `w` as an entry of the height `h`. Middle places are numbered from 0 on, leaf places from 8 on.
+abbrev pub decodeOf : Shape → ℕ → ℕ → Entry
+decodeOf s h w =
+    cond (eqb h 0) (Rights w)
+    (cond (ltb w 2147483648)
+    (cond (eqb h 1)
+    (leadsTo (firstLeaf (s .domains) (s .middles)) 64 (s .leaves) maxMiddles w)
+    (leadsTo (firstMiddle (s .domains)) 1024 (s .middles) 0 w))
+    (cond (goodRights w) (Rights w) Bad))

@@ -1,0 +1,7 @@
+pub mod Shape
+pub mod Map
+pub mod Entries
+pub mod Fresh
+pub mod Lookup
+pub mod Access
+pub mod Wants

@@ -1,0 +1,254 @@
+// The table: the shape of a pool, what its entries say, making it fresh, and the lookup of one word.
+ghost use mathlib.Core.Path.{_≡_};
+ghost use mathlib.Core.Bool.{Bool, true};
+ghost use Prim.Native.Nat.{ℕ, _+_, _*_, _/_, _%_, _<_, _≤_};
+ghost use mathlib.Core.List.{List};
+ghost use lib.ListN.{length, replicate};
+ghost use Rattle.theory.specs.Pool.{words};
+ghost use Rattle.theory.specs.Walk.{walk};
+ghost use Rattle.table.specs.Shape.{fitsOf, Fits, InRange};
+ghost use Rattle.table.specs.Map.{index, part, parts, formOf};
+ghost use Rattle.table.specs.Entries.{leadsTo, decodeOf};
+ghost use Rattle.table.specs.Fresh.{MakesFresh};
+ghost use Rattle.table.specs.Lookup.{foundAt, LooksUp};
+ghost use Rattle.table.specs.Access.{passesOf};
+use words::ByteAddr;
+use words::PoolWord;
+
+// The most roots, middle places and leaf places that a pool may have.
+pub const MAX_DOMAINS: u32 = 4;
+
+pub const MAX_MIDDLES: u32 = 8;
+
+pub const MAX_LEAVES: u32 = 64;
+
+// The kinds of access, as numbers from outside.
+pub const LOAD: u32 = 0;
+
+pub const STORE: u32 = 1;
+
+pub const FETCH: u32 = 2;
+
+// How many roots, middle places and leaf places the pool has: D, M and L.
+pub struct Shape {
+    pub domains: u32,
+    pub middles: u32,
+    pub leaves: u32,
+}
+
+// What an entry says: it is rights; or it leads to the table that begins at a pool word, in the place of a number; or it is bad.
+pub enum Entry {
+    Rights(u32),
+    Leads(PoolWord, usize),
+    Bad,
+}
+
+pub enum Made {
+    Done,
+    Refused(u32),
+}
+
+pub enum Found {
+    Right { right: u32, entry: u32, loads: u32 },
+    Refused(u32),
+}
+
+// Whether a pool of `long` words has this shape. The ranges come first: with them no product below can wrap.
+pub fn shape_fits(shape: Shape, long: usize) -> bool
+    ensures { λ r. ⌜ r ≡ fitsOf shape long ⌝ }
+{
+    let domains = shape.domains;
+    let middles = shape.middles;
+    let leaves = shape.leaves;
+    if domains < 1 {
+        return false;
+    }
+    if domains > MAX_DOMAINS {
+        return false;
+    }
+    if middles > MAX_MIDDLES {
+        return false;
+    }
+    if leaves > MAX_LEAVES {
+        return false;
+    }
+    long == (1024 * domains + 1024 * middles + 64 * leaves) as usize
+}
+
+// The entry by which an address goes in a table of a height.
+pub fn index_in(height: u32, address: ByteAddr) -> usize
+    requires { ⌜ height ≤ 2 ⌝ }
+    ensures { λ r. ⌜ r ≡ index height (address .0) ⌝ }
+{
+    let a = words::addr_number(address);
+    if height == 2 {
+        return (a / 4194304 % 1024) as usize;
+    }
+    if height == 1 {
+        return (a / 4096 % 1024) as usize;
+    }
+    (a / 64 % 64) as usize
+}
+
+// Which right of an entry of a height is that of an address.
+pub fn part_in(height: u32, address: ByteAddr) -> u32
+    requires { ⌜ height ≤ 2 ⌝ }
+    ensures { λ r. ⌜ r ≡ address .0 / part height % parts height ⌝ }
+{
+    let a = words::addr_number(address);
+    if height == 2 {
+        return a / 524288 % 8;
+    }
+    if height == 1 {
+        return a / 512 % 8;
+    }
+    a / 4 % 16
+}
+
+// A pointer to the first word of one of `count` places of `long` words, the first of them at `from` and with the number `nth`.
+fn leads_to(from: u32, long: u32, count: u32, nth: usize, w: u32) -> Entry
+    requires { ⌜ (0 < long) × (from + long * count < 4294967296) × (nth + count < 4294967296) ⌝ }
+    ensures { λ r. ⌜ r ≡ leadsTo from long count nth w ⌝ }
+{
+    if w < from {
+        return Entry::Bad;
+    }
+    if w >= from + long * count {
+        return Entry::Bad;
+    }
+    let off = w - from;
+    if off % long != 0 {
+        return Entry::Bad;
+    }
+    let place = (off / long) as usize;
+    Entry::Leads(words::pool_word(w), nth + place)
+}
+
+// What the word `w` says as an entry of a height.
+pub fn decode(shape: Shape, height: u32, w: u32) -> Entry
+    requires { ⌜ InRange (shape .domains) (shape .middles) (shape .leaves) ⌝ }
+    ensures { λ r. ⌜ r ≡ decodeOf shape height w ⌝ }
+{
+    let domains = shape.domains;
+    let middles = shape.middles;
+    let leaves = shape.leaves;
+    if height == 0 {
+        return Entry::Rights(w);
+    }
+    if w < 0x8000_0000 {
+        let from = 1024 * domains;
+        if height == 1 {
+            return leads_to(from + 1024 * middles, 64, leaves, 8, w);
+        }
+        return leads_to(from, 1024, middles, 0, w);
+    }
+    if words::good_rights(w) {
+        return Entry::Rights(w);
+    }
+    Entry::Bad
+}
+
+// One value for every word of a part of the pool.
+fn fill(part: &mut [u32], value: u32)
+    ensures { λ r. ⌜ now (part .exit) ≡ replicate (length (now (part .entry))) value ⌝ }
+{
+    let mut i = 0;
+    while i < part.len() {
+        part[i] = value;
+        i += 1;
+    }
+}
+
+// Every root word says eight times none; all places are zero.
+pub fn fresh(pool: &mut [u32], shape: Shape) -> Made
+    ensures { λ r. ⌜ MakesFresh shape (now (pool .entry)) r (now (pool .exit)) ⌝ }
+{
+    let n = pool.len();
+    if !shape_fits(shape, n) {
+        return Made::Refused(1);
+    }
+    let domains = shape.domains;
+    let roots = (1024 * domains) as usize;
+    fill(&mut pool[..roots], 0x8000_0000);
+    fill(&mut pool[roots..], 0);
+    Made::Done
+}
+
+// The walk from word `at` of a height down to the entry that decides.
+fn walk_down(pool: &[u32], shape: Shape, domain: u32, address: ByteAddr) -> Found
+    requires { ⌜ Fits shape (length (now pool)) ⌝ }
+    requires { ⌜ domain < shape .domains ⌝ }
+    ensures { λ r. ⌜ r ≡ foundAt (formOf shape) (words (now (pool .entry))) (address .0)
+        (walk (formOf shape) (words (now (pool .entry))) (address .0) 2 (1024 * domain + index 2 (address .0))) ⌝ }
+{
+    let mut height: u32 = 2;
+    let root = 1024 * domain;
+    let first = index_in(2, address);
+    let mut at = root as usize + first;
+    while 0 < height {
+        let w = pool[at];
+        let e = decode(shape, height, w);
+        match e {
+            Entry::Bad => {
+                return Found::Refused(6);
+            }
+            Entry::Rights(r) => {
+                let i = part_in(height, address);
+                let right = words::right_at(r, i);
+                return Found::Right {
+                    right,
+                    entry: r,
+                    loads: 3 - height,
+                };
+            }
+            Entry::Leads(t, _) => {
+                height -= 1;
+                let i = index_in(height, address);
+                let from = words::pool_index(t);
+                at = from + i;
+            }
+        }
+    }
+    let w = pool[at];
+    let i = part_in(0, address);
+    let right = words::right_at(w, i);
+    Found::Right {
+        right,
+        entry: w,
+        loads: 3,
+    }
+}
+
+// The right of a domain at an address, the entry that decides it, and how many words were read.
+pub fn lookup(pool: &[u32], shape: Shape, domain: u32, address: ByteAddr) -> Found
+    ensures { λ r. ⌜ LooksUp (now (pool .entry)) shape domain (address .0) r ⌝ }
+{
+    let n = pool.len();
+    if !shape_fits(shape, n) {
+        return Found::Refused(1);
+    }
+    let domains = shape.domains;
+    if domain >= domains {
+        return Found::Refused(2);
+    }
+    walk_down(pool, shape, domain, address)
+}
+
+// Whether an access of a kind passes on a right.
+pub fn passes(kind: u32, right: u32) -> bool
+    ensures { λ r. ⌜ r ≡ passesOf kind right ⌝ }
+{
+    if kind == LOAD {
+        if right < 1 {
+            return false;
+        }
+        return right <= 3;
+    }
+    if kind == STORE {
+        return right == 2;
+    }
+    if kind == FETCH {
+        return right == 3;
+    }
+    false
+}

@@ -1,0 +1,17 @@
+pub mod ReachLaws
+pub mod RightLaws
+pub mod BlockLaws
+pub mod WalkLaws
+pub mod StoreLaws
+pub mod SettledLaws
+pub mod FinishedLaws
+pub mod Encodes
+pub mod EncodesLaws
+pub mod KeptLaws
+pub mod BetweenLaws
+pub mod ReadyLaws
+pub mod Phase
+pub mod PhaseLaws
+pub mod CheckedLaws
+pub mod CheckLaws
+pub mod Witness

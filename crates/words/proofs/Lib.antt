@@ -1,0 +1,4 @@
+-- The laws of the definitions, and examples of them.
+pub mod RightsLaws
+pub mod RegionLaws
+pub mod Examples

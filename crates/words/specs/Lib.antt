@@ -1,0 +1,3 @@
+-- The definitions that the contracts cite: rights inside a word, and regions.
+pub mod Rights
+pub mod Region

@@ -1,0 +1,110 @@
+// What the rest is counted in: memory bytes and pool words kept apart, rights inside a 32-bit word, and regions rounded to memory words.
+ghost use mathlib.Core.Path.{_≡_};
+ghost use Prim.Native.Nat.{_+_, _<_};
+ghost use Rattle.words.specs.Rights.{rightAt, eightOf, sixteenOf, goodRights};
+ghost use Rattle.words.specs.Region.{regionOf};
+
+// A byte address of the memory that the table protects.
+pub struct ByteAddr(pub u32);
+
+// The number of a word of the pool. It has a type of its own, so that the compiler refuses it where an address is wanted.
+pub struct PoolWord(pub usize);
+
+// The memory words `lo ≤ w < hi`; memory word `w` is the four bytes from `4 * w` on.
+pub struct Region {
+    pub lo: u32,
+    pub hi: u32,
+}
+
+// A region as it is asked for: the words that it covers, or the number of the refusal.
+pub enum Rounded {
+    Covers(Region),
+    Refused(u32),
+}
+
+// A number from outside becomes an address.
+pub fn byte_addr(n: u32) -> ByteAddr
+    ensures { λ r. ⌜ r ≡ record { 0 = n } ⌝ }
+{
+    ByteAddr(n)
+}
+
+// An address becomes a number again, to be split or handed outside.
+pub fn addr_number(a: ByteAddr) -> u32
+    ensures { λ r. ⌜ r ≡ a .0 ⌝ }
+{
+    a.0
+}
+
+// A pointer entry, as the pool word number that it is.
+pub fn pool_word(entry: u32) -> PoolWord
+    ensures { λ r. ⌜ r ≡ record { 0 = entry } ⌝ }
+{
+    PoolWord(entry as usize)
+}
+
+// Where the word stands in the slice that is the pool.
+pub fn pool_index(w: PoolWord) -> usize
+    ensures { λ r. ⌜ r ≡ w .0 ⌝ }
+{
+    w.0
+}
+
+// The word `i` words on.
+pub fn word_after(w: PoolWord, i: usize) -> PoolWord
+    requires { ⌜ w .0 + i < 4294967296 ⌝ }
+    ensures { λ r. ⌜ r ≡ record { 0 = w .0 + i } ⌝ }
+{
+    PoolWord(w.0 + i)
+}
+
+// The right in bits 2i+1 and 2i.
+pub fn right_at(w: u32, i: u32) -> u32
+    requires { ⌜ i < 16 ⌝ }
+    ensures { λ r. ⌜ r ≡ rightAt w i ⌝ }
+{
+    (w >> (2 * i)) % 4
+}
+
+// A root or middle entry that gives one right to all of its block.
+pub fn eight_of(right: u32) -> u32
+    requires { ⌜ right < 4 ⌝ }
+    ensures { λ r. ⌜ r ≡ eightOf right ⌝ }
+{
+    0x8000_0000 + 0x5555 * right
+}
+
+// A leaf entry that gives one right to its sixteen words.
+pub fn sixteen_of(right: u32) -> u32
+    requires { ⌜ right < 4 ⌝ }
+    ensures { λ r. ⌜ r ≡ sixteenOf right ⌝ }
+{
+    0x5555_5555 * right
+}
+
+// Bit 31 set and bits 30 to 16 zero, as one range: whoever walks a table asks this of every entry.
+pub fn good_rights(w: u32) -> bool
+    ensures { λ r. ⌜ r ≡ goodRights w ⌝ }
+{
+    if w < 0x8000_0000 {
+        return false;
+    }
+    w < 0x8001_0000
+}
+
+// The words of a start and a length in bytes. The length's remainder is rounded by itself, since `length + 3` could wrap.
+pub fn round_region(start: ByteAddr, length: u32) -> Rounded
+    ensures { λ r. ⌜ r ≡ regionOf (start .0) length ⌝ }
+{
+    if length == 0 {
+        return Rounded::Refused(4);
+    }
+    let lo = start.0 / 4;
+    let rest = length % 4 + 3;
+    let count = length / 4 + rest / 4;
+    let hi = lo + count;
+    if hi > 0x4000_0000 {
+        return Rounded::Refused(5);
+    }
+    Rounded::Covers(Region { lo, hi })
+}
