@@ -11,7 +11,6 @@ use Rattle.theory.specs.Form.{Form}
 use Rattle.theory.specs.Pool.{SoundPool, words, entry, rightOf}
 use Rattle.theory.specs.Walk.{End, bad, decides, walk}
 use Rattle.theory.specs.Settled.{Together, Says}
-use Rattle.theory.specs.Lawful.{Lawful}
 use Rattle.theory.proofs.RightLaws.{by-cases}
 use Rattle.theory.proofs.ReachLaws.{entry-reach}
 use Rattle.theory.proofs.WalkLaws.{walk-down, decides-low, decides-right, decides-says, sound-decides}
@@ -22,6 +21,7 @@ use Rattle.table.specs.Shape.{Fits, fitsOf}
 use Rattle.table.specs.Map.{addresses, formOf}
 use Rattle.table.specs.Lookup.{foundAt, lookupOf, LooksUp}
 use Rattle.table.proofs.ShapeLaws.{fits-test}
+use Rattle.table.proofs.FormLaws.{lawful}
 
 -- One step of a walk, by a height that is not 0.
 pub walk-leads : (F : Form) (P : ℕ → ℕ) (a h k : ℕ) → 0 < h → F .good h (P k) ≡ true → F .leads h (P k) ≡ true
@@ -92,10 +92,10 @@ pub one-lookup : {p : List ℕ} {s : Shape} {d a : ℕ} {q r : Found} → LooksU
 one-lookup x y = x .answer ∙ sym (y .answer)
 
 -- In a sound pool a lookup for a domain below D never refuses.
-pub sound-lookup : (p : List ℕ) (s : Shape) (d a : ℕ) → Lawful (formOf s) → SoundPool (formOf s) (words p) → Fits s (length p) → d < s .domains
+pub sound-lookup : (p : List ℕ) (s : Shape) (d a : ℕ) → SoundPool (formOf s) (words p) → Fits s (length p) → d < s .domains
     → (w : ℕ) × (n : ℕ) × (lookupOf p s d a ≡ Right (rightOf (formOf s) (words p) d a) w n)
-sound-lookup p s d a L q f h =
-    let (m, k, z) = sound-decides (formOf s) (words p) a L q 2 (entry (formOf s) d a) (entry-reach (formOf s) L d a h) in (
+sound-lookup p s d a q f h =
+    let (m, k, z) = sound-decides (formOf s) (words p) a (lawful _ _ _) q 2 (entry (formOf s) d a) (entry-reach (formOf s) (lawful _ _ _) d a h) in (
       words p k,
       3 - m,
       lookup-walks p s d a (fits-test s (length p) f) h ∙ ap (foundAt (formOf s) (words p) a) z

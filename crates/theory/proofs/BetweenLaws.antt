@@ -51,7 +51,7 @@ either F L x m j a c d =
     ⊎-elim (λ e. inl (half F L x m j a c d e)) (λ e. inr (half F L (mixed-swap F x) m j a (kept-swap F c) (λ q. d (sym q)) e)) (x .kept c)
 
 -- The kept word is the same in both pools, so it is in `X`.
-agreed : (F : Form) {P Q X : ℕ → ℕ} → Mixed F P Q X → {m j : ℕ} → Kept F P Q m j → P j ≡ Q j → X j ≡ P j
+pub agreed : (F : Form) {P Q X : ℕ → ℕ} → Mixed F P Q X → {m j : ℕ} → Kept F P Q m j → P j ≡ Q j → X j ≡ P j
 agreed F x c e = ⊎-elim (λ q. q) (λ q. q ∙ sym e) (x .kept c)
 
 -- Two pools with one word that leads: their rights there are those below.

@@ -10,7 +10,7 @@ pub mod EncodesLaws
 pub mod KeptLaws
 pub mod BetweenLaws
 pub mod ReadyLaws
-pub mod Phase
+pub mod StayLaws
 pub mod PhaseLaws
 pub mod CheckedLaws
 pub mod CheckLaws

@@ -6,3 +6,4 @@ pub mod Finished
 pub mod Lawful
 pub mod Check
 pub mod Stores
+pub mod Phase

@@ -1,0 +1,15 @@
+pub mod CountLaws
+pub mod Owners
+pub mod OwnedLaws
+pub mod HandLaws
+pub mod KeepLaws
+pub mod Final
+pub mod NumberLaws
+pub mod OldLaws
+pub mod SameLaws
+pub mod FinalWordLaws
+pub mod FinalLaws
+pub mod TellsLaws
+pub mod ChangedLaws
+pub mod Exists
+pub mod Witness
