@@ -77,10 +77,12 @@ module _ (D M L : ℕ) {R : ℕ → ℕ → ℕ} {Q : ℕ → ℕ} (same : (d a 
 -- Whether tables fit is decided.
 pub fits-dec : (D M L : ℕ) (R : ℕ → ℕ → ℕ) → Dec (Room D M L R)
 fits-dec D M L R = elim (decLe (count (wantMiddle R) (1024 * D)) M) [
-    yes m ↦ elim (decLe (count (wantLeaf R) (1048576 * D)) L) [
-        yes l ↦ yes (record { middles = m; leaves = l })
-      | no l ↦ no (λ f. l (f .leaves)) ]
-  | no m ↦ no (λ f. m (f .middles)) ]
+  | yes m ↦ elim (decLe (count (wantLeaf R) (1048576 * D)) L) [
+    | yes l ↦ yes (record { middles = m; leaves = l })
+    | no l ↦ no (λ f. l (f .leaves))
+  ]
+  | no m ↦ no (λ f. m (f .middles))
+]
 
 -- A finished pool shows that the tables fit ..
 pub finished-fits : (D M L : ℕ) {R : ℕ → ℕ → ℕ} {P Q : ℕ → ℕ} → Finished (form D M L) P R Q → Room D M L R
@@ -112,8 +114,8 @@ module _ (D M L : ℕ) {Q : ℕ → ℕ} (s : SoundPool (form D M L) Q)
         wants-divided (rightOf (form D M L) Q d) (suc h) a ba
         (sym (want-number (rightOf (form D M L) Q) h d a hi ba)
         ∙ old-wanted h (number h d a) hi (number-below h D d a hi bd ba) (led-old D M L Q d a ba h t x .0));
-    there = λ {d} {a} {h} bd ba hi x. wants-table (form D M L) (wanting D M L) (lawful D M L) s d a bd ba h hi x
-    }
+    there = λ {d} {a} {h} bd ba hi x. wants-table (form D M L) (wanting D M L) (lawful D M L) s d a bd ba h hi x;
+  }
 
 -- There is a finished pool, and no other.
 abbrev pub Only : Form → (ℕ → ℕ) → (ℕ → ℕ → ℕ) → Type 0

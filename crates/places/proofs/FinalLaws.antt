@@ -172,8 +172,8 @@ module _ (D M L : ℕ) (range : InRange D M L) {R : ℕ → ℕ → ℕ} (S : (d
         x,
         wants-gets F wants (wanting D M L) (tells-wants D M L R S) d a bd ba h hi (wants-divided (R d) (suc h) a ba w),
         place-table D M L middle leaf h d a hi ∙ ap (tableOf D M L middle leaf h) x
-        ∙ ap (placeAt D M L h)
-        (owner-seek (blocks h * D) (places D M L h) (want R h) (old P h) (either freeL freeM h) (was D M L P h) O p bp b),
+            ∙ ap (placeAt D M L h)
+            (owner-seek (blocks h * D) (places D M L h) (want R h) (old P h) (either freeL freeM h) (was D M L P h) O p bp b),
         address-index h (owner h p) e hi be,
       )
 
@@ -204,10 +204,11 @@ module _ (D M L : ℕ) (range : InRange D M L) {R : ℕ → ℕ → ℕ} (S : (d
   idle-place : (j h p e : ℕ) → Nowhere j → InPlace D M L j h p e → Q j ≡ P j
   idle-place j h p e f (hi, b, c, q) =
       is j ∙ final-place D M L middle leaf R P j h p e (hi, b, c, q) ∙ elim (decLt (owner h p) (blocks h * D)) [
-        yes o ↦
-          (let (d, a, bd, ba, _, g, s, i) = place-owner h p e hi b o c in
-          absurd (f h d a bd ba (omega arith) g (rw (s, i) q)))
-      | no o ↦ place-idle D M L middle leaf R P h j p e (omega arith) ]
+        | yes o ↦
+            (let (d, a, bd, ba, _, g, s, i) = place-owner h p e hi b o c in
+            absurd (f h d a bd ba (omega arith) g (rw (s, i) q)))
+        | no o ↦ place-idle D M L middle leaf R P h j p e (omega arith)
+      ]
 
   final-idle : (j : ℕ) → Nowhere j → Q j ≡ P j
   final-idle j f = ⊎-elim

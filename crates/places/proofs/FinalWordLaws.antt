@@ -21,12 +21,15 @@ module _ (D M L : ℕ) where
   -- Every word is of a root or of a place, or lies past the pool.
   pub which-word : (k : ℕ) → (k < firstMiddle D) ⊎ (((h : ℕ) × (p : ℕ) × (e : ℕ) × InPlace k h p e) ⊎ (poolLength D M L ≤ k))
   which-word k = elim (decLt k (firstMiddle D)) [
-      yes a ↦ inl a
+    | yes a ↦ inl a
     | no a ↦ elim (decLt k (firstLeaf D M)) [
-        yes b ↦ inr (inl (1, (k - firstMiddle D) / 1024, (k - firstMiddle D) % 1024, (omega arith, omega arith, omega arith, omega arith)))
+      | yes b ↦ inr (inl (1, (k - firstMiddle D) / 1024, (k - firstMiddle D) % 1024, (omega arith, omega arith, omega arith, omega arith)))
       | no b ↦ elim (decLt k (poolLength D M L)) [
-          yes c ↦ inr (inl (0, (k - firstLeaf D M) / 64, (k - firstLeaf D M) % 64, (omega arith, omega arith, omega arith, omega arith)))
-        | no c ↦ inr (inr (omega arith)) ] ] ]
+        | yes c ↦ inr (inl (0, (k - firstLeaf D M) / 64, (k - firstLeaf D M) % 64, (omega arith, omega arith, omega arith, omega arith)))
+        | no c ↦ inr (inr (omega arith))
+      ]
+    ]
+  ]
 
   module _ (middle leaf : ℕ → ℕ) where
     pub place-table : (h d a : ℕ) → h < 2 → place D M L middle leaf h d a ≡ tableOf D M L middle leaf h (number h d a)

@@ -29,9 +29,10 @@ module _ (n m : ℕ) (want old free : ℕ → Bool) (was : ℕ → ℕ) where
       stays = stays;
       done = λ j b h e. absurd (omega arith);
       ahead = λ p lo hi f. elim (decLt (owner p) n) [
-          yes b ↦ absurd (true≢false (sym f ∙ H .kept p hi b (all p hi b) .0))
-        | no b ↦ omega arith ]
-      }
+        | yes b ↦ absurd (true≢false (sym f ∙ H .kept p hi b (all p hi b) .0))
+        | no b ↦ omega arith
+      ];
+    }
 
     -- It passes over blocks that are not new, up to block `j` ..
     pub hand-skip-to : (i j c : ℕ) → i ≤ j → ((b : ℕ) → i ≤ b → b < j → new b ≡ false) → State i c owner → State j c owner
@@ -41,10 +42,11 @@ module _ (n m : ℕ) (want old free : ℕ → Bool) (was : ℕ → ℕ) where
       level = s .level ∙ sym (count-flat new i j le off);
       stays = s .stays;
       done = λ b h lt f. elim (decLt b i) [
-          yes q ↦ s .done b h q f
-        | no q ↦ absurd (true≢false (sym f ∙ off b (omega arith) lt)) ];
-      ahead = s .ahead
-      }
+        | yes q ↦ s .done b h q f
+        | no q ↦ absurd (true≢false (sym f ∙ off b (omega arith) lt))
+      ];
+      ahead = s .ahead;
+    }
 
     -- .. or over one such block.
     pub hand-skip : (i c : ℕ) → State i c owner → new i ≡ false → State (suc i) c owner
@@ -66,18 +68,22 @@ module _ (n m : ℕ) (want old free : ℕ → Bool) (was : ℕ → ℕ) where
       take-held : Held n m want old free was after
       take-held = record {
         only = λ q h b. elim (ℕ-discrete q p) [
-            yes z ↦ rw (z, at) (fresh-wants (want i) (old i) e)
-          | no z ↦ rw (off q z) (s .held .only q h (rw (off q z) at b)) ];
+          | yes z ↦ rw (z, at) (fresh-wants (want i) (old i) e)
+          | no z ↦ rw (off q z) (s .held .only q h (rw (off q z) at b))
+        ];
         kept = λ q h b o. elim (ℕ-discrete q p) [
-            yes z ↦ absurd (true≢false (sym (rw (z, at) at o) ∙ fresh-old (want i) (old i) e))
-          | no z ↦ rw (off q z) (s .held .kept q h (rw (off q z) at b) (rw (off q z) at o)) ];
+          | yes z ↦ absurd (true≢false (sym (rw (z, at) at o) ∙ fresh-old (want i) (old i) e))
+          | no z ↦ rw (off q z) (s .held .kept q h (rw (off q z) at b) (rw (off q z) at o))
+        ];
         rank = λ q h b o. elim (ℕ-discrete q p) [
-            yes z ↦ rw (z, at) (f, as-many)
-          | no z ↦ rw (off q z) (s .held .rank q h (rw (off q z) at b) (rw (off q z) at o)) ];
+          | yes z ↦ rw (z, at) (f, as-many)
+          | no z ↦ rw (off q z) (s .held .rank q h (rw (off q z) at b) (rw (off q z) at o))
+        ];
         none = λ q h b. elim (ℕ-discrete q p) [
-            yes z ↦ rw z f
-          | no z ↦ s .held .none q h (rw (off q z) at b) ]
-        }
+          | yes z ↦ rw z f
+          | no z ↦ s .held .none q h (rw (off q z) at b)
+        ];
+      }
 
       pub hand-take : State (suc i) (suc p) after
       hand-take = record {
@@ -86,17 +92,18 @@ module _ (n m : ℕ) (want old free : ℕ → Bool) (was : ℕ → ℕ) where
         level = count-yes free p f ∙ ap suc as-many ∙ sym (count-yes new i e);
         stays = λ j b w o. let (q, h, x) = s .stays j b w o in (q, h, elsewhere q j b x);
         done = λ j b h w. elim (ℕ-discrete j i) [
-            yes z ↦ (p, hp, at ∙ sym z)
-          | no z ↦ (let (q, k, x) = s .done j b (omega arith) w in (q, k, elsewhere q j b x)) ];
-        ahead = λ q h b g. rw (off q (λ z. absurd (omega arith))) (s .ahead q (omega arith) b g)
-        }
+          | yes z ↦ (p, hp, at ∙ sym z)
+          | no z ↦ (let (q, k, x) = s .done j b (omega arith) w in (q, k, elsewhere q j b x))
+        ];
+        ahead = λ q h b g. rw (off q (λ z. absurd (omega arith))) (s .ahead q (omega arith) b g);
+      }
 
     -- It ends with every block served ..
     pub hand-done : (c : ℕ) → State n c owner → Owned n m want old free was owner
     hand-done c s = record {
       held = s .held;
-      placed = λ i h w. by-cases (old i) (λ o. s .stays i h w o) (λ o. s .done i h h (fresh-is (want i) (old i) w o))
-      }
+      placed = λ i h w. by-cases (old i) (λ o. s .stays i h w o) (λ o. s .done i h h (fresh-is (want i) (old i) w o));
+    }
 
     -- .. or finds no free place, and then the tables wanted are too many.
     module _ (i c : ℕ) (s : State i c owner) where
@@ -111,8 +118,8 @@ module _ (n m : ℕ) (want old free : ℕ → Bool) (was : ℕ → ℕ) where
           let u = count-split (λ p. true) free m in
           let v = count-all m in
           let w : count (λ p. not (free p)) m ≤ count (λ j. want j && old j) n = count-into (λ p. not (free p)) m (λ j. want j && old j) n owner
-            (λ p h f. taken p h (unfree (free p) f))
-            (λ p q h k f g o. one-place n m want old free was (s .held) p q h k (taken p h (unfree (free p) f) .0) o) in
+          (λ p h f. taken p h (unfree (free p) f))
+          (λ p q h k f g o. one-place n m want old free was (s .held) p q h k (taken p h (unfree (free p) f) .0) o) in
           omega arith
         where
           unfree : (b : Bool) → not b ≡ true → b ≡ false

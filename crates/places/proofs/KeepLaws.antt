@@ -34,9 +34,10 @@ module _ (n m : ℕ) (want old : ℕ → Bool) (was : ℕ → ℕ) (one : (i j :
   keep-skip-to i j le off k = record {
     only = λ p h b. let (x, y, z, u) = k .only p h b in (omega arith, y, z, u);
     have = λ b h lt v w. elim (decLt b i) [
-        yes q ↦ k .have b h q v w
-      | no q ↦ absurd (true≢false (sym (rw (v, w) refl) ∙ off b (omega arith) lt)) ]
-    }
+      | yes q ↦ k .have b h q v w
+      | no q ↦ absurd (true≢false (sym (rw (v, w) refl) ∙ off b (omega arith) lt))
+    ];
+  }
 
   -- .. or over one such block.
   pub keep-skip : {owner : ℕ → ℕ} (i : ℕ) → Keeping n m want old was i owner → (want i && old i) ≡ false → Keeping n m want old was (suc i) owner
@@ -47,12 +48,14 @@ module _ (n m : ℕ) (want old : ℕ → Bool) (was : ℕ → ℕ) (one : (i j :
       → after (was i) ≡ i → ((q : ℕ) → q ≢ was i → after q ≡ owner q) → Keeping n m want old was (suc i) after
   keep-take {owner} after i k h v w at off = record {
     only = λ p hp b. elim (ℕ-discrete p (was i)) [
-        yes q ↦ rw (q, at) (omega arith, v, w, refl)
-      | no q ↦ (let (x, y, z, u) = k .only p hp (rw (off p q) at b) in rw (off p q) (omega arith, y, z, u)) ];
+      | yes q ↦ rw (q, at) (omega arith, v, w, refl)
+      | no q ↦ (let (x, y, z, u) = k .only p hp (rw (off p q) at b) in rw (off p q) (omega arith, y, z, u))
+    ];
     have = λ j hj b x y. elim (ℕ-discrete j i) [
-        yes q ↦ rw q at
-      | no q ↦ off (was j) (λ z. q (one j i hj h y w z)) ∙ k .have j hj (omega arith) x y ]
-    }
+      | yes q ↦ rw q at
+      | no q ↦ off (was j) (λ z. q (one j i hj h y w z)) ∙ k .have j hj (omega arith) x y
+    ];
+  }
 
   module _ (low : (i : ℕ) → i < n → old i ≡ true → was i < m) where
     -- It ends where giving out starts.
@@ -62,8 +65,8 @@ module _ (n m : ℕ) (want old : ℕ → Bool) (was : ℕ → ℕ) (one : (i j :
           only = λ p h b. k .only p h b .1;
           kept = λ p h b o. (rw (lt-ltb (owner p) n b) refl, k .only p h b .3);
           rank = λ p h b o. absurd (true≢false (sym (k .only p h b .2) ∙ o));
-          none = λ p h b. rw (le-ltb (owner p) n b) refl
-          })
+          none = λ p h b. rw (le-ltb (owner p) n b) refl;
+        })
         (λ p h b. k .only p h b .2)
         (λ j h v w. (was j, low j h w, k .have j h h v w))
 
@@ -72,10 +75,10 @@ module _ (n m : ℕ) (want old : ℕ → Bool) (was : ℕ → ℕ) (one : (i j :
     all-kept (suc i) h =
         let (o, k) = all-kept i (omega arith) in
         by-cases (want i && old i)
-          (λ e.
-            let (v, w) = and-both (want i) (old i) e in
-            (given o (was i) i, keep-take (given o (was i) i) i k h v w (given-at o (was i) i) (given-off o (was i) i)))
-          (λ e. (o, keep-skip i k e))
+        (λ e.
+        let (v, w) = and-both (want i) (old i) e in
+        (given o (was i) i, keep-take (given o (was i) i) i k h v w (given-at o (was i) i) (given-off o (was i) i)))
+        (λ e. (o, keep-skip i k e))
 
   -- The next free place, or none.
   next-free : (free : ℕ → Bool) (c k : ℕ) → ((p : ℕ) × (c ≤ p) × (p < c + k) × (free p ≡ true) × ((q : ℕ) → c ≤ q → q < p → free q ≡ false))
@@ -86,7 +89,7 @@ module _ (n m : ℕ) (want old : ℕ → Bool) (was : ℕ → ℕ) (one : (i j :
       go : ((p : ℕ) × (c ≤ p) × (p < c + k) × (free p ≡ true) × ((q : ℕ) → c ≤ q → q < p → free q ≡ false))
           ⊎ ((q : ℕ) → c ≤ q → q < c + k → free q ≡ false)
           → ((p : ℕ) × (c ≤ p) × (p < c + suc k) × (free p ≡ true) × ((q : ℕ) → c ≤ q → q < p → free q ≡ false))
-            ⊎ ((q : ℕ) → c ≤ q → q < c + suc k → free q ≡ false)
+          ⊎ ((q : ℕ) → c ≤ q → q < c + suc k → free q ≡ false)
       go (inl (p, lo, hi, f, g)) = inl (p, lo, omega arith, f, g)
       go (inr g) = by-cases (free (c + k))
           (λ e. inl (c + k, omega arith, omega arith, e, g))
@@ -98,12 +101,12 @@ module _ (n m : ℕ) (want old : ℕ → Bool) (was : ℕ → ℕ) (one : (i j :
     served (suc i) h =
         let (c, o, s) = served i (omega arith) in
         by-cases (fresh want old i)
-          (λ e. go c o s e (next-free free c (m - c)))
-          (λ e. (c, o, hand-skip n m want old free was i c s e))
+        (λ e. go c o s e (next-free free c (m - c)))
+        (λ e. (c, o, hand-skip n m want old free was i c s e))
       where
         go : (c : ℕ) (o : ℕ → ℕ) → Handing n m want old free was i c o → fresh want old i ≡ true
             → ((p : ℕ) × (c ≤ p) × (p < c + (m - c)) × (free p ≡ true) × ((q : ℕ) → c ≤ q → q < p → free q ≡ false))
-              ⊎ ((q : ℕ) → c ≤ q → q < c + (m - c) → free q ≡ false)
+            ⊎ ((q : ℕ) → c ≤ q → q < c + (m - c) → free q ≡ false)
             → (c : ℕ) × (owner : ℕ → ℕ) × Handing n m want old free was (suc i) c owner
         go c o s e (inl (p, lo, hi, f, g)) =
             (suc p, given o p i, hand-take n m want old free was (given o p i) i c p s h e lo (let b = s .low in omega arith) f g (given-at o p i) (given-off o p i))

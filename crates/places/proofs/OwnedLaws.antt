@@ -28,10 +28,11 @@ pub seek-is : (owner : ℕ → ℕ) (i m p : ℕ) → p < m → owner p ≡ i �
 unfolding seek
 seek-is owner i zero p h e = absurd (omega arith)
 seek-is owner i (suc m) p h e = elim (ℕ-discrete (owner m) i) [
-    yes q ↦ rw (eq-eqb (owner m) i q, seek) (omega arith, q)
+  | yes q ↦ rw (eq-eqb (owner m) i q, seek) (omega arith, q)
   | no q ↦
       (let (a, b) = seek-is owner i m p (other (λ z. q (rw (← z) e))) e in
-      rw (ne-eqb (owner m) i q, seek) (omega arith, b)) ]
+      rw (ne-eqb (owner m) i q, seek) (omega arith, b))
+]
   where
     other : (p ≡ m → ⊥) → p < m
     other f = elim (ℕ-discrete p m) [ yes z ↦ absurd (f z) | no z ↦ omega arith ]
@@ -43,9 +44,9 @@ module _ (n m : ℕ) (want old free : ℕ → Bool) (was : ℕ → ℕ) where
     one-place p q hp hq lo e = by-cases (old (owner p))
         (λ o. H .kept p hp lo o .1 ∙ ap was e ∙ sym (H .kept q hq (rw e at lo) (rw e at o) .1))
         (λ o.
-          let (a, x) = H .rank p hp lo o in
-          let (b, y) = H .rank q hq (rw e at lo) (rw e at o) in
-          same-rank free p q a b (x ∙ ap (count (fresh want old)) e ∙ sym y))
+        let (a, x) = H .rank p hp lo o in
+        let (b, y) = H .rank q hq (rw e at lo) (rw e at o) in
+        same-rank free p q a b (x ∙ ap (count (fresh want old)) e ∙ sym y))
 
     -- New tables stand in the order of their blocks.
     pub new-in-order : (p q : ℕ) → p < m → q < m → owner p < owner q → owner q < n → old (owner p) ≡ false → old (owner q) ≡ false → p < q
@@ -59,10 +60,11 @@ module _ (n m : ℕ) (want old free : ℕ → Bool) (was : ℕ → ℕ) where
     -- At a place that is not free stands a kept table.
     pub held-taken : (p : ℕ) → p < m → free p ≡ false → (owner p < n) × (want (owner p) ≡ true) × (old (owner p) ≡ true) × (p ≡ was (owner p))
     held-taken p h f = elim (decLt (owner p) n) [
-        yes b ↦ by-cases (old (owner p))
+      | yes b ↦ by-cases (old (owner p))
           (λ o. (b, H .only p h b, o, H .kept p h b o .1))
           (λ o. absurd (true≢false (sym (H .rank p h b o .0) ∙ f)))
-      | no b ↦ absurd (true≢false (sym (H .none p h (omega arith)) ∙ f)) ]
+      | no b ↦ absurd (true≢false (sym (H .none p h (omega arith)) ∙ f))
+    ]
 
   module _ {owner : ℕ → ℕ} (O : Owned n m want old free was owner) where
     -- Below a new table no place is left over: else the new block of that rank would stand there.
@@ -75,14 +77,15 @@ module _ (n m : ℕ) (want old free : ℕ → Bool) (was : ℕ → ℕ) where
 
     pub no-gap : (p x : ℕ) → p < m → owner p < n → old (owner p) ≡ false → x < p → owner x < n
     no-gap p x hp lo o lt = elim (decLt (owner x) n) [
-        yes r ↦ r
+      | yes r ↦ r
       | no r ↦
           (let f = O .held .none x (omega arith) (omega arith) in
           let u = count-less free x p lt f in
           let v = O .held .rank p hp lo o .1 in
           let (j, hj, e, c) = ranked (fresh want old) (owner p) (count free x) (omega arith) in
           let i = ranked-there x j (omega arith) (omega arith) f e c in
-          omega arith) ]
+          omega arith)
+    ]
 
     -- A block that wants a table owns the place that the search finds, and no other.
     pub seek-owner : (i : ℕ) → i < n → want i ≡ true → (seek owner i m < m) × (owner (seek owner i m) ≡ i)
@@ -106,13 +109,14 @@ module _ (n m : ℕ) (want old free : ℕ → Bool) (was : ℕ → ℕ) where
     -- New tables, in order of domain and address, ..
     pub seek-order : (i j : ℕ) → i ≤ j → j < n → want i ≡ true → want j ≡ true → old i ≡ false → old j ≡ false → seek owner i m ≤ seek owner j m
     seek-order i j le h v w o q = elim (ℕ-discrete i j) [
-        yes e ↦ rw e (omega arith)
+      | yes e ↦ rw e (omega arith)
       | no e ↦
           (let (x, y) = seek-owner i (omega arith) v in
           let (u, z) = seek-owner j h w in
           let lt : owner (seek owner i m) < owner (seek owner j m) = omega arith in
           let r = new-in-order (O .held) (seek owner i m) (seek owner j m) x u lt (rw z h) (rw y o) (rw z q) in
-          omega arith) ]
+          omega arith)
+    ]
 
     -- .. take the lowest places.
     pub seek-lowest : (i q : ℕ) → i < n → want i ≡ true → old i ≡ false → q < seek owner i m → (q < m) × (owner q < n)
@@ -124,7 +128,7 @@ module _ (n m : ℕ) (want old free : ℕ → Bool) (was : ℕ → ℕ) where
     pub owned-fits : count want n ≤ m
     owned-fits =
         let x : count want n ≤ count (λ p. true) m = count-into want n (λ p. true) m (λ i. seek owner i m)
-          (λ i h e. (seek-owner i h e .0, refl))
-          (λ i j h k e f q. seek-apart i j h k e f q) in
+        (λ i h e. (seek-owner i h e .0, refl))
+        (λ i j h k e f q. seek-apart i j h k e f q) in
         let y = count-all m in
         omega arith

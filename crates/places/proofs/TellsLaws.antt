@@ -96,8 +96,9 @@ module _ (D M L : ℕ) (range : InRange D M L) {R : ℕ → ℕ → ℕ} (S : (d
 
   tells-is : (m k : ℕ) → Kept F P Q m k → keptWord D M L freeM freeL k ≡ true
   tells-is m k x = elim (decLt m 2) [
-      yes hi ↦ (let (p, e, y, f) = kept-taken m k hi x in kept-place D M L freeM freeL k m p e y ∙ ap not f)
-    | no hi ↦ (let z = kept-low F x in kept-root D M L freeM freeL k (kept-two x (omega arith))) ]
+    | yes hi ↦ (let (p, e, y, f) = kept-taken m k hi x in kept-place D M L freeM freeL k m p e y ∙ ap not f)
+    | no hi ↦ (let z = kept-low F x in kept-root D M L freeM freeL k (kept-two x (omega arith)))
+  ]
 
   in-zone : {h k : ℕ} → Kept F P Q h k → Kept F P Q (F .zone k) k
   in-zone x = rw (kept-zone F (lawful D M L) sP x) x

@@ -50,12 +50,12 @@ module _ (F : Form) (L : Lawful F) {P Q X : ℕ → ℕ} (x : Mixed F P Q X) (a 
       go : Comes (suc m) j → Comes m (F .target (suc m) (X j) + F .index m a)
       go (both c p q) = elim (ℕ-discrete (P j) (Q j)) [
         | yes e ↦ (let f : X j ≡ P j = agreed F x c e in
-          let lP : F .leads (suc m) (P j) ≡ true = rw f at l in
-          rw f (both (down (F .index m a) c e lP (L .index-below m a)) (next p lP) (rw (← e) at (next q (rw e at lP)))))
+            let lP : F .leads (suc m) (P j) ≡ true = rw f at l in
+            rw f (both (down (F .index m a) c e lP (L .index-below m a)) (next p lP) (rw (← e) at (next q (rw e at lP)))))
         | no n ↦ ⊎-elim
-          (λ e. old (under-start P Q m j c n e l p))
-          (λ e. new (under-start Q P m j (kept-swap F c) (λ z. n (sym z)) e l q))
-          (x .kept c)
+            (λ e. old (under-start P Q m j c n e l p))
+            (λ e. new (under-start Q P m j (kept-swap F c) (λ z. n (sym z)) e l q))
+            (x .kept c)
       ]
       go (old u) = old (under-step P Q x m j u l)
       go (new u) = new (under-step Q P (mixed-swap F x) m j u l)
@@ -84,10 +84,11 @@ module _ (F : Form) (L : Lawful F) (E : Exact F) {P Q : ℕ → ℕ} {R : ℕ �
         let (c, o, y) = meets d a bd v w (ap suc e) in
         let q′ : F .leads (suc m) (Q i) ≡ true = rw (o, e) q in
         let z : P i ≡ Q i = links (suc m) i c l q′ in
-        let u : X i ≡ P i = agreed F x c z in
-        (down (F .index m a) c z l (L .index-below m a),
+        let u : X i ≡ P i = agreed F x c z in (
+          down (F .index m a) c z l (L .index-below m a),
           ap (λ t. F .target (suc m) t + F .index m a) z ∙ rw (o, e) refl,
-          rw u at (next y (rw u l)))
+          rw u at (next y (rw u l)),
+        )
 
     pub led-stays : (d a : ℕ) → d < F .domains → {h s : ℕ} → Led F P d a h s → Led F Q d a h s → Led F X d a h s
     led-stays d a bd {h} {s} (i, v, l, p) (j, w, n, q) =
@@ -115,11 +116,19 @@ module _ (F : Form) (L : Lawful F) (E : Exact F) {P Q : ℕ → ℕ} {R : ℕ �
       where
         low : {d a h t : ℕ} (y : ℕ) → New F X Q d a h t → Place F h y → y < t → (Stays F X Q h y → ⊥) → (e : ℕ) × (b : ℕ) × New F X Q e b h y
         low {h = h} y m at lt free =
-            let (e, b, (be, bb, q, none)) = f .lowest y (new-old m) at lt (λ s. free (stays-old s)) in
-            (e, b, (be, bb, q, λ s o. ⊎-elim
-              (λ p. none s p)
-              (λ n. let z : s ≡ y = one-table F Q e b h n q in free (e, b, be, bb, rw z at o, q))
-              (led-between F L x b e be o)))
+            let (e, b, (be, bb, q, none)) = f .lowest y (new-old m) at lt (λ s. free (stays-old s)) in (
+              e,
+              b,
+              (
+                be,
+                bb,
+                q,
+                λ s o. ⊎-elim
+                    (λ p. none s p)
+                    (λ n. let z : s ≡ y = one-table F Q e b h n q in free (e, b, be, bb, rw z at o, q))
+                    (led-between F L x b e be o),
+              ),
+            )
 
     -- Kept from the old pool, kept from here.
     kept-on : {m j : ℕ} → Kept F P Q m j → Kept F X Q m j
@@ -134,8 +143,8 @@ module _ (F : Form) (L : Lawful F) (E : Exact F) {P Q : ℕ → ℕ} {R : ℕ �
   kept-back {X} x g (down {m} {j} i c e l b) =
       let k : Kept F P Q (suc m) j = kept-back x g c in
       let z : P j ≡ Q j = by-cases (F .leads (suc m) (P j))
-        (λ p. links (suc m) j k p (rw e at l))
-        (λ p. absurd (true≢false (sym l ∙ rw (g .kept (suc m) j k p) p))) in
+      (λ p. links (suc m) j k p (rw e at l))
+      (λ p. absurd (true≢false (sym l ∙ rw (g .kept (suc m) j k p) p))) in
       let u : X j ≡ P j = agreed F x k z in
       rw u (down i k z (rw u at l) b)
 
@@ -152,16 +161,16 @@ module _ (F : Form) (L : Lawful F) (E : Exact F) {P Q : ℕ → ℕ} {R : ℕ �
           give m (kept-on x c) (rw e l) (giving-old F X Q)
       go (fill away g) = fill (λ m c. away m (kept-back x g c)) (record {
         gave = λ m j c l. by-cases (F .leads m (P j))
-          (λ p. g .gave m j (kept-back x g c) p)
-          (λ p. absurd (true≢false (sym l ∙ rw (g .kept m j (kept-back x g c) p) p)));
+            (λ p. g .gave m j (kept-back x g c) p)
+            (λ p. absurd (true≢false (sym l ∙ rw (g .kept m j (kept-back x g c) p) p)));
         kept = λ m j c l. refl;
       })
       go (link m c g) = link m (kept-on x c) (record {
         kept = λ i j b. inl refl;
         gave = λ i j b l. stable (X j) (Q j) (λ z. z (g .rest j (λ i′ b′. z (⊎-elim
-          (λ e. g .gave i′ j b′ (let h : i′ ≡ i = sym (kept-zone F L sP b′) ∙ same-zone i j b in rw h (rw e at l)))
-          (λ e. e)
-          (g .kept i′ j b′)))));
+            (λ e. g .gave i′ j b′ (let h : i′ ≡ i = sym (kept-zone F L sP b′) ∙ same-zone i j b in rw h (rw e at l)))
+            (λ e. e)
+            (g .kept i′ j b′)))));
         rest = λ j away. g .rest j (λ i b. away i (kept-on x b));
       })
         where

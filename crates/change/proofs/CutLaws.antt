@@ -1,0 +1,96 @@
+-- A store that is due leaves all that is said of a cut, with one store more.
+use Prim.Native.Nat.{ℕ, zero, suc, _+_, _<_}
+use mathlib.Core.Path.{_≡_, refl, sym, ap, _∙_}
+use mathlib.Core.Logic.{_≢_, _⊎_, inl, inr, ⊎-elim}
+use mathlib.Core.Bool.{Bool, true, false, cond, _&&_}
+use mathlib.Core.List.{List}
+use native.Mathlib.Omega.{arith}
+use native.Mathlib.Decide.{ℕ-discrete}
+use native.Mathlib.Numerals.{add-one}
+use lib.Dec.{eqb}
+use lib.ListN.{length, set, length-set}
+use lib.Seq.{getD-set-same, getD-set-other}
+use borrow.Author.Tests.{eq-eqb, eqb-true}
+use Rattle.theory.specs.Pool.{words, SoundPool, rightOf}
+use Rattle.theory.specs.Finished.{Finished}
+use Rattle.theory.specs.Stores.{Cut, Stage, Next}
+use Rattle.theory.proofs.RightLaws.{by-cases}
+use Rattle.theory.proofs.StoreLaws.{Store, store-set}
+use Rattle.theory.proofs.BetweenLaws.{Mixed, next-stage, stage-mixed, put-cut}
+use Rattle.theory.proofs.FinishedLaws.{one-finished, finished-same, finished-words}
+use Rattle.theory.proofs.ReadyLaws.{finished-links, finished-ready}
+use Rattle.theory.proofs.StayLaws.{finished-stays}
+use Rattle.words.specs.Region.{covered}
+use Rattle.table.specs.declared.Shape.{Shape}
+use Rattle.table.specs.Map.{addresses, formOf, form}
+use Rattle.table.proofs.FormLaws.{lawful, exact}
+use Rattle.table.proofs.WantLaws.{wanting}
+use Rattle.targets.specs.declared.Paint.{Paint}
+use Rattle.targets.specs.Targets.{region}
+use Rattle.plan.specs.Aims.{aims, Covered}
+use Rattle.change.specs.Cuts.{differing, CutAt, Due}
+use Rattle.plan.proofs.AimLaws.{aims-covered, aims-other, covered-or}
+use Rattle.change.proofs.DifferLaws.{differing-set}
+
+module _ (s : Shape) (d : ℕ) (paint : Paint) {x : List ℕ} {k v : ℕ} (due : Due s d paint x k v) where
+  abbrev after-it : List ℕ
+  after-it = set x k v
+
+  stored : Store (words x) (words after-it) k (due .goal k)
+  stored = rw (← due .value) (store-set x k v (due .inside))
+
+  stage : Stage (formOf s) (words x) (due .goal) (words after-it)
+  stage = next-stage (formOf s) (lawful _ _ _) (words x) (due .goal) (due .sound) stored (due .next)
+
+  mixed : Mixed (formOf s) (words x) (due .goal) (words after-it)
+  mixed = stage-mixed (formOf s) (lawful _ _ _) (due .sound) (due .finished .settled .sound)
+      (finished-links (formOf s) (lawful _ _ _) (exact _ _ _) (due .sound) (due .finished)) stage
+
+  safe : Cut (formOf s) (words x) (due .goal) (words after-it)
+  safe = put-cut (formOf s) (lawful _ _ _) x k v (due .inside) (words x) (due .goal)
+      (finished-ready (formOf s) (lawful _ _ _) (exact _ _ _) (due .sound) (due .finished) k (due .next)) (due .value)
+
+  word : (j : ℕ) → (words after-it j ≡ words x j) ⊎ (words after-it j ≡ due .goal j)
+  word j = elim (ℕ-discrete j k) [
+    | yes q ↦ inr (rw q (getD-set-same x k v 0 (due .inside) ∙ due .value))
+    | no q ↦ inl (getD-set-other x k j v 0 q)
+  ]
+
+  -- Elsewhere the right stays.
+  other : (e a : ℕ) → e < s .domains → a < addresses → (Covered d paint e a → ⊥) → rightOf (formOf s) (words after-it) e a ≡ rightOf (formOf s) (words x) e a
+  other e a be ba n = ⊎-elim (λ q. q) (λ q. q ∙ due .finished .rights e a be ba ∙ aims-other s d paint (words x) e a n) (safe .rights e a be ba)
+
+  same-aims : (e a : ℕ) → e < s .domains → a < addresses → aims s d paint (words x) e a ≡ aims s d paint (words after-it) e a
+  same-aims e a be ba = ⊎-elim
+      (λ c. aims-covered s d paint (words x) e a c ∙ sym (aims-covered s d paint (words after-it) e a c))
+      (λ n. aims-other s d paint (words x) e a n ∙ sym (other e a be ba n) ∙ sym (aims-other s d paint (words after-it) e a n))
+      (covered-or d paint e a)
+
+  -- The change from after the store finishes where the change from before it did.
+  pub due-again : Finished (formOf s) (words after-it) (aims s d paint (words after-it)) (due .goal)
+  due-again = finished-same (formOf s) _ _ _ same-aims (finished-stays (formOf s) (lawful _ _ _) (exact _ _ _) (due .sound) (due .finished) mixed word)
+
+  pub put-cuts : (old : List ℕ) (n : ℕ) → CutAt s d paint old n x → CutAt s d paint old (n + 1) (set x k v)
+  put-cuts old n c = record {
+    goal = c .goal;
+    finished = c .finished;
+    long = length-set x k v ∙ c .long;
+    count = differing-set old x k v (c .long) (due .inside) was changes ∙ ap suc (c .count) ∙ sym (add-one n);
+    each = λ j. ⊎-elim (λ q. ⊎-elim (λ z. inl (q ∙ z)) (λ z. inr (q ∙ z)) (c .each j)) (λ q. inr (q ∙ same j)) (word j);
+    sound = safe .sound;
+    covered = λ e a be ba z. ⊎-elim
+        (λ q. ⊎-elim (λ y. inl (q ∙ y)) (λ y. inr (q ∙ y)) (c .covered e a be ba z))
+        (λ q. inr (q ∙ due .finished .rights e a be ba ∙ aims-covered s d paint (words x) e a z))
+        (safe .rights e a be ba);
+    others = λ e a be ba n. other e a be ba n ∙ c .others e a be ba n;
+    again = finished-words (formOf s) _ _ same due-again;
+  }
+    where
+      same : (j : ℕ) → due .goal j ≡ c .goal j
+      same = one-finished (formOf s) (lawful _ _ _) (wanting _ _ _) (words x) (aims s d paint (words x)) (exact _ _ _) (due .finished) (c .again)
+
+      was : words x k ≡ words old k
+      was = ⊎-elim (λ q. q) (λ q. absurd (due .differs (q ∙ sym (same k) ∙ sym (due .value)))) (c .each k)
+
+      changes : v ≢ words old k
+      changes z = due .differs (was ∙ sym z)

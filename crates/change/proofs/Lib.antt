@@ -1,0 +1,9 @@
+pub mod DifferLaws
+pub mod CutLaws
+pub mod TableLaws
+pub mod State
+pub mod StateLaws
+pub mod TurnLaws
+pub mod RunLaws
+pub mod OutcomeLaws
+pub mod RegionLaws

@@ -1,0 +1,22 @@
+-- `change::of_new_table` meets its contract.
+use borrow.Author.Tests.{lt-ltb, le-ltb, le-leb, lt-leb, eq-eqb, ne-eqb}
+use native.Mathlib.Omega.{arith}
+use borrow.Author.Needs.{needs}
+use Rattle.change.proofs.of_new_table.Statement.{statement}
+use Rattle.change.proofs.of_new_table.Tie as tie
+
+returns : tie.Need-returns
+returns c = simp (le-ltb (c .before .args .edge .last) 2147483648 (c .if1 .taken))
+
+returns-2 : tie.Need-returns-2
+returns-2 c = let e = c .before .before .args .edge in simp (lt-ltb (e .last) 2147483648 (c .before .if1 .left), lt-ltb (e .old) 2147483648 (c .if2 .taken))
+
+in-table-requires : tie.Need-in-table-requires
+in-table-requires c κs = search needs
+
+returns-3 : tie.Need-returns-3
+returns-3 c = let e = c .before .before .before .args .edge in
+    rw (lt-ltb (e .last) 2147483648 (c .before .before .if1 .left), le-ltb (e .old) 2147483648 (c .before .if2 .left)) (c .in-table .ensures)
+
+pub of-new-table-spec : {M : Type 1} → statement M
+of-new-table-spec = tie.close (tie.spec returns returns-2 in-table-requires returns-3)

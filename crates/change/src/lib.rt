@@ -1,0 +1,378 @@
+// Changes and tidyings: a plan by value, stores that each leave a safe pool, and a cut wherever the allowance ends.
+ghost use mathlib.Core.Path.{_≡_};
+ghost use Prim.Native.Nat.{ℕ, _+_, _*_, _/_, _%_, _<_, _≤_};
+ghost use mathlib.Core.List.{List};
+ghost use mathlib.Core.Bool.{Bool, true, false, cond, _&&_};
+ghost use Rattle.words.specs.Rights.{rightAt, eightOf};
+ghost use lib.ListN.{length, set};
+ghost use Rattle.table.specs.Shape.{Fits, InRange};
+ghost use Rattle.plan.specs.Plan.{isLead, InTable, tableOf, isNew, rootAfter, pageAfter, leafAfter, after, newWord, phaseOf, PlanFits};
+ghost use Rattle.theory.specs.Pool.{words, SoundPool};
+ghost use Rattle.theory.specs.Settled.{Settled};
+ghost use Rattle.table.specs.Map.{formOf};
+ghost use Rattle.plan.specs.Planning.{Regular};
+ghost use Rattle.change.specs.Answers.{Changes, ChangesRegion};
+ghost use Rattle.change.specs.Cuts.{CutAt, Due};
+ghost use Rattle.change.specs.Runs.{Running, TurnIs, PhaseIs, ReadyToRun, RunIs};
+use plan::Edge;
+use plan::Plan;
+use plan::Planning;
+use table::Shape;
+use targets::Paint;
+use words::ByteAddr;
+use words::PoolWord;
+use words::Rounded;
+
+// Done with the number of stores; cut by the allowance; or refused with the paper's number.
+pub enum Answer {
+    Done(u32),
+    Cut,
+    Refused(u32),
+}
+
+// What is left of an allowance, and whether a store was wanted with none left.
+pub struct Progress {
+    pub left: u32,
+    pub cut: bool,
+}
+
+// Whether word `k` is one of the `n` words from `t` on.
+fn in_table(t: u32, n: u32, k: u32) -> bool
+    requires { ⌜ t + n < 4294967296 ⌝ }
+    ensures { λ r. ⌜ r ≡ InTable t n k ⌝ }
+{
+    if k < t {
+        return false;
+    }
+    k < t + n
+}
+
+// Whether word `k` is of the table to which the edge's new entry leads.
+fn of_table(edge: Edge, n: u32, k: u32) -> bool
+    requires { ⌜ n ≤ 1024 ⌝ }
+    ensures { λ r. ⌜ r ≡ tableOf edge n k ⌝ }
+{
+    let last = edge.last;
+    if last >= 0x8000_0000 {
+        return false;
+    }
+    in_table(last, n, k)
+}
+
+// What the root word of block `i` of the domain is to hold.
+fn root_after(plan: Plan, i: u32, x: u32) -> u32
+    requires { ⌜ plan .paint .right < 4 ⌝ }
+    ensures { λ r. ⌜ r ≡ rootAfter plan i x ⌝ }
+{
+    let first = plan.first_block;
+    let last = plan.last_block;
+    let paint = plan.paint;
+    let f = first.number;
+    let l = last.number;
+    if i == f {
+        return first.last;
+    }
+    if i == l {
+        return last.last;
+    }
+    if i < f {
+        return x;
+    }
+    if i < l {
+        return words::eight_of(paint.right);
+    }
+    x
+}
+
+// What word `j` of the middle table of the edge `block` is to hold.
+fn page_after(plan: Plan, block: Edge, j: u32, x: u32) -> u32
+    requires { ⌜ (plan .paint .right < 4) × (block .number < 1024) × (j < 1024) ⌝ }
+    ensures { λ r. ⌜ r ≡ pageAfter plan block j x ⌝ }
+{
+    let first = plan.first_page;
+    let last = plan.last_page;
+    let paint = plan.paint;
+    let f = first.number;
+    let l = last.number;
+    let page = 1024 * block.number + j;
+    if page == f {
+        return first.last;
+    }
+    if page == l {
+        return last.last;
+    }
+    if page < f {
+        return entry_kept(block, j, x);
+    }
+    if page < l {
+        return words::eight_of(paint.right);
+    }
+    entry_kept(block, j, x)
+}
+
+// The entry of a page that the region does not meet: as it is, or what its block's entry said of it.
+fn entry_kept(block: Edge, j: u32, x: u32) -> u32
+    requires { ⌜ j < 1024 ⌝ }
+    ensures { λ r. ⌜ r ≡ cond (isLead (block .old)) x (eightOf (rightAt (block .old) (j / 128))) ⌝ }
+{
+    let old = block.old;
+    if old < 0x8000_0000 {
+        return x;
+    }
+    let right = words::right_at(old, j / 128);
+    words::eight_of(right)
+}
+
+// What word `i` of the leaf of the edge `page` is to hold.
+fn leaf_after(plan: Plan, page: Edge, i: u32, x: u32) -> u32
+    requires { ⌜ (plan .paint .right < 4) × (page .number < 1048576) × (i < 64) ⌝ }
+    ensures { λ r. ⌜ r ≡ leafAfter plan page i x ⌝ }
+{
+    let old = page.old;
+    let paint = plan.paint;
+    let chunk = 64 * page.number + i;
+    if old < 0x8000_0000 {
+        return targets::paint_word(paint, x, chunk);
+    }
+    let right = words::right_at(old, i / 8);
+    let said = words::sixteen_of(right);
+    targets::paint_word(paint, said, chunk)
+}
+
+// What word `k`, which holds `x`, is to hold. A word that the plan does not know stays as it is.
+fn final_word(plan: Plan, k: u32, x: u32) -> u32
+    requires { ⌜ PlanFits plan ⌝ }
+    ensures { λ r. ⌜ r ≡ after plan k x ⌝ }
+{
+    let root = 1024 * plan.domain;
+    if in_table(root, 1024, k) {
+        return root_after(plan, k - root, x);
+    }
+    let block = plan.first_block;
+    if of_table(block, 1024, k) {
+        return page_after(plan, block, k - block.last, x);
+    }
+    let block2 = plan.last_block;
+    if of_table(block2, 1024, k) {
+        return page_after(plan, block2, k - block2.last, x);
+    }
+    let page = plan.first_page;
+    if of_table(page, 64, k) {
+        return leaf_after(plan, page, k - page.last, x);
+    }
+    let page2 = plan.last_page;
+    if of_table(page2, 64, k) {
+        return leaf_after(plan, page2, k - page2.last, x);
+    }
+    x
+}
+
+// Whether word `k` is of the table of an edge that had none.
+fn of_new_table(edge: Edge, n: u32, k: u32) -> bool
+    requires { ⌜ n ≤ 1024 ⌝ }
+    ensures { λ r. ⌜ r ≡ (isNew edge && InTable (edge .last) n k) ⌝ }
+{
+    let old = edge.old;
+    let last = edge.last;
+    if last >= 0x8000_0000 {
+        return false;
+    }
+    if old < 0x8000_0000 {
+        return false;
+    }
+    in_table(last, n, k)
+}
+
+fn new_word(plan: Plan, k: u32) -> bool
+    ensures { λ r. ⌜ r ≡ newWord plan k ⌝ }
+{
+    let block = plan.first_block;
+    if of_new_table(block, 1024, k) {
+        return true;
+    }
+    let block2 = plan.last_block;
+    if of_new_table(block2, 1024, k) {
+        return true;
+    }
+    let page = plan.first_page;
+    if of_new_table(page, 64, k) {
+        return true;
+    }
+    let page2 = plan.last_page;
+    of_new_table(page2, 64, k)
+}
+
+// The phase in which word `k`, which holds `x`, is stored: words that lead are given up first, then new tables are filled, then the rest is linked.
+fn phase_of(shape: Shape, plan: Plan, k: u32, x: u32) -> u32
+    requires { ⌜ InRange (shape .domains) (shape .middles) (shape .leaves) ⌝ }
+    ensures { λ r. ⌜ r ≡ phaseOf shape plan k x ⌝ }
+{
+    let domains = shape.domains;
+    let middles = shape.middles;
+    if new_word(plan, k) {
+        return 2;
+    }
+    if k >= 1024 * domains + 1024 * middles {
+        return 3;
+    }
+    if x < 0x8000_0000 {
+        return 1;
+    }
+    3
+}
+
+// The one store. All stores of a change and of a tidying are made here, and none but one that is due: the pool is then what a cut leaves.
+fn put(pool: &mut [u32], shape: Shape, domain: u32, paint: Paint, at: PoolWord, value: u32)
+    requires { ⌜ Due shape domain paint (now pool) (at .0) value ⌝ }
+    ensures stored { λ r. ⌜ now (pool .exit) ≡ set (now (pool .entry)) (at .0) value ⌝ }
+    ensures cut { λ r. ⌜ ((old : List ℕ) (n : ℕ) → CutAt shape domain paint old n (now (pool .entry)) → CutAt shape domain paint old (n + 1) (now (pool .exit))) ⌝ }
+{
+    let i = words::pool_index(at);
+    pool[i] = value;
+}
+
+// Word `k` in its phase `c`: passed over, stored, or wanted with no store left.
+fn store_turn(pool: &mut [u32], shape: Shape, plan: Plan, c: u32, k: usize, left: u32) -> Progress
+    requires { ⌜ Running shape plan c k (now pool) left ⌝ }
+    requires { ⌜ k < length (now pool) ⌝ }
+    ensures { λ r. ⌜ TurnIs shape plan c k (now (pool .entry)) left r (now (pool .exit)) ⌝ }
+{
+    let x = pool[k];
+    let n = k as u32;
+    let v = final_word(plan, n, x);
+    if v == x {
+        return Progress { left, cut: false };
+    }
+    let turn = phase_of(shape, plan, n, x);
+    if turn != c {
+        return Progress { left, cut: false };
+    }
+    if left == 0 {
+        return Progress { left: 0, cut: true };
+    }
+    let domain = plan.domain;
+    let paint = plan.paint;
+    put(pool, shape, domain, paint, words::pool_word(n), v);
+    Progress {
+        left: left - 1,
+        cut: false,
+    }
+}
+
+// The words from `from` up to `to` in their phase `c`. A run that was cut stays so.
+fn store_phase(
+    pool: &mut [u32],
+    shape: Shape,
+    plan: Plan,
+    c: u32,
+    from: usize,
+    to: usize,
+    before: Progress,
+) -> Progress
+    requires { ⌜ (before .cut ≡ false → Running shape plan c from (now pool) (before .left)) ⌝ }
+    requires { ⌜ (from ≤ to) × (to ≤ length (now pool)) ⌝ }
+    ensures { λ r. ⌜ PhaseIs shape plan c from to (now (pool .entry)) before r (now (pool .exit)) ⌝ }
+{
+    let stopped = before.cut;
+    if stopped {
+        return before;
+    }
+    let mut left = before.left;
+    let mut k = from;
+    while k < to {
+        let p = store_turn(pool, shape, plan, c, k, left);
+        let stop = p.cut;
+        if stop {
+            return p;
+        }
+        left = p.left;
+        k += 1;
+    }
+    Progress { left, cut: false }
+}
+
+// All stores of a plan: what leads and is given up, then the new tables, then the rest.
+fn run_stores(pool: &mut [u32], shape: Shape, plan: Plan, allowance: u32) -> Progress
+    requires { ⌜ ReadyToRun shape plan (now pool) ⌝ }
+    ensures { λ r. ⌜ RunIs shape plan (now (pool .entry)) allowance r (now (pool .exit)) ⌝ }
+{
+    let n = pool.len();
+    let start = Progress {
+        left: allowance,
+        cut: false,
+    };
+    let one = store_phase(pool, shape, plan, 1, 0, n, start);
+    let two = store_phase(pool, shape, plan, 2, 0, n, one);
+    store_phase(pool, shape, plan, 3, 0, n, two)
+}
+
+// A change whose request is in order up to refusal 5. All is decided before the first store.
+fn change_region(
+    pool: &mut [u32],
+    shape: Shape,
+    domain: u32,
+    paint: Paint,
+    allowance: u32,
+) -> Answer
+    requires { ⌜ Fits shape (length (now pool)) ⌝ }
+    requires { ⌜ (domain < shape .domains) × Regular paint ⌝ }
+    ensures { λ r. ⌜ ChangesRegion (now (pool .entry)) shape domain paint allowance r (now (pool .exit)) ⌝ }
+{
+    let seen = soundness::check_sound(pool, shape);
+    let sound = seen.ok;
+    if !sound {
+        return Answer::Refused(6);
+    }
+    if !targets::settled(pool, shape) {
+        return Answer::Refused(7);
+    }
+    let planning = plan::plan_change(pool, shape, domain, paint);
+    let Planning::Ready(plan) = planning else {
+        return Answer::Refused(8);
+    };
+    let ran = run_stores(pool, shape, plan, allowance);
+    let cut = ran.cut;
+    if cut {
+        return Answer::Cut;
+    }
+    let left = ran.left;
+    Answer::Done(allowance - left)
+}
+
+// Gives a domain a right on every word that a region covers. Whatever the pool holds and whatever the numbers are, it answers; a refusal changes no
+// word, and a cut leaves each word with its old right or, where it is covered, with its new one.
+pub fn change(
+    pool: &mut [u32],
+    shape: Shape,
+    domain: u32,
+    start: ByteAddr,
+    length: u32,
+    right: u32,
+    allowance: u32,
+) -> Answer
+    ensures { λ r. ⌜ Changes (now (pool .entry)) shape domain (start .0) length right allowance r (now (pool .exit)) ⌝ }
+{
+    let n = pool.len();
+    if !table::shape_fits(shape, n) {
+        return Answer::Refused(1);
+    }
+    let domains = shape.domains;
+    if domain >= domains {
+        return Answer::Refused(2);
+    }
+    if right > 3 {
+        return Answer::Refused(3);
+    }
+    let rounded = words::round_region(start, length);
+    match rounded {
+        Rounded::Refused(k) => Answer::Refused(k),
+        Rounded::Covers(g) => {
+            let paint = Paint {
+                lo: g.lo,
+                hi: g.hi,
+                right,
+            };
+            change_region(pool, shape, domain, paint, allowance)
+        }
+    }
+}

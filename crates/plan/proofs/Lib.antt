@@ -1,0 +1,17 @@
+pub mod AimLaws
+pub mod BlockRightsLaws
+pub mod MeetLaws
+pub mod OldEntryLaws
+pub mod WantedLaws
+pub mod FreshLaws
+pub mod KeptLaws
+pub mod DraftLaws
+pub mod GiveLaws
+pub mod PlanLaws
+pub mod Setting
+pub mod SettingLaws
+pub mod StayWordLaws
+pub mod EdgeLaws
+pub mod AfterLaws
+pub mod EdgeWordLaws
+pub mod PlannedLaws

@@ -1,0 +1,96 @@
+-- Laws that join the steps of planning: from the draft to the places, and from the places to a plan that is ready, or to no room.
+use Prim.Native.Nat.{ℕ, _*_, _≤_, _<_}
+use mathlib.Core.Path.{_≡_, refl, sym, subst}
+use mathlib.Core.Bool.{Bool}
+use mathlib.Core.List.{List}
+use native.Mathlib.Omega.{arith}
+use Rattle.theory.specs.Pool.{rightOf}
+use Rattle.theory.specs.Settled.{Settled}
+use Rattle.table.specs.declared.Shape.{Shape}
+use Rattle.table.specs.Shape.{InRange, firstMiddle, firstLeaf}
+use Rattle.table.specs.Map.{formOf}
+use Rattle.places.specs.Count.{count, Room}
+use Rattle.places.proofs.Final.{want}
+use Rattle.targets.specs.declared.Paint.{Paint}
+use Rattle.plan.specs.declared.Edge.{Edge}
+use Rattle.plan.specs.declared.Plan.{Plan}
+use Rattle.plan.specs.declared.Ends.the-variants.{Full}
+use Rattle.plan.specs.Aims.{aims}
+use Rattle.plan.specs.Planning.{Regular}
+use Rattle.plan.specs.Edges.{EdgeIs, PlanReady, draftOf, EndsTold, Kept, EdgeBy, EndsPlaced, EndsAre, Giving}
+use Rattle.plan.proofs.DraftLaws.{drafted-ends}
+
+-- A draft tells its edges, and once the kept places are marked, places can be given out.
+module _ (s : Shape) (d : ℕ) (paint : Paint) (P : ℕ → ℕ) (g : Regular paint) {q : Plan} (e : q ≡ draftOf P d paint (rightOf (formOf s) P d)) where
+  pub told-blocks : EndsTold s (q .domain) (q .paint) P 1 (q .«first_block») (q .«last_block»)
+  told-blocks = subst (λ (x : Plan). EndsTold s (x .domain) (x .paint) P 1 (x .«first_block») (x .«last_block»)) (sym e)
+      (drafted-ends s d paint P g 1 (omega arith))
+
+  pub told-pages : EndsTold s (q .domain) (q .paint) P 0 (q .«first_page») (q .«last_page»)
+  told-pages = subst (λ (x : Plan). EndsTold s (x .domain) (x .paint) P 0 (x .«first_page») (x .«last_page»)) (sym e)
+      (drafted-ends s d paint P g 0 (omega arith))
+
+  module _ (range : InRange (s .domains) (s .middles) (s .leaves)) (settled : Settled (formOf s) P) (b : d < s .domains) (f : List Bool) where
+    pub giving-middles : Kept s (q .domain) (q .paint) P 1 (1024 * s .domains) f
+        → Giving s d paint P 1 f (s .middles) (firstMiddle (s .domains)) 1024 (q .«first_block») (q .«last_block»)
+    giving-middles k = record {
+      height = omega arith;
+      range = range;
+      settled = settled;
+      domain = b;
+      regular = g;
+      count-is = refl;
+      from-is = refl;
+      long-is = refl;
+      kept = subst (λ (x : Plan). Kept s (x .domain) (x .paint) P 1 (1024 * s .domains) f) e k;
+      told = subst (λ (x : Plan). EndsTold s d paint P 1 (x .«first_block») (x .«last_block»)) (sym e) (drafted-ends s d paint P g 1 (omega arith));
+    }
+
+    pub giving-leaves : Kept s (q .domain) (q .paint) P 0 (1048576 * s .domains) f
+        → Giving s d paint P 0 f (s .leaves) (firstLeaf (s .domains) (s .middles)) 64 (q .«first_page») (q .«last_page»)
+    giving-leaves k = record {
+      height = omega arith;
+      range = range;
+      settled = settled;
+      domain = b;
+      regular = g;
+      count-is = refl;
+      from-is = refl;
+      long-is = refl;
+      kept = subst (λ (x : Plan). Kept s (x .domain) (x .paint) P 0 (1048576 * s .domains) f) e k;
+      told = subst (λ (x : Plan). EndsTold s d paint P 0 (x .«first_page») (x .«last_page»)) (sym e) (drafted-ends s d paint P g 0 (omega arith));
+    }
+
+-- Where the tables of both heights have their places, the plan with these edges is ready.
+module _ (s : Shape) (d : ℕ) (paint : Paint) (P middle leaf : ℕ → ℕ) where
+  block-edge : {n : ℕ} {e : Edge} → EdgeBy s d paint P middle 1 n e → EdgeIs s d paint P middle leaf 1 n e
+  block-edge b = record { number = b .number; old = b .old; last = b .last }
+
+  page-edge : {n : ℕ} {e : Edge} → EdgeBy s d paint P leaf 0 n e → EdgeIs s d paint P middle leaf 0 n e
+  page-edge b = record { number = b .number; old = b .old; last = b .last }
+
+pub plan-ready : (s : Shape) (d : ℕ) (paint : Paint) (P : ℕ → ℕ) {a b c e : Edge} → EndsPlaced s d paint P 1 a b → EndsPlaced s d paint P 0 c e
+    → PlanReady s d paint P (record { domain = d; paint = paint; «first_block» = a; «last_block» = b; «first_page» = c; «last_page» = e })
+plan-ready s d paint P x y = record {
+  free-middle = x .free;
+  free-leaf = y .free;
+  middle = x .owner;
+  leaf = y .owner;
+  middles = x .placed;
+  leaves = y .placed;
+  edges = record {
+    for-domain = refl;
+    for-paint = refl;
+    first-block = block-edge s d paint P (x .owner) (y .owner) (x .first);
+    last-block = block-edge s d paint P (x .owner) (y .owner) (x .last);
+    first-page = page-edge s d paint P (x .owner) (y .owner) (y .first);
+    last-page = page-edge s d paint P (x .owner) (y .owner) (y .last);
+  };
+}
+
+-- Too many tables of one height leave no room.
+pub full-middles : (s : Shape) (d : ℕ) (paint : Paint) (P : ℕ → ℕ) → EndsAre s d paint P 1 Full → Room (s .domains) (s .middles) (s .leaves) (aims s d paint P) → ⊥
+full-middles s d paint P x r = let y : count (want (aims s d paint P) 1) (1024 * s .domains) ≤ s .middles = r .middles in omega arith
+
+pub full-leaves : (s : Shape) (d : ℕ) (paint : Paint) (P : ℕ → ℕ) → EndsAre s d paint P 0 Full → Room (s .domains) (s .middles) (s .leaves) (aims s d paint P) → ⊥
+full-leaves s d paint P x r = let y : count (want (aims s d paint P) 0) (1048576 * s .domains) ≤ s .leaves = r .leaves in omega arith

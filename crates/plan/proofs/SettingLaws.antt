@@ -1,0 +1,78 @@
+-- Laws of the setting in which a change is planned: the rights are rights of words, and an entry of the finished pool leads where its block
+-- wants a table.
+use Prim.Native.Nat.{ℕ, zero, suc, _*_, _<_}
+use mathlib.Core.Path.{_≡_, sym, ap, _∙_}
+use mathlib.Core.Bool.{Bool, true}
+use native.Mathlib.Omega.{arith}
+use borrow.Author.Tests.{lt-ltb}
+use Rattle.theory.specs.Pool.{rightOf}
+use Rattle.theory.proofs.RightLaws.{by-cases}
+use Rattle.words.specs.Rights.{eightOf}
+use Rattle.table.specs.declared.Shape.{Shape}
+use Rattle.table.specs.Shape.{InRange}
+use Rattle.table.specs.Map.{formOf}
+use Rattle.table.specs.Wants.{WordRights}
+use Rattle.table.proofs.FormLaws.{places}
+use Rattle.table.proofs.WantLaws.{wants-says, pool-rights}
+use Rattle.places.proofs.Owners.{Owned}
+use Rattle.places.proofs.OwnedLaws.{seek-owner}
+use Rattle.places.proofs.Final.{blocks, domainOf, addressOf, want, either, old, was, placeAt, tableOf, entryWord}
+use Rattle.places.proofs.NumberLaws.{number-first}
+use Rattle.places.proofs.ChangedLaws.{changed-rights}
+use Rattle.places.proofs.FinalWordLaws.{entry-leads, entry-says}
+use Rattle.targets.specs.declared.Paint.{Paint}
+use Rattle.targets.specs.Targets.{region}
+use Rattle.plan.specs.Plan.{isLead}
+use Rattle.plan.specs.Aims.{aims}
+use Rattle.plan.proofs.Setting.{Setting}
+use Rattle.plan.proofs.BlockRightsLaws.{said-near, said-plain}
+use Rattle.plan.proofs.MeetLaws.{Plain}
+use Rattle.plan.proofs.WantedLaws.{first-address, plain-want}
+
+-- A pointer is below bit 31.
+place-low : (D M L h p : ℕ) → InRange D M L → h < 2 → p < places D M L h → isLead (placeAt D M L h p) ≡ true
+place-low D M L zero p range hi b = lt-ltb (placeAt D M L 0 p) 2147483648 (omega arith)
+place-low D M L (suc zero) p range hi b = lt-ltb (placeAt D M L 1 p) 2147483648 (omega arith)
+place-low D M L (suc (suc h)) p range hi b = absurd (omega arith)
+
+module _ {s : Shape} {d : ℕ} {paint : Paint} {P middle leaf : ℕ → ℕ} {freeM freeL : ℕ → Bool} (c : Setting s d paint P middle leaf freeM freeL) where
+  abbrev D : ℕ
+  D = s .domains
+
+  abbrev M : ℕ
+  M = s .middles
+
+  abbrev L : ℕ
+  L = s .leaves
+
+  abbrev T : ℕ → ℕ → ℕ
+  T = aims s d paint P
+
+  pub aims-rights : (e : ℕ) → WordRights (T e)
+  aims-rights e = changed-rights (rightOf (formOf s) P) d (region paint) (paint .right) e (c .regular .right) (pool-rights D M L P e)
+
+  -- Both heights in one.
+  pub placed : (h : ℕ) → h < 2
+      → Owned (blocks h * D) (places D M L h) (want T h) (old P h) (either freeL freeM h) (was D M L P h) (either leaf middle h)
+  placed zero hi = c .leaves
+  placed (suc zero) hi = c .middles
+  placed (suc (suc h)) hi = absurd (omega arith)
+
+  module _ (h i : ℕ) (hi : h < 2) (bi : i < blocks h * D) where
+    -- The entry of a block of one right says that right.
+    pub plain-entry : (r : ℕ) → Plain s d paint P h i r → entryWord D M L middle leaf T P h i ≡ eightOf r
+    plain-entry r pl =
+        entry-says D M L middle leaf T P h i (plain-want s d paint P h i hi bi r pl)
+        ∙ said-near (T (domainOf h i)) (λ b. r) (suc h) (addressOf h i) (number-first h D i hi bi .1) (λ b bb x. pl b bb (x ∙ first-address h i hi))
+        ∙ said-plain r h (addressOf h i)
+
+    -- The finished entry leads where the block wants a table.
+    pub entry-lead : isLead (entryWord D M L middle leaf T P h i) ≡ want T h i
+    entry-lead = by-cases (want T h i)
+        (λ w. ap isLead (entry-leads D M L middle leaf T P h i w) ∙ led w ∙ sym w)
+        (λ w. ap isLead (entry-says D M L middle leaf T P h i w)
+        ∙ wants-says D M L (T (domainOf h i)) (suc h) (addressOf h i) (aims-rights (domainOf h i)) (omega arith) (number-first h D i hi bi .1) w .rights
+        ∙ sym w)
+      where
+        led : want T h i ≡ true → isLead (tableOf D M L middle leaf h i) ≡ true
+        led w = place-low D M L h _ (c .range) hi (seek-owner _ _ _ _ _ _ (placed h hi) i bi w .0)

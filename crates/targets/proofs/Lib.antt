@@ -1,0 +1,11 @@
+-- The laws of targets.
+pub mod TargetLaws
+pub mod PackLaws
+pub mod PaintLaws
+pub mod PartLaws
+pub mod PieceLaws
+pub mod GivenLaws
+pub mod SearchLaws
+pub mod PoolLaws
+pub mod WantedLaws
+pub mod UniqueLaws

@@ -1,0 +1,3 @@
+-- The definitions that the contracts cite: targets, and the steps by which they are found.
+pub mod Targets
+pub mod Steps

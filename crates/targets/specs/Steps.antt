@@ -1,0 +1,61 @@
+-- The steps by which a target is found, and tables are found to be wanted. Memory word `x` is the four bytes from `4 * x` on.
+use Prim.Native.Nat.{ℕ, _+_, _*_, _<_}
+use mathlib.Core.Path.{_≡_}
+use mathlib.Core.Bool.{Bool, true, false, _&&_, cond}
+use lib.Dec.{leb, ltb}
+use Rattle.words.specs.Rights.{rightAt}
+use Rattle.table.specs.Map.{leads}
+use Rattle.table.specs.Wants.{wantsOf}
+use Rattle.targets.specs.declared.Paint.{Paint}
+use Rattle.targets.specs.declared.Cover.{Cover}
+use Rattle.targets.specs.declared.Cover.the-variants.{Apart, Partly, Whole}
+use Rattle.targets.specs.declared.One.{One}
+use Rattle.targets.specs.declared.One.the-variants.{Right, Two}
+use Rattle.targets.specs.declared.Target.{Target}
+use Rattle.targets.specs.declared.Target.the-variants.{Says, Mixed}
+
+-- The region has the memory word `x`.
+unfoldable pub inside : Paint → ℕ → Bool
+inside p x = leb (p .lo) x && ltb x (p .hi)
+
+-- Of the `n` words from `s` on, the region has one, and lacks another.
+pub record Half (p : Paint) (s n : ℕ) : Type 0 where
+  pub hit : ℕ
+  pub miss : ℕ
+  pub hit-below : hit < n
+  pub miss-below : miss < n
+  pub hit-is : inside p (s + hit) ≡ true
+  pub miss-is : inside p (s + miss) ≡ false
+
+-- How the region meets the `n` words from `s` on.
+abbrev pub CoverIs : Cover → Paint → ℕ → ℕ → Type 0
+CoverIs Apart p s n = (j : ℕ) → j < n → inside p (s + j) ≡ false
+CoverIs Partly p s n = Half p s n
+CoverIs Whole p s n = (j : ℕ) → j < n → inside p (s + j) ≡ true
+
+-- Right `i` of the leaf entry `w`, whose first word is `s`, after the painting.
+abbrev pub rightAfter : Paint → ℕ → ℕ → ℕ → ℕ
+rightAfter p w s i = cond (inside p (s + i)) (p .right) (rightAt w i)
+
+-- The `n` words from `s` on all have the right `u`.
+abbrev pub Plain : (ℕ → ℕ) → ℕ → ℕ → ℕ → Type 0
+Plain R s n u = (j : ℕ) → j < n → R (4 * (s + j)) ≡ u
+
+-- They have one right, or no one right.
+abbrev pub OneIs : One → (ℕ → ℕ) → ℕ → ℕ → Type 0
+OneIs (Right u) R s n = Plain R s n u
+OneIs Two R s n = (u : ℕ) → Plain R s n u → ⊥
+
+-- The target is that of a block that wants a table.
+abbrev pub isMixed : Target → Bool
+isMixed (Says w) = false
+isMixed Mixed = true
+
+-- Each leaf of the middle table at `e`, for the block numbered `n`, is wanted.
+abbrev pub LeavesWanted : (ℕ → ℕ) → ℕ → ℕ → (ℕ → ℕ) → Type 0
+LeavesWanted P e n R = (i : ℕ) → i < 1024 → leads 1 (P (e + i)) ≡ true → wantsOf R 1 ((n * 1024 + i) * 4096) ≡ true
+
+-- Where the entry `e` of the block numbered `n` leads, the table is wanted, and so is each of its leaves.
+pub record TablesWanted (P : ℕ → ℕ) (e n : ℕ) (R : ℕ → ℕ) : Type 0 where
+  pub table : leads 2 e ≡ true → wantsOf R 2 (n * 4194304) ≡ true
+  pub leaves : leads 2 e ≡ true → LeavesWanted P e n R

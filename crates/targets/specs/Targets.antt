@@ -1,0 +1,56 @@
+-- Targets: what the entry of a page or a block should be, once a region is painted with a right.
+use Prim.Native.Nat.{ℕ, zero, suc, _+_, _*_, _/_, _%_, _≤_, _<_}
+use mathlib.Core.Path.{_≡_}
+use mathlib.Core.Bool.{Bool, true, false, cond}
+use mathlib.Core.List.{List}
+use lib.ListN.{length}
+use Rattle.theory.specs.Pool.{words}
+use Rattle.words.specs.Rights.{rightAt, goodRights}
+use Rattle.words.specs.Region.{covered}
+use Rattle.words.specs.declared.Region.{Region}
+use Rattle.table.specs.Map.{block, part, parts, size, index, leads}
+use Rattle.table.specs.Wants.{wantsOf, saidOf}
+use Rattle.targets.specs.declared.Paint.{Paint}
+use Rattle.targets.specs.declared.Target.{Target}
+use Rattle.targets.specs.declared.Target.the-variants.{Says, Mixed}
+
+-- The region that is painted; an empty one where `hi` is not above `lo`.
+abbrev pub region : Paint → Region
+region p = record { lo = p .lo; hi = p .hi }
+
+-- The rights `R`, with the painted right on every address that the region covers.
+unfoldable pub painted : Paint → (ℕ → ℕ) → ℕ → ℕ
+painted p R a = cond (covered (region p) a) (p .right) (R a)
+
+-- What the entry of height `h` of the block around `a` should be, with the rights `R`: a pointer where a table is wanted, else rights.
+abbrev pub targetOf : (ℕ → ℕ) → ℕ → ℕ → Target
+targetOf R h a = cond (wantsOf R h a) Mixed (Says (saidOf R h a))
+
+-- The right that the entry `e` of a height, in the pool `P`, gives to an address.
+unfoldable pub given : (ℕ → ℕ) → ℕ → ℕ → ℕ → ℕ
+given P zero e a = rightAt e (a / part zero % parts zero)
+given P (suc h) e a = cond (leads (suc h) e) (given P h (P (e + index h a)) a) (rightAt e (a / part (suc h) % parts (suc h)))
+
+-- On the block of height `h` that has the number `n`, the rights `R` are those that the entry `e` gives.
+abbrev pub Gives : (ℕ → ℕ) → ℕ → ℕ → ℕ → (ℕ → ℕ) → Type 0
+Gives P h e n R = (a : ℕ) → a / block h ≡ n → R a ≡ given P h e a
+
+-- The same of a leaf entry, which needs no pool.
+abbrev pub GivesLeaf : ℕ → ℕ → (ℕ → ℕ) → Type 0
+GivesLeaf w n R = (a : ℕ) → a / 64 ≡ n → R a ≡ rightAt w (a / 4 % 16)
+
+-- The entry of a page is eight rights, or a leaf in the pool begins where it leads.
+pub record ReadablePage (p : List ℕ) (e : ℕ) : Type 0 where
+  pub rights : leads 1 e ≡ false → goodRights e ≡ true
+  pub table : leads 1 e ≡ true → e + size 0 ≤ length p
+
+-- The entry of a block is eight rights, or leads to a table in the pool whose entries are readable.
+pub record ReadableBlock (p : List ℕ) (e : ℕ) : Type 0 where
+  pub rights : leads 2 e ≡ false → goodRights e ≡ true
+  pub table : leads 2 e ≡ true → e + size 1 ≤ length p
+  pub pages : leads 2 e ≡ true → (i : ℕ) → i < size 1 → ReadablePage p (words p (e + i))
+
+-- The test `r` is passed exactly where `A` holds.
+pub record Tells (r : Bool) (A : Type 0) : Type 0 where
+  pub holds : r ≡ true → A
+  pub passes : A → r ≡ true
