@@ -7,3 +7,11 @@ pub mod TurnLaws
 pub mod RunLaws
 pub mod OutcomeLaws
 pub mod RegionLaws
+pub mod DoneLaws
+pub mod TidyLaws
+pub mod TidyGoalLaws
+pub mod TidyWordLaws
+pub mod TidyingLaws
+pub mod TidyAimLaws
+pub mod TidyEndLaws
+pub mod TidiesLaws

@@ -23,6 +23,10 @@ use words::ByteAddr;
 use words::PoolWord;
 use words::Rounded;
 
+mod tidying; // tidying.rt: tables that are not wanted are given up
+
+pub use tidying::tidy;
+
 // Done with the number of stores; cut by the allowance; or refused with the paper's number.
 pub enum Answer {
     Done(u32),
