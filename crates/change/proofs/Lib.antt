@@ -15,3 +15,4 @@ pub mod TidyingLaws
 pub mod TidyAimLaws
 pub mod TidyEndLaws
 pub mod TidiesLaws
+pub mod ChangesLaws

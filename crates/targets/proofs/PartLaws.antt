@@ -27,6 +27,7 @@ any-never f n g = by-cases (any f n)
 abbrev pub partWord : ℕ → ℕ → ℕ → ℕ
 partWord h n i = n * (block h / 4) + wordsIn h * i
 
+-- Its words, by their addresses.
 part-word : (h n i j : ℕ) → 4 * (partWord h n i + j) ≡ wordAt h (n * block h) i j
 part-word zero n i j = omega arith
 part-word (suc zero) n i j = omega arith
@@ -43,6 +44,7 @@ word-part-of zero j l = (j, 0, omega arith, omega arith, omega arith)
 word-part-of (suc zero) j l = (j / 128, j % 128, omega arith, omega arith, omega arith)
 word-part-of (suc (suc h)) j l = (j / 131072, j % 131072, omega arith, omega arith, omega arith)
 
+-- Where rights are below 4, so is the one right of a stretch.
 pub plain-small : (R : ℕ → ℕ) (s n u : ℕ) → ((a : ℕ) → R a < 4) → 0 < n → Plain R s n u → u < 4
 plain-small R s n u small l f = let z = small (4 * (s + 0)) in let e = f 0 l in omega arith
 

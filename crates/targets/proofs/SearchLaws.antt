@@ -1,13 +1,15 @@
 -- Laws of finding a target: by how the region meets the block, or by gathering the rights of its eight sub-blocks.
-use Prim.Native.Nat.{ℕ, suc, _+_, _*_, _/_, _≤_, _<_}
+use Prim.Native.Nat.{ℕ, zero, suc, _+_, _*_, _/_, _≤_, _<_}
 use mathlib.Core.Path.{_≡_, refl, sym, ap, _∙_}
-use mathlib.Core.Bool.{false}
+use mathlib.Core.Bool.{true, false}
 use mathlib.Core.List.{List}
 use native.Mathlib.Omega.{arith}
 use native.Mathlib.Decide.{ℕ-discrete, decLt}
 use lib.ListN.{getD, set, length, replicate, length-set, List·getD-eq-default, getD-replicate}
 use lib.Seq.{getD-set-same, getD-set-other}
-use Rattle.words.specs.Rights.{rightAt, pack}
+use Rattle.words.specs.Rights.{rightAt, pack, eightOf}
+use Rattle.words.specs.Region.{covered}
+use Rattle.words.proofs.RightsLaws.{eight-pack}
 use Rattle.table.specs.Map.{block, parts, leads}
 use Rattle.table.specs.Wants.{wordsIn, above}
 use Rattle.table.proofs.BlockLaws.{first-word}
@@ -16,9 +18,9 @@ use Rattle.targets.specs.declared.Cover.the-variants.{Apart, Whole}
 use Rattle.targets.specs.declared.One.{One}
 use Rattle.targets.specs.declared.One.the-variants.{Right, Two}
 use Rattle.targets.specs.declared.Target.the-variants.{Says, Mixed}
-use Rattle.targets.specs.Targets.{painted, targetOf, given, Gives}
+use Rattle.targets.specs.Targets.{region, painted, targetOf, given, Gives}
 use Rattle.targets.specs.Steps.{CoverIs, Plain, OneIs}
-use Rattle.targets.proofs.PaintLaws.{whole-plain, apart-plain, painted-agree}
+use Rattle.targets.proofs.PaintLaws.{whole-plain, apart-plain, painted-agree, painted-covered, painted-uncovered}
 use Rattle.targets.proofs.PartLaws.{partWord, part-below, plain-small, parts-target, two-target, plain-target, target-agree}
 use Rattle.targets.proofs.GivenLaws.{gives-parts}
 
@@ -41,6 +43,23 @@ module _ (p : Paint) (R : ℕ → ℕ) (h n : ℕ) where
     -- What the entry gives is all that counts.
     pub given-target : targetOf (painted p (given P h e)) h (n * block h) ≡ targetOf (painted p R) h (n * block h)
     given-target = target-agree (painted p (given P h e)) h n (painted p R) (λ a q. painted-agree p (given P h e) R a (sym (g a q)))
+
+-- The same by addresses, for whoever knows what the region covers without searching.
+module _ (p : Paint) (R : ℕ → ℕ) (h n : ℕ) where
+  -- The whole block is covered.
+  pub covered-target : ((a : ℕ) → a / block (suc h) ≡ n → covered (region p) a ≡ true)
+      → targetOf (painted p R) (suc h) (n * block (suc h)) ≡ Says (eightOf (p .right))
+  covered-target c =
+      plain-target (painted p R) (suc h) n (p .right) (λ j l. painted-covered p R _ (c _ (number h j l))) ∙ ap Says (eight-pack (p .right))
+    where
+      number : (h j : ℕ) → j < block (suc h) / 4 → 4 * (n * (block (suc h) / 4) + j) / block (suc h) ≡ n
+      number zero j l = omega arith
+      number (suc h) j l = omega arith
+
+  -- None of it is.
+  pub uncovered-target : ((a : ℕ) → a / block h ≡ n → covered (region p) a ≡ false)
+      → targetOf (painted p R) h (n * block h) ≡ targetOf R h (n * block h)
+  uncovered-target c = target-agree (painted p R) h n R (λ a q. painted-uncovered p R a (c a q))
 
 -- What a loop over the eight sub-blocks has gathered when it stands at number `i`.
 pub record Gathers (R : ℕ → ℕ) (h n : ℕ) (work : List ℕ) (i : ℕ) : Type 0 where

@@ -44,15 +44,15 @@ leaf-wants-table R n i S bn bi w =
 
 -- A table with a leaf is wanted where its leaves are; one without has no leaf to want.
 module _ (P : ℕ → ℕ) (e n : ℕ) (R : ℕ → ℕ) where
-  abbrev leafs : Bool
-  leafs = any (λ i. leads 1 (P (e + i))) 1024
+  abbrev hasLeaf : Bool
+  hasLeaf = any (λ i. leads 1 (P (e + i))) 1024
 
-  pub leaves-tables : WordRights R → n < 1024 → leafs ≡ true → LeavesWanted P e n R → TablesWanted P e n R
+  pub leaves-tables : WordRights R → n < 1024 → hasLeaf ≡ true → LeavesWanted P e n R → TablesWanted P e n R
   leaves-tables S b t w =
       let (i, c, l) = any-which (λ i. leads 1 (P (e + i))) 1024 t in
       record { table = λ m. leaf-wants-table R n i S b c (w i c l); leaves = λ m. w }
 
-  pub leafless-tables : leafs ≡ false → wantsOf R 2 (n * 4194304) ≡ true → TablesWanted P e n R
+  pub leafless-tables : hasLeaf ≡ false → wantsOf R 2 (n * 4194304) ≡ true → TablesWanted P e n R
   leafless-tables t w = record {
     table = λ m. w;
     leaves = λ m i b l. absurd (true≢false (sym l ∙ any-none (λ i. leads 1 (P (e + i))) 1024 i t b));
@@ -94,7 +94,6 @@ module _ (s : Shape) (P : ℕ → ℕ) where
         → Says (formOf s) (suc h) (rightOf (formOf s) P d) a w → ⊥
     wanted-unsaid zero k w v l x =
         let (r, z) = middle-word a v refl in
-        let y : index 2 a * 1024 + index 1 a ≡ a / 4096 = omega arith in
         let b : a / 4096 ≡ (index 2 a * 1024 + index 1 a) * 4096 / 4096 = omega arith in
         wants-unsaid (s .domains) (s .middles) (s .leaves) (rightOf (formOf s) P d) 1 a w ba
         (wants-block (rightOf (formOf s) P d) 1 a ((index 2 a * 1024 + index 1 a) * 4096) b ∙ root-wanted .leaves r (index 1 a) (omega arith) (rw z at l)) x

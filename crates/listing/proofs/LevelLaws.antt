@@ -1,0 +1,219 @@
+-- Laws of tables and entries by memory words: which entry and which right a word goes by, and what a walker meets in a sound pool.
+use Prim.Native.Nat.{ℕ, zero, suc, _+_, _*_, _-_, _/_, _%_, _<_, _≤_}
+use native.Mathlib.Omega.{arith}
+use mathlib.Core.Path.{_≡_, refl, sym, ap, _∙_}
+use mathlib.Core.Logic.{_≢_}
+use mathlib.Core.List.{List}
+use lib.ListN.{length}
+use borrow.Author.Tests.{ne-eqb}
+use Rattle.theory.specs.Pool.{words, SoundPool, right}
+use Rattle.words.specs.Rights.{rightAt}
+use Rattle.words.specs.declared.PoolWord.{PoolWord}
+use Rattle.words.proofs.RightsLaws.{eight-right, sixteen-right, right-small}
+use Rattle.table.specs.declared.Shape.{Shape}
+use Rattle.table.specs.declared.Entry.the-variants.{Rights, Leads, Bad}
+use Rattle.table.specs.Shape.{Fits}
+use Rattle.table.specs.Map.{part, parts, size, index, formOf}
+use Rattle.table.specs.Wants.{wordsIn}
+use Rattle.table.specs.Entries.{decodeOf}
+use Rattle.table.proofs.BlockLaws.{first-word}
+use Rattle.soundness.proofs.ReadableLaws.{Readable, sound-readable, reached-not-bad, reached-rights-right, reached-leads}
+use Rattle.listing.specs.declared.Level.{Level}
+use Rattle.listing.specs.Runs.{memoryWords}
+use Rattle.listing.specs.Sheets.{Sheet, feed, fed}
+use Rattle.listing.specs.Levels.{blockWords, tableWords, levelOf, sameOf, said, entryRight, tableRight, EntryAt, TableAt}
+use Rattle.listing.proofs.SheetLaws.{fed-alike, fed-same, Along, along-next, room}
+
+-- The numbers of a height.
+
+pub level-leaf : (h : ℕ) → h ≡ 0 → levelOf h ≡ record { entries = 64; parts = 16; step = 1; block = 16 }
+level-leaf h e = rw e
+
+pub level-middle : (h : ℕ) → h ≡ 1 → levelOf h ≡ record { entries = 1024; parts = 8; step = 128; block = 1024 }
+level-middle h e = rw e
+
+pub level-root : (h : ℕ) → h ≢ 0 → h ≢ 1 → levelOf h ≡ record { entries = 1024; parts = 8; step = 131072; block = 1048576 }
+level-root zero a b = absurd (a refl)
+level-root (suc zero) a b = absurd (b refl)
+level-root (suc (suc h)) a b = refl
+
+parts-block : (h : ℕ) → parts h * wordsIn h ≡ blockWords h
+parts-block zero = refl
+parts-block (suc zero) = refl
+parts-block (suc (suc h)) = refl
+
+parts-few : (h : ℕ) → parts h ≤ 16
+parts-few zero = omega arith
+parts-few (suc h) = omega arith
+
+module _ (h : ℕ) (v : Level) (e : v ≡ levelOf h) where
+  level-parts : v .parts ≡ parts h
+  level-parts = ap (λ x. x .parts) e
+
+  level-step : v .step ≡ wordsIn h
+  level-step = ap (λ x. x .step) e
+
+  level-entries : v .entries ≡ size h
+  level-entries = ap (λ x. x .entries) e
+
+  level-block : v .block ≡ blockWords h
+  level-block = ap (λ x. x .block) e
+
+  -- All parts together are the block, and all blocks the table.
+  pub whole-block : v .parts * v .step ≡ blockWords h
+  whole-block = ap (λ x. x .parts * x .step) e ∙ parts-block h
+
+  pub whole-table : v .entries * v .block ≡ tableWords h
+  whole-table = ap (λ x. x .entries * x .block) e
+
+  module _ (i : ℕ) (b : i < v .parts) where
+    pub part-few : i < 16
+    part-few = omega (arith, level-parts, parts-few h)
+
+    -- Part `i` lies in the block.
+    pub part-room : i * v .step + v .step ≤ blockWords h
+    part-room = rw whole-block at (room i (v .parts) (v .step) b)
+
+block-some : (h : ℕ) → 0 < blockWords h
+block-some zero = omega arith
+block-some (suc zero) = omega arith
+block-some (suc (suc h)) = omega arith
+
+table-block : (h : ℕ) → 0 < h → h ≤ 2 → tableWords (h - 1) ≡ blockWords h
+table-block zero lo hi = absurd (omega arith)
+table-block (suc zero) lo hi = refl
+table-block (suc (suc zero)) lo hi = refl
+table-block (suc (suc (suc h))) lo hi = absurd (omega arith)
+
+-- The part of an entry, and the entry of a table, by which a word goes.
+
+part-at : (h a i j : ℕ) → a % blockWords h ≡ 0 → i < parts h → a + i * wordsIn h ≤ j → j < a + i * wordsIn h + wordsIn h
+    → 4 * j / part h % parts h ≡ i
+part-at zero a i j e b lo hi = omega arith
+part-at (suc zero) a i j e b lo hi = omega arith
+part-at (suc (suc h)) a i j e b lo hi = omega arith
+
+index-at : (h a i j : ℕ) → a % tableWords h ≡ 0 → i < size h → a + i * blockWords h ≤ j → j < a + i * blockWords h + blockWords h
+    → index h (4 * j) ≡ i
+index-at zero a i j e b lo hi = omega arith
+index-at (suc zero) a i j e b lo hi = omega arith
+index-at (suc (suc h)) a i j e b lo hi = omega arith
+
+-- An entry that says one right for its whole block.
+same-said : (h w j : ℕ) → w ≡ sameOf h (rightAt w 0) → said h w j ≡ rightAt w 0
+same-said zero w j e = ap (λ v. rightAt v (4 * j / 4 % 16)) e ∙ sixteen-right (rightAt w 0) (4 * j / 4 % 16) (right-small w 0) (omega arith)
+same-said (suc h) w j e =
+    let f = simp (ne-eqb (suc h) 0 (λ z. omega arith)) at e in
+    ap (λ v. rightAt v (4 * j / part (suc h) % 8)) f ∙ eight-right (rightAt w 0) (4 * j / part (suc h) % 8) (right-small w 0) (omega arith)
+
+-- .. is fed at once.
+pub same-fed : (h w a : ℕ) (s : Sheet) → w ≡ sameOf h (rightAt w 0) → fed (blockWords h) (said h w) a s ≡ feed (rightAt w 0) a s
+same-fed h w a s e = fed-same (blockWords h) (rightAt w 0) (said h w) a s (block-some h) (λ j lo hi. same-said h w j e)
+
+-- One part of an entry further.
+pub part-next : (h w a : ℕ) (v : Level) (s₀ : Sheet) (i : ℕ) (s t : Sheet) → v ≡ levelOf h → a % blockWords h ≡ 0
+    → Along (said h w) (v .parts) (v .step) a s₀ i s → i < v .parts → t ≡ feed (rightAt w i) (a + i * v .step) s
+    → Along (said h w) (v .parts) (v .step) a s₀ (i + 1) t
+part-next h w a v s₀ i s t e al l b k =
+    let en = level-parts h v e in
+    let eu = level-step h v e in
+    along-next (said h w) (λ j. rightAt w i) (v .parts) (v .step) a s₀ i s t l b
+    (λ j lo hi. ap (rightAt w) (sym (part-at h a i j al (rw en at b) (rw eu at lo) (rw eu at hi))))
+    (k ∙ sym (fed-same (v .step) (rightAt w i) (λ j. rightAt w i) (a + i * v .step) s (rw eu (first-word h)) (λ j lo hi. refl)))
+
+-- An entry that leads is for the words of the table below.
+sub-blocks : (h a i : ℕ) → 0 < h → h ≤ 2 → a % blockWords h ≡ 0 → a + blockWords h ≤ memoryWords → i < size (h - 1)
+    → ((a + i * blockWords (h - 1)) % blockWords (h - 1) ≡ 0) × (a + i * blockWords (h - 1) + blockWords (h - 1) ≤ memoryWords)
+sub-blocks zero a i lo hi e b c = absurd (omega arith)
+sub-blocks (suc zero) a i lo hi e b c = (omega arith, omega arith)
+sub-blocks (suc (suc zero)) a i lo hi e b c = (omega arith, omega arith)
+sub-blocks (suc (suc (suc h))) a i lo hi e b c = absurd (omega arith)
+
+leaf-not-bad : {w : ℕ} → Rights w ≡ Bad → ⊥
+leaf-not-bad e = let z : _≡_ {A = ℕ} 0 1 = cc in omega arith
+
+leaf-not-leads : {w n : ℕ} {t : PoolWord} → Rights w ≡ Leads t n → ⊥
+leaf-not-leads e = let z : _≡_ {A = ℕ} 0 1 = cc in omega arith
+
+same-rights : {w x : ℕ} → Rights w ≡ Rights x → w ≡ x
+same-rights e = cc
+
+module _ (p : List ℕ) (s : Shape) where
+  readable : {h k a : ℕ} → EntryAt p s h k a → Readable p s
+  readable x = sound-readable p s (x .fits) (x .sound)
+
+  pub entry-low : {h k a : ℕ} → EntryAt p s h k a → h ≤ 2
+  entry-low x = readable x .low (x .reached)
+
+  pub entry-inside : {h k a : ℕ} → EntryAt p s h k a → k < length p
+  entry-inside x = readable x .inside (x .reached)
+
+  -- An entry, by what it decodes to: it is not bad,
+  pub entry-not-bad : (h k a : ℕ) → EntryAt p s h k a → decodeOf s h (words p k) ≡ Bad → ⊥
+  entry-not-bad zero k a x e = leaf-not-bad e
+  entry-not-bad (suc h) k a x e = reached-not-bad p s (readable x) (x .reached) (omega arith) e
+
+  -- its rights are those that it says,
+  entry-said : (h k a w : ℕ) → EntryAt p s h k a → decodeOf s h (words p k) ≡ Rights w → (j : ℕ) → entryRight s p h k j ≡ said h w j
+  unfolding right
+  entry-said zero k a w x e j = ap (λ v. said zero v j) (same-rights e)
+  entry-said (suc h) k a w x e j = reached-rights-right p s (readable x) (x .reached) (omega arith) (4 * j) e
+
+  -- and it leads to a table for the same words.
+  pub entry-up : (h k a n : ℕ) (t : PoolWord) → EntryAt p s h k a → decodeOf s h (words p k) ≡ Leads t n → 0 < h
+  entry-up zero k a n t x e = absurd (leaf-not-leads e)
+  entry-up (suc h) k a n t x e = omega arith
+
+  module _ (h k a n : ℕ) (t : PoolWord) (x : EntryAt p s h k a) (e : decodeOf s h (words p k) ≡ Leads t n) where
+    entry-leads : (j : ℕ) → entryRight s p h k j ≡ tableRight s p (h - 1) (t .0) j
+    entry-leads j = reached-leads p s (readable x) (x .reached) (entry-up h k a n t x e) e .rights (4 * j)
+
+    pub entry-table : TableAt p s (h - 1) (t .0) a
+    entry-table =
+        let b = reached-leads p s (readable x) (x .reached) (entry-up h k a n t x e) e in
+        let up = entry-up h k a n t x e in
+        let low = entry-low x in
+        record {
+          entries = λ i c.
+              let (al, ins) = sub-blocks h a i up low (x .aligned) (x .inside) c in
+              record { fits = x .fits; sound = x .sound; reached = b .reached i c; aligned = al; inside = ins };
+          aligned = rw (table-block h up low) (x .aligned);
+        }
+
+  -- So the words of an entry are fed by its rights, or by the table that it leads to.
+  pub rights-fed : (h k a w : ℕ) (u : Sheet) → EntryAt p s h k a → decodeOf s h (words p k) ≡ Rights w
+      → fed (blockWords h) (said h w) a u ≡ fed (blockWords h) (entryRight s p h k) a u
+  rights-fed h k a w u x e = fed-alike (blockWords h) (said h w) (entryRight s p h k) a u (λ j lo hi. sym (entry-said h k a w x e j))
+
+  pub leads-fed : (h k a n : ℕ) (t : PoolWord) (u : Sheet) → EntryAt p s h k a → decodeOf s h (words p k) ≡ Leads t n
+      → fed (tableWords (h - 1)) (tableRight s p (h - 1) (t .0)) a u ≡ fed (blockWords h) (entryRight s p h k) a u
+  leads-fed h k a n t u x e =
+      ap (λ m. fed m (tableRight s p (h - 1) (t .0)) a u) (table-block h (entry-up h k a n t x e) (entry-low x))
+      ∙ fed-alike (blockWords h) (tableRight s p (h - 1) (t .0)) (entryRight s p h k) a u (λ j lo hi. sym (entry-leads h k a n t x e j))
+
+  -- One entry of a table further.
+  module _ (h b a : ℕ) (x : TableAt p s h b a) (v : Level) (e : v ≡ levelOf h) (i : ℕ) (c : i < v .entries) where
+    pub entry-at : EntryAt p s h (b + i) (a + i * v .block)
+    entry-at = rw (level-block h v e) (x .entries i (rw (level-entries h v e) at c))
+
+    pub entry-room : a + i * v .block + v .block ≤ memoryWords
+    entry-room = omega (arith, entry-at .inside, level-block h v e)
+
+    pub entry-next : (s₀ u t : Sheet) → Along (tableRight s p h b) (v .entries) (v .block) a s₀ i u
+        → t ≡ fed (blockWords h) (entryRight s p h (b + i)) (a + i * v .block) u
+        → Along (tableRight s p h b) (v .entries) (v .block) a s₀ (i + 1) t
+    entry-next s₀ u t l k =
+        let en = level-entries h v e in
+        let eu = level-block h v e in
+        along-next (tableRight s p h b) (entryRight s p h (b + i)) (v .entries) (v .block) a s₀ i u t l c
+        (λ j lo hi. ap (λ m. entryRight s p h (b + m) j) (sym (index-at h a i j (x .aligned) (rw en at c) (rw eu at lo) (rw eu at hi))))
+        (k ∙ ap (λ m. fed m (entryRight s p h (b + i)) (a + i * v .block) u) (sym eu))
+
+  -- The root of a domain is a table for the whole memory.
+  pub root-table : (d : ℕ) → Fits s (length p) → SoundPool (formOf s) (words p) → d < s .domains → TableAt p s 2 (1024 * d) 0
+  root-table d f o b =
+      let r = sound-readable p s f o in
+      record {
+        entries = λ i c. record { fits = f; sound = o; reached = r .root d i b c; aligned = omega arith; inside = omega arith };
+        aligned = refl;
+      }

@@ -1,0 +1,292 @@
+// The listing of rights: by domain and then address, each longest run of one right other than none, written into words that the caller lends.
+// It goes down one level at a time, with the open run passed and returned; at a boundary it is told which right holds from there on.
+ghost use mathlib.Core.Path.{_≡_};
+ghost use Prim.Native.Nat.{_+_, _*_, _%_, _<_, _≤_};
+ghost use lib.ListN.{length};
+ghost use Rattle.theory.specs.Pool.{words, SoundPool};
+ghost use Rattle.table.specs.Shape.{Fits};
+ghost use Rattle.table.specs.Map.{formOf};
+ghost use Rattle.listing.specs.Runs.{memoryWords};
+ghost use Rattle.listing.specs.Scan.{listingOf};
+ghost use Rattle.listing.specs.Sheets.{put, sheet, counted, closed, feed, fed, OpenAt, written, opening, countOf};
+ghost use Rattle.listing.specs.Levels.{levelOf, blockWords, tableWords, sameOf, said, entryRight, tableRight, EntryAt, TableAt};
+ghost use Rattle.listing.specs.Listing.{wordRight, Lists};
+use table::Entry;
+use table::Shape;
+use words::PoolWord;
+
+// An address is 32 bits, and a word is four bytes.
+const MEMORY_WORDS: u32 = 0x4000_0000;
+
+// The memory words `first ≤ w < past` of a domain, which have one right.
+pub struct Run {
+    pub domain: u32,
+    pub first: u32,
+    pub past: u32,
+    pub right: u32,
+}
+
+// The open run, how many were closed before it, and the number of the first that the caller wants.
+pub struct Open {
+    pub domain: u32,
+    pub right: u32,
+    pub first: u32,
+    pub count: usize,
+    pub from: usize,
+}
+
+// Of a height: the entries of a table, the rights of an entry, and the memory words of a right and of an entry.
+pub struct Level {
+    pub entries: u32,
+    pub parts: u32,
+    pub step: u32,
+    pub block: u32,
+}
+
+// How many runs there are in all; or the number of the refusal.
+pub enum Listed {
+    Runs(usize),
+    Refused(u32),
+}
+
+// The numbers of a height.
+fn level_of(height: u32) -> Level
+    ensures { λ r. ⌜ r ≡ levelOf height ⌝ }
+{
+    if height == 0 {
+        return Level {
+            entries: 64,
+            parts: 16,
+            step: 1,
+            block: 16,
+        };
+    }
+    if height == 1 {
+        return Level {
+            entries: 1024,
+            parts: 8,
+            step: 128,
+            block: 1024,
+        };
+    }
+    Level {
+        entries: 1024,
+        parts: 8,
+        step: 131072,
+        block: 1048576,
+    }
+}
+
+// The entry of a height that says one right for its whole block.
+fn same_entry(height: u32, right: u32) -> u32
+    requires { ⌜ right < 4 ⌝ }
+    ensures { λ r. ⌜ r ≡ sameOf height right ⌝ }
+{
+    if height == 0 {
+        return words::sixteen_of(right);
+    }
+    words::eight_of(right)
+}
+
+// Run number `n`, at its place in the lent words, where it has one. The last byte is reckoned so that no sum reaches 2^32.
+fn put_run(run: Run, n: usize, from: usize, runs: &mut [u32])
+    requires { ⌜ (run .first < run .past) × (run .past ≤ memoryWords) ⌝ }
+    ensures { λ r. ⌜ now (runs .exit) ≡ put from n run (now (runs .entry)) ⌝ }
+{
+    if n < from {
+        return;
+    }
+    let k = n - from;
+    if k < runs.len() / 4 {
+        let p = 4 * k;
+        runs[p] = run.domain;
+        runs[p + 1] = 4 * run.first;
+        runs[p + 2] = 4 * (run.past - 1) + 3;
+        runs[p + 3] = run.right;
+    }
+}
+
+// The open run ends before word `at`. Answers how many runs are closed now; a run of none is no run.
+fn close(run: Open, at: u32, runs: &mut [u32]) -> usize
+    requires { ⌜ at ≤ memoryWords ⌝ }
+    requires { ⌜ OpenAt run at ⌝ }
+    ensures { λ r. ⌜ sheet (counted run r) (now (runs .exit)) ≡ closed at (sheet run (now (runs .entry))) ⌝ }
+{
+    let n = run.count;
+    let right = run.right;
+    if right == 0 {
+        return n;
+    }
+    let ended = Run {
+        domain: run.domain,
+        first: run.first,
+        past: at,
+        right,
+    };
+    put_run(ended, n, run.from, runs);
+    n + 1
+}
+
+// From word `at` on the right is `right`.
+fn feed_right(right: u32, at: u32, run: Open, runs: &mut [u32]) -> Open
+    requires { ⌜ at ≤ memoryWords ⌝ }
+    requires { ⌜ OpenAt run at ⌝ }
+    ensures { λ r. ⌜ sheet r (now (runs .exit)) ≡ feed right at (sheet run (now (runs .entry))) ⌝ }
+{
+    let old = run.right;
+    if right == old {
+        return run;
+    }
+    let n = close(run, at, runs);
+    Open {
+        domain: run.domain,
+        right,
+        first: at,
+        count: n,
+        from: run.from,
+    }
+}
+
+// The rights of the entry `w`, whose block begins at word `at`. Most entries say one right for the whole block, and are told at once.
+fn feed_rights(height: u32, w: u32, at: u32, run: Open, runs: &mut [u32]) -> Open
+    requires { ⌜ (at % blockWords height ≡ 0) × (at + blockWords height ≤ memoryWords) ⌝ }
+    requires { ⌜ OpenAt run at ⌝ }
+    ensures { λ r. ⌜ sheet r (now (runs .exit)) ≡ fed (blockWords height) (said height w) at (sheet run (now (runs .entry))) ⌝ }
+{
+    let first = words::right_at(w, 0);
+    let same = same_entry(height, first);
+    if w == same {
+        return feed_right(first, at, run, runs);
+    }
+    let level = level_of(height);
+    let parts = level.parts;
+    let step = level.step;
+    let mut s = run;
+    let mut i = 0;
+    while i < parts {
+        let right = words::right_at(w, i);
+        let from = at + i * step;
+        s = feed_right(right, from, s, runs);
+        i += 1;
+    }
+    s
+}
+
+// The table of a height that begins at pool word `base`, for the memory from word `at` on.
+fn feed_table(
+    pool: &[u32],
+    shape: Shape,
+    height: u32,
+    base: PoolWord,
+    at: u32,
+    run: Open,
+    runs: &mut [u32],
+) -> Open
+    requires { ⌜ TableAt (now pool) shape height (base .0) at ⌝ }
+    requires { ⌜ OpenAt run at ⌝ }
+    ensures { λ r. ⌜ sheet r (now (runs .exit))
+        ≡ fed (tableWords height) (tableRight shape (now (pool .entry)) height (base .0)) at (sheet run (now (runs .entry))) ⌝ }
+{
+    let level = level_of(height);
+    let entries = level.entries;
+    let block = level.block;
+    let mut s = run;
+    let mut i = 0;
+    while i < entries {
+        let entry = words::word_after(base, i as usize);
+        let from = at + i * block;
+        s = feed_entry(pool, shape, height, entry, from, s, runs);
+        i += 1;
+    }
+    s
+}
+
+// The entry of a height at pool word `entry`, whose block begins at word `at`.
+fn feed_entry(
+    pool: &[u32],
+    shape: Shape,
+    height: u32,
+    entry: PoolWord,
+    at: u32,
+    run: Open,
+    runs: &mut [u32],
+) -> Open
+    requires { ⌜ EntryAt (now pool) shape height (entry .0) at ⌝ }
+    requires { ⌜ OpenAt run at ⌝ }
+    ensures { λ r. ⌜ sheet r (now (runs .exit))
+        ≡ fed (blockWords height) (entryRight shape (now (pool .entry)) height (entry .0)) at (sheet run (now (runs .entry))) ⌝ }
+{
+    let k = words::pool_index(entry);
+    let w = pool[k];
+    let e = table::decode(shape, height, w);
+    match e {
+        Entry::Rights(r) => feed_rights(height, r, at, run, runs),
+        Entry::Leads(t, _) => feed_table(pool, shape, height - 1, t, at, run, runs),
+        // A sound pool has no such entry.
+        Entry::Bad => run,
+    }
+}
+
+// The runs of one domain, after `count` others.
+fn list_domain(
+    pool: &[u32],
+    shape: Shape,
+    domain: u32,
+    from: usize,
+    count: usize,
+    runs: &mut [u32],
+) -> usize
+    requires { ⌜ Fits shape (length (now pool)) ⌝ }
+    requires { ⌜ SoundPool (formOf shape) (words (now pool)) ⌝ }
+    requires { ⌜ domain < shape .domains ⌝ }
+    requires { ⌜ count ≤ (memoryWords + 1) * domain ⌝ }
+    ensures { λ r. ⌜ record { count = r; out = now (runs .exit) }
+        ≡ countOf (closed memoryWords (fed memoryWords (wordRight shape (now (pool .entry)) domain) 0
+        (sheet (opening domain count from) (now (runs .entry))))) ⌝ }
+{
+    let run = Open {
+        domain,
+        right: 0,
+        first: 0,
+        count,
+        from,
+    };
+    let root = words::pool_word(1024 * domain);
+    let s = feed_table(pool, shape, 2, root, 0, run, runs);
+    close(s, MEMORY_WORDS, runs)
+}
+
+// The runs of all domains of a sound pool.
+fn list_domains(pool: &[u32], shape: Shape, from: usize, runs: &mut [u32]) -> usize
+    requires { ⌜ Fits shape (length (now pool)) ⌝ }
+    requires { ⌜ SoundPool (formOf shape) (words (now pool)) ⌝ }
+    ensures count { λ r. ⌜ r ≡ length (listingOf (shape .domains) memoryWords (wordRight shape (now (pool .entry)))) ⌝ }
+    ensures out { λ r. ⌜ now (runs .exit)
+        ≡ written from 0 (listingOf (shape .domains) memoryWords (wordRight shape (now (pool .entry)))) (now (runs .entry)) ⌝ }
+{
+    let domains = shape.domains;
+    let mut n = 0;
+    let mut d = 0;
+    while d < domains {
+        n = list_domain(pool, shape, d, from, n, runs);
+        d += 1;
+    }
+    n
+}
+
+// The runs of a pool from number `from` on, as many as fit, four words each: domain, first byte, last byte, right.
+pub fn list_runs(pool: &[u32], shape: Shape, from: usize, runs: &mut [u32]) -> Listed
+    ensures { λ r. ⌜ Lists (now (pool .entry)) shape from (now (runs .entry)) r (now (runs .exit)) ⌝ }
+{
+    let long = pool.len();
+    if !table::shape_fits(shape, long) {
+        return Listed::Refused(1);
+    }
+    let seen = soundness::check_sound(pool, shape);
+    let ok = seen.ok;
+    if !ok {
+        return Listed::Refused(6);
+    }
+    let n = list_domains(pool, shape, from, runs);
+    Listed::Runs(n)
+}
