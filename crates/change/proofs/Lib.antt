@@ -8,6 +8,7 @@ pub mod RunLaws
 pub mod OutcomeLaws
 pub mod RegionLaws
 pub mod DoneLaws
+pub mod ReachedLaws
 pub mod TidyLaws
 pub mod TidyGoalLaws
 pub mod TidyWordLaws

@@ -1,7 +1,6 @@
--- What a tidying answers and leaves is settled by its input, but for which words a cut has reached; and what it means for the pool.
+-- What a tidying answers and leaves is settled by its input; and what it means for the pool.
 use Prim.Native.Nat.{ℕ, _<_}
 use mathlib.Core.Path.{_≡_, refl, ap, _∙_}
-use mathlib.Core.Logic.{_≢_}
 use mathlib.Core.List.{List}
 use native.Mathlib.Omega.{arith}
 use lib.ListN.{length}
@@ -17,29 +16,30 @@ use Rattle.change.specs.Cuts.{differing}
 use Rattle.change.specs.Answers.{noPaint, IsDone, Tidies, no-shape, unsound, done, cut}
 use Rattle.change.proofs.DifferLaws.{differing-self}
 use Rattle.change.proofs.DoneLaws.{one-done, done-not-cut}
+use Rattle.change.proofs.ReachedLaws.{one-cut}
 use Rattle.change.proofs.TidyGoalLaws.{tidy-finished, finished-tidy}
 
--- Two outcomes for one input: the same answer, and the same pool unless it was cut.
+-- Two outcomes that are one: the same answer and the same pool.
 abbrev pub Agree : Answer → List ℕ → Answer → List ℕ → Type 0
-Agree a x b y = (a ≡ b) × (a ≢ Cut → x ≡ y)
+Agree a x b y = (a ≡ b) × (x ≡ y)
 
 pub one-tidy : {p : List ℕ} {s : Shape} {n : ℕ} {a b : Answer} {x y : List ℕ} → Tidies p s n a x → Tidies p s n b y → Agree a x b y
-one-tidy (no-shape f) (no-shape g) = (refl, λ c. refl)
+one-tidy (no-shape f) (no-shape g) = (refl, refl)
 one-tidy (no-shape f) (unsound g u) = absurd (f g)
 one-tidy (no-shape f) (done g u q d) = absurd (f g)
 one-tidy (no-shape f) (cut g u x c) = absurd (f g)
 one-tidy (unsound f u) (no-shape g) = absurd (g f)
-one-tidy (unsound f u) (unsound g w) = (refl, λ c. refl)
+one-tidy (unsound f u) (unsound g w) = (refl, refl)
 one-tidy (unsound f u) (done g w q d) = absurd (u w)
 one-tidy (unsound f u) (cut g w x c) = absurd (u w)
 one-tidy (done f u q d) (no-shape g) = absurd (g f)
 one-tidy (done f u q d) (unsound g w) = absurd (w u)
-one-tidy {p = p} (done f u q d) (done g w x e) = let z = one-done d e in (ap (λ y. Done (differing p y)) z, λ c. z)
+one-tidy {p = p} (done f u q d) (done g w x e) = let z = one-done d e in (ap (λ y. Done (differing p y)) z, z)
 one-tidy (done f u q d) (cut g w x c) = absurd (done-not-cut d c)
 one-tidy (cut f u x c) (no-shape g) = absurd (g f)
 one-tidy (cut f u x c) (unsound g w) = absurd (w u)
 one-tidy (cut f u x c) (done g w q d) = absurd (done-not-cut d c)
-one-tidy (cut f u x c) (cut g w y d) = (refl, λ z. absurd (z refl))
+one-tidy (cut f u x c) (cut g w y d) = (refl, one-cut c d)
 
 -- A tidying that is done leaves a settled pool with the same rights.
 pub record Tidied (s : Shape) (p q : List ℕ) : Type 0 where
@@ -64,4 +64,4 @@ tidy-none {p} {s} {n} f t y =
       enough = let z = differing-self p in omega arith;
     } in
     let (e, g) = one-tidy y (done f (t .sound) p d) in
-    (e ∙ ap Done (differing-self p), g (λ c. let z : _≡_ {A = ℕ} 0 1 = cc in omega arith))
+    (e ∙ ap Done (differing-self p), g)
