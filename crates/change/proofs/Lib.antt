@@ -17,3 +17,4 @@ pub mod TidyAimLaws
 pub mod TidyEndLaws
 pub mod TidiesLaws
 pub mod ChangesLaws
+pub mod Witness
