@@ -31,6 +31,7 @@ run() {
 
 run rt ci
 run bash tests/units.sh
+run bash tests/listing.sh
 
 echo "$passed passed, $failed failed"
 [ "$failed" -eq 0 ] && [ "$passed" -gt 0 ]
