@@ -3,6 +3,7 @@ pub mod CutLaws
 pub mod TableLaws
 pub mod State
 pub mod StateLaws
+pub mod AheadLaws
 pub mod TurnLaws
 pub mod RunLaws
 pub mod OutcomeLaws

@@ -67,6 +67,8 @@ plan-for p s d paint q f t bd g r =
       last-block = rw (e .last-block .number) (last-below paint g 1 (omega arith));
       first-page = rw (e .first-page .number) (first-below paint g 0 (omega arith));
       last-page = rw (e .last-page .number) (last-below paint g 0 (omega arith));
+      blocks = let z = g .some in rw (e .first-block .number, e .last-block .number) (omega arith);
+      pages = let z = g .some in rw (e .first-page .number, e .last-page .number) (omega arith);
     })
     (e .for-domain) (e .for-paint) (planned s d paint p f t bd g (r .free-middle) (r .free-leaf) (r .middles) (r .leaves) q e)
 

@@ -23,6 +23,7 @@ use words::ByteAddr;
 use words::PoolWord;
 use words::Rounded;
 
+mod ahead; // ahead.rt: which word comes next
 mod tidying; // tidying.rt: tables that are not wanted are given up
 
 pub use tidying::tidy;
@@ -263,7 +264,7 @@ fn store_turn(pool: &mut [u32], shape: Shape, plan: Plan, c: u32, k: usize, left
     }
 }
 
-// The words from `from` up to `to` in their phase `c`. A run that was cut stays so.
+// The words from `from` up to `to` in their phase `c`; those that the plan leaves as they are are passed over. A run that was cut stays so.
 fn store_phase(
     pool: &mut [u32],
     shape: Shape,
@@ -282,7 +283,7 @@ fn store_phase(
         return before;
     }
     let mut left = before.left;
-    let mut k = from;
+    let mut k = ahead::next_word(plan, from, to);
     while k < to {
         let p = store_turn(pool, shape, plan, c, k, left);
         let stop = p.cut;
@@ -290,7 +291,7 @@ fn store_phase(
             return p;
         }
         left = p.left;
-        k += 1;
+        k = ahead::next_word(plan, k + 1, to);
     }
     Progress { left, cut: false }
 }

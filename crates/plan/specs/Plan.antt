@@ -71,7 +71,7 @@ newWord q k =
 abbrev pub phaseOf : Shape → Plan → ℕ → ℕ → ℕ
 phaseOf s q k x = cond (newWord q k) 2 (cond (ltb k (firstLeaf (s .domains) (s .middles)) && isLead x) 1 3)
 
--- The numbers of a plan are in their ranges.
+-- The numbers of a plan are in their ranges, and the first edges come before the last.
 pub record PlanFits (q : Plan) : Type 0 where
   pub domain : q .domain < 16
   pub right : q .paint .right < 4
@@ -79,3 +79,5 @@ pub record PlanFits (q : Plan) : Type 0 where
   pub last-block : q .«last_block» .number < 1024
   pub first-page : q .«first_page» .number < 1048576
   pub last-page : q .«last_page» .number < 1048576
+  pub blocks : q .«first_block» .number ≤ q .«last_block» .number
+  pub pages : q .«first_page» .number ≤ q .«last_page» .number
