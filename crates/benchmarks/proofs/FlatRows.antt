@@ -1,0 +1,204 @@
+-- The rows in whose pools no table stands afterwards, and those of lookups: 1, 7, 8, 9 and 12.
+use Prim.Native.Nat.{ℕ, zero, suc, _+_, _*_, _/_, _%_, _≤_, _<_}
+use mathlib.Core.Path.{_≡_, refl, sym, ap, _∙_}
+use mathlib.Core.Logic.{_≢_}
+use mathlib.Core.Bool.{Bool, true, false, cond, _&&_}
+use mathlib.Core.List.{List}
+use native.Mathlib.Omega.{arith}
+use native.Mathlib.Decide.{ℕ-discrete, decLt}
+use lib.Dec.{eqb, leb, ltb}
+use lib.ListN.{length, set, replicate, length-set, length-replicate, getD-replicate, List·getD-eq-default}
+use lib.Seq.{getD-set-same, getD-set-other}
+use borrow.Author.Tests.{eq-eqb, ne-eqb, lt-ltb, le-ltb, le-leb}
+use Rattle.theory.specs.Pool.{words, entry, rightOf}
+use Rattle.theory.specs.Walk.{walk}
+use Rattle.theory.proofs.WalkLaws.{walk-stops, walk-refused}
+use Rattle.theory.specs.Finished.{Finished}
+use Rattle.words.specs.Rights.{rightAt, goodRights, pack}
+use Rattle.words.specs.Region.{rounded, regionOf, covered}
+use Rattle.words.specs.declared.Region.{Region}
+use Rattle.words.specs.declared.Rounded.the-variants.{Covers}
+use Rattle.words.proofs.RightsLaws.{eight-right, pack-digit}
+use Rattle.table.specs.declared.Shape.{Shape}
+use Rattle.table.specs.declared.Found.the-variants.{Right, Refused}
+use Rattle.table.specs.declared.Made.the-variants.{Done as Made}
+use Rattle.table.specs.Shape.{Fits}
+use Rattle.table.specs.Map.{addresses, formOf}
+use Rattle.table.specs.Fresh.{freshPool, MakesFresh}
+use Rattle.table.specs.Lookup.{lookupOf, foundAt}
+use Rattle.table.proofs.ShapeLaws.{fits-test}
+use Rattle.table.proofs.BlockLaws.{number-below}
+use Rattle.table.proofs.LookupLaws.{lookup-walks}
+use Rattle.table.proofs.FreshLaws.{makes-fresh, one-fresh}
+use Rattle.table.proofs.FreshWordLaws.{fresh-word, fresh-settled}
+use Rattle.table.proofs.WantLaws.{divided-wants, pool-rights}
+use Rattle.places.specs.Count.{wantMiddle, Room}
+use Rattle.places.proofs.CountLaws.{count-less}
+use Rattle.places.proofs.ChangedLaws.{changed-rights}
+use Rattle.targets.specs.declared.Paint.{Paint}
+use Rattle.targets.specs.Targets.{region}
+use Rattle.plan.specs.Aims.{aims}
+use Rattle.change.specs.declared.Answer.the-variants.{Done}
+use Rattle.change.specs.Cuts.{differing}
+use Rattle.change.specs.Answers.{paintOf, Asked, Changes, in-order, no-room}
+use Rattle.change.proofs.DifferLaws.{differing-set, differing-self}
+use Rattle.benchmarks.specs.Rows.{shape, Always, Gives, IsDone, IsRefused, AnyAddress, SetsOnePart, NoRoomForLess, SetsAll, ZeroWord}
+use Rattle.benchmarks.proofs.RowLaws.{always-change, finds, fresh-fits, in-range, covered-yes, covered-no, aims-fresh, change-done}
+use Rattle.benchmarks.proofs.FlatLaws.{flat-finished, flat-right}
+
+-- Row 1: the root word decides.
+module _ (M L : ℕ) (f : Fits (shape M L) (length (freshPool (shape M L)))) (a : ℕ) where
+  abbrev P : ℕ → ℕ
+  P = words (freshPool (shape M L))
+
+  abbrev k : ℕ
+  k = entry (formOf (shape M L)) 0 a
+
+  root-word : P k ≡ 2147483648
+  root-word = fresh-word (shape M L) k ∙ ap (λ t. cond t 2147483648 0) (lt-ltb k 1024 (omega arith))
+
+  pub fresh-lookup : lookupOf (freshPool (shape M L)) (shape M L) 0 a ≡ Right 0 2147483648 1
+  fresh-lookup =
+      lookup-walks (freshPool (shape M L)) (shape M L) 0 a (fits-test (shape M L) (length (freshPool (shape M L))) f) (omega arith)
+      ∙ ap (foundAt (formOf (shape M L)) P a) (walk-stops (formOf (shape M L)) P a 2 k (rw root-word refl) (rw root-word refl))
+      ∙ ap (λ w. Right (rightAt w (a / 524288 % 8)) w 1) root-word
+      ∙ ap (λ x. Right x 2147483648 1) (eight-right 0 (a / 524288 % 8) (omega arith) (number-below 2 a))
+
+pub row-1 : AnyAddress
+row-1 M L p f =
+    let s = shape M L in
+    let g = fresh-fits s (f .range) in
+    let made = makes-fresh s p (freshPool s) (fits-test s (length p) f) refl in
+    record {
+      some = (Made, freshPool s, made);
+      each = λ r q m.
+          let (e, z) = one-fresh m made in
+          rw (e, z) (refl, refl, λ a ba. finds (freshPool s) s a (Right 0 2147483648 1) (fresh-lookup M L g a));
+    }
+
+-- Row 12: the zero word leads to pool word 0, which is no place.
+pub row-12 : ZeroWord
+row-12 M L p f z =
+    let s = shape M L in
+    finds p s 0 (Refused 6)
+    (lookup-walks p s 0 0 (fits-test s (length p) f) (omega arith)
+    ∙ ap (foundAt (formOf s) (words p) 0) (walk-refused (formOf s) (words p) 0 2 0 (rw z refl)))
+
+-- Row 7.
+abbrev pool : List ℕ
+pool = freshPool (shape 0 0)
+
+abbrev one-part : List ℕ
+one-part = set pool 0 0x80000001
+
+pool-long : length pool ≡ 1024
+pool-long = fresh-fits (shape 0 0) (in-range 0 0 (omega arith) (omega arith)) .long
+
+part-first : words one-part 0 ≡ 0x80000001
+part-first = getD-set-same pool 0 0x80000001 0 (rw pool-long (omega arith))
+
+part-other : (j : ℕ) → j ≢ 0 → words one-part j ≡ cond (ltb j 1024) 0x80000000 0
+part-other j n = getD-set-other pool 0 j 0x80000001 0 n ∙ fresh-word (shape 0 0) j
+
+part-root : (j : ℕ) → j < 1024 → j ≢ 0 → words one-part j ≡ 0x80000000
+part-root j h n = part-other j n ∙ ap (λ t. cond t 0x80000000 0) (lt-ltb j 1024 h)
+
+part-flat : (j : ℕ) → j < 1024 → goodRights (words one-part j) ≡ true
+part-flat j h = elim (ℕ-discrete j 0) [ yes e ↦ rw e refl | no n ↦ rw (part-root j h n) refl ]
+
+-- The first of eight rights alone is 1.
+first-right : (i : ℕ) → i < 8 → rightAt 0x80000001 i ≡ cond (eqb i 0) 1 0
+unfolding pack
+first-right i h = pack-digit 32768 8 i (λ j. cond (eqb j 0) 1 0) (λ j b. small (eqb j 0)) h
+  where
+    small : (b : Bool) → cond b 1 0 < 4
+    small true = omega arith
+    small false = omega arith
+
+part-rights : (a : ℕ) → a < addresses → rightAt (words one-part (a / 4194304 % 1024)) (a / 524288 % 8) ≡ cond (covered (rounded 0 524288) a) 1 0
+part-rights a ba = elim (ℕ-discrete (a / 4194304 % 1024) 0) [
+  | yes e ↦ ap (λ i. rightAt (words one-part i) (a / 524288 % 8)) e ∙ ap (λ w. rightAt w (a / 524288 % 8)) part-first
+      ∙ first-right (a / 524288 % 8) (omega arith)
+      ∙ elim (decLt a 524288) [
+        | yes h ↦ ap (λ t. cond t 1 0) (eq-eqb (a / 524288 % 8) 0 (omega arith) ∙ sym (covered-yes (rounded 0 524288) a (omega arith) (omega arith)))
+        | no h ↦ ap (λ t. cond t 1 0) (ne-eqb (a / 524288 % 8) 0 (λ z. omega arith) ∙ sym (covered-no (rounded 0 524288) a (λ x y. omega arith)))
+      ]
+  | no n ↦ ap (λ w. rightAt w (a / 524288 % 8)) (part-root (a / 4194304 % 1024) (omega arith) n)
+      ∙ eight-right 0 (a / 524288 % 8) (omega arith) (omega arith)
+      ∙ ap (λ t. cond t 1 0) (sym (covered-no (rounded 0 524288) a (λ x y. omega arith)))
+]
+
+-- A flat pool that is finished, from the fresh one.
+module _ (g : Region) (r : ℕ) (Q : ℕ → ℕ) (flat : (j : ℕ) → j < 1024 → goodRights (Q j) ≡ true)
+    (rights : (a : ℕ) → a < addresses → rightAt (Q (a / 4194304 % 1024)) (a / 524288 % 8) ≡ cond (covered g a) r 0)
+    (rest : (j : ℕ) → 1024 ≤ j → Q j ≡ 0) where
+  finished : Finished (formOf (shape 0 0)) (words pool) (aims (shape 0 0) 0 (paintOf g r) (words pool)) Q
+  finished = flat-finished 1 0 0 Q flat (words pool) (aims (shape 0 0) 0 (paintOf g r) (words pool))
+      (λ d a bd ba. let z : 1024 * d + a / 4194304 % 1024 ≡ a / 4194304 % 1024 = omega arith in
+      flat-right 1 0 0 Q flat d a bd ∙ ap (λ i. rightAt (Q i) (a / 524288 % 8)) z ∙ rights a ba ∙ sym (aims-fresh (shape 0 0) (paintOf g r) d a bd bd))
+      (λ j h. rest j h ∙ sym (fresh-word (shape 0 0) j ∙ ap (λ t. cond t 2147483648 0) (le-ltb j 1024 h)))
+
+asked : (start len r : ℕ) (g : Region) → r ≤ 3 → regionOf start len ≡ Covers g → Asked pool (shape 0 0) 0 start len r g
+asked start len r g h e = record { fits = fresh-fits (shape 0 0) (in-range 0 0 (omega arith) (omega arith)); domain = omega arith; right = h; region = e }
+
+pub row-7 : SetsOnePart
+unfolding regionOf
+row-7 n h = always-change (λ a q. IsDone 1 a × (words q 0 ≡ 0x80000001))
+    (change-done pool (shape 0 0) 0 0 524288 1 n (rounded 0 524288) (asked 0 524288 1 (rounded 0 524288) (omega arith) refl) (fresh-settled (shape 0 0)) one-part 1
+    (finished (rounded 0 524288) 1 (words one-part) part-flat part-rights (λ j b. part-other j (λ z. omega arith) ∙ ap (λ t. cond t 0x80000000 0) (le-ltb j 1024 b)))
+    (length-set pool 0 0x80000001)
+    (differing-set pool pool 0 0x80000001 refl (rw pool-long (omega arith)) refl other ∙ ap suc (differing-self pool))
+    h)
+    (refl, part-first)
+  where
+    other : 0x80000001 ≢ words pool 0
+    other z = let y = fresh-word (shape 0 0) 0 in omega arith
+
+-- Row 9.
+abbrev all-read : List ℕ
+all-read = replicate 1024 0x80005555
+
+read-word : (j : ℕ) → j < 1024 → words all-read j ≡ 0x80005555
+read-word j h = getD-replicate 1024 j 0x80005555 0 h
+
+read-past : (j : ℕ) → 1024 ≤ j → words all-read j ≡ 0
+read-past j h =
+    let long : length (replicate {A = ℕ} 1024 0x80005555) ≤ j = rw (length-replicate {A = ℕ} 1024 0x80005555) h in
+    List·getD-eq-default (replicate 1024 0x80005555) 0 long
+
+read-rights : (a : ℕ) → a < addresses → rightAt (words all-read (a / 4194304 % 1024)) (a / 524288 % 8) ≡ cond (covered (rounded 0 4294967295) a) 1 0
+read-rights a ba =
+    ap (λ w. rightAt w (a / 524288 % 8)) (read-word (a / 4194304 % 1024) (omega arith)) ∙ eight-right 1 (a / 524288 % 8) (omega arith) (omega arith)
+    ∙ ap (λ t. cond t 1 0) (sym (covered-yes (rounded 0 4294967295) a (omega arith) (omega arith)))
+
+pub row-9 : SetsAll
+unfolding regionOf differing
+row-9 n h = always-change (λ a q. IsDone 1024 a × ((i : ℕ) → i < 1024 → words q i ≡ 0x80005555))
+    (change-done pool (shape 0 0) 0 0 4294967295 1 n (rounded 0 4294967295) (asked 0 4294967295 1 (rounded 0 4294967295) (omega arith) refl) (fresh-settled (shape 0 0)) all-read 1024
+    (finished (rounded 0 4294967295) 1 (words all-read) (λ j b. rw (read-word j b) refl) read-rights read-past)
+    refl refl h)
+    (refl, read-word)
+
+-- Row 8: the first 512 KB have two rights, and there is no middle place.
+abbrev less : Paint
+less = paintOf (rounded 0 524284) 1
+
+no-room-there : Room 1 0 0 (aims (shape 0 0) 0 less (words pool)) → ⊥
+no-room-there room =
+    let T = aims (shape 0 0) 0 less (words pool) in
+    let S = changed-rights (rightOf (formOf (shape 0 0)) (words pool)) 0 (region less) 1 0 (omega arith) (pool-rights 1 0 0 (words pool) 0) in
+    let here : T 0 0 ≡ 1 = aims-fresh (shape 0 0) less 0 0 (omega arith) (omega arith) in
+    let there : T 0 524284 ≡ 0 = aims-fresh (shape 0 0) less 0 524284 (omega arith) (omega arith) in
+    let w : wantMiddle T 0 ≡ true = divided-wants (T 0) 2 0 S (0, 524284, omega arith, omega arith, refl, refl, λ z. apart (sym here ∙ z ∙ there)) in
+    let x = count-less (wantMiddle T) 0 1024 (omega arith) w in
+    let y = room .middles in
+    omega arith
+  where
+    apart : _≡_ {A = ℕ} 1 0 → ⊥
+    apart e = omega arith
+
+pub row-8 : NoRoomForLess
+unfolding regionOf
+row-8 n = always-change (λ a q. IsRefused 8 a × (q ≡ pool))
+    (in-order (rounded 0 524284) (asked 0 524284 1 (rounded 0 524284) (omega arith) refl) (no-room (fresh-settled (shape 0 0)) no-room-there))
+    (refl, refl)

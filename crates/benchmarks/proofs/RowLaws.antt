@@ -1,0 +1,83 @@
+-- What the rows share: one outcome that is as said settles every outcome; fresh pools; and what a change of a fresh pool aims at.
+use Prim.Native.Nat.{ℕ, _+_, _*_, _/_, _≤_, _<_}
+use mathlib.Core.Path.{_≡_, refl, sym, ap, _∙_}
+use mathlib.Core.Logic.{⊎-elim}
+use mathlib.Core.Bool.{Bool, true, false, cond, _&&_}
+use mathlib.Core.List.{List}
+use native.Mathlib.Omega.{arith}
+use lib.Dec.{eqb}
+use lib.ListN.{length, length-append, length-replicate}
+use borrow.Author.Tests.{eq-eqb, le-leb, lt-ltb, leb-true, ltb-true}
+use Rattle.theory.specs.Pool.{words, rightOf}
+use Rattle.theory.specs.Settled.{Settled}
+use Rattle.theory.specs.Finished.{Finished}
+use Rattle.theory.proofs.RightLaws.{by-cases}
+use Rattle.words.specs.Region.{regionOf, covered}
+use Rattle.words.specs.declared.Region.{Region}
+use Rattle.words.specs.declared.Rounded.the-variants.{Covers}
+use Rattle.table.specs.declared.Shape.{Shape}
+use Rattle.table.specs.declared.Found.{Found}
+use Rattle.table.specs.Shape.{InRange, Fits, poolLength, maxMiddles, maxLeaves}
+use Rattle.table.specs.Map.{addresses, formOf}
+use Rattle.table.specs.Fresh.{freshPool}
+use Rattle.table.specs.Lookup.{Numbers, numbers, lookupOf}
+use Rattle.table.proofs.ShapeLaws.{and-both}
+use Rattle.table.proofs.LookupLaws.{looks-up}
+use Rattle.table.proofs.FreshWordLaws.{fresh-right, fresh-settled}
+use Rattle.targets.specs.declared.Paint.{Paint}
+use Rattle.targets.specs.Targets.{region}
+use Rattle.plan.specs.Aims.{aims}
+use Rattle.change.specs.declared.Answer.{Answer}
+use Rattle.change.specs.declared.Answer.the-variants.{Done}
+use Rattle.change.specs.Cuts.{differing}
+use Rattle.change.specs.Answers.{paintOf, Asked, Changes, Tidies, in-order, done}
+use Rattle.change.proofs.ChangesLaws.{one-change}
+use Rattle.change.proofs.TidiesLaws.{one-tidy}
+use Rattle.benchmarks.specs.Rows.{shape, Always, Finds, Sets}
+
+-- One outcome of a change, or of a tidying, that is as said.
+pub always-change : {p : List ℕ} {s : Shape} {d start len r n : ℕ} {a : Answer} {q : List ℕ} (Is : Answer → List ℕ → Type 0)
+    → Changes p s d start len r n a q → Is a q → Always (Changes p s d start len r n) Is
+always-change Is c x = record { some = (_, _, c); each = λ b y z. let (e, f) = one-change z c in rw (e, f) x }
+
+pub always-tidy : {p : List ℕ} {s : Shape} {n : ℕ} {a : Answer} {q : List ℕ} (Is : Answer → List ℕ → Type 0)
+    → Tidies p s n a q → Is a q → Always (Tidies p s n) Is
+always-tidy Is c x = record { some = (_, _, c); each = λ b y z. let (e, f) = one-tidy z c in rw (e, f) x }
+
+-- What a lookup answers by its definition.
+pub finds : (p : List ℕ) (s : Shape) (a : ℕ) (r : Found) → lookupOf p s 0 a ≡ r → Finds p s a (numbers r)
+finds p s a r e = record { some = (r, looks-up p s 0 a r (sym e)); each = λ t l. ap numbers (l .answer ∙ e) }
+
+-- A fresh pool has its length.
+fresh-long : (s : Shape) → length (freshPool s) ≡ poolLength (s .domains) (s .middles) (s .leaves)
+fresh-long s = simp (length-append, length-replicate) (omega arith)
+
+pub fresh-fits : (s : Shape) → InRange (s .domains) (s .middles) (s .leaves) → Fits s (length (freshPool s))
+fresh-fits s r = record { range = r; long = fresh-long s }
+
+pub in-range : (M L : ℕ) → M ≤ maxMiddles → L ≤ maxLeaves → InRange 1 M L
+in-range M L m l = record { some-domain = omega arith; domains = omega arith; middles = m; leaves = l }
+
+-- Whether an address is covered.
+pub covered-yes : (g : Region) (a : ℕ) → g .lo ≤ a / 4 → a / 4 < g .hi → covered g a ≡ true
+covered-yes g a x y = rw (le-leb (g .lo) (a / 4) x, lt-ltb (a / 4) (g .hi) y) refl
+
+pub covered-no : (g : Region) (a : ℕ) → (g .lo ≤ a / 4 → a / 4 < g .hi → ⊥) → covered g a ≡ false
+covered-no g a f = by-cases (covered g a)
+    (λ e. let (x, y) = and-both _ _ e in absurd (f (leb-true (g .lo) (a / 4) x) (ltb-true (a / 4) (g .hi) y)))
+    (λ e. e)
+
+-- What a change of a fresh pool aims at: the right on the covered words, and none elsewhere.
+pub aims-fresh : (s : Shape) (paint : Paint) (d a : ℕ) → d < s .domains → d < 1
+    → aims s 0 paint (words (freshPool s)) d a ≡ cond (covered (region paint) a) (paint .right) 0
+aims-fresh s paint d a bd lo =
+    ap (λ x. cond (x && covered (region paint) a) (paint .right) (rightOf (formOf s) (words (freshPool s)) d a)) (eq-eqb d 0 (omega arith))
+    ∙ ap (λ x. cond (covered (region paint) a) (paint .right) x) (fresh-right s d a bd)
+
+-- The finished pool, and an allowance that suffices.
+module _ (p : List ℕ) (s : Shape) (d start len r n : ℕ) (g : Region) (asked : Asked p s d start len r g) (settled : Settled (formOf s) (words p)) where
+  pub change-done : (q : List ℕ) (k : ℕ) → Finished (formOf s) (words p) (aims s d (paintOf g r) (words p)) (words q) → length q ≡ length p
+      → differing p q ≡ k → k ≤ n → Changes p s d start len r n (Done k) q
+  change-done q k f l e h =
+      let c : Changes p s d start len r n (Done (differing p q)) q = in-order g asked (done settled q (record { finished = f; long = l; enough = rw e h })) in
+      rw e at c
