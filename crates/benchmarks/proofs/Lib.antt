@@ -1,3 +1,4 @@
 pub mod RowLaws
 pub mod FlatLaws
 pub mod FlatRows
+pub mod PageLaws
