@@ -2,3 +2,4 @@ pub mod RowLaws
 pub mod FlatLaws
 pub mod FlatRows
 pub mod PageLaws
+pub mod PageRows

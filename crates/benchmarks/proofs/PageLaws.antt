@@ -70,6 +70,13 @@ module _ (low a0 w : ℕ) where
   unfolding after
   elsewhere j x y z = rw (ne-eqb j (index 2 a0) x, ne-eqb j (1024 + index 1 a0) y, ne-eqb j (2048 + index 0 a0) z)
 
+-- Past the pool there is nothing.
+pub after-past : {L low : ℕ} {R : ℕ → ℕ} {a0 c0 w : ℕ} → OnePage L low R a0 c0 w → (j : ℕ) → 2048 + 64 * L ≤ j → after low a0 w j ≡ 0
+after-past {L} {low} {R} {a0} {c0} {w} o j h = elim (ℕ-discrete j (2048 + index 0 a0)) [
+  | yes e ↦ rw e (at-leaf low a0 w ∙ ap (λ t. cond t w 0) (ne-eqb low 0 (λ z. let k = o .room z in omega arith)))
+  | no e ↦ elsewhere low a0 w j (λ t. omega arith) (λ t. omega arith) e ∙ ap (λ t. cond t 0x80000000 0) (le-ltb j 2048 (omega arith))
+]
+
 -- An address is known by its block one height up and its index.
 from-page : (a : ℕ) → a / 64 ≡ a / 4096 * 64 + a / 64 % 64
 from-page a = omega arith

@@ -1,17 +1,21 @@
 -- What the rows share: one outcome that is as said settles every outcome; fresh pools; and what a change of a fresh pool aims at.
-use Prim.Native.Nat.{ℕ, _+_, _*_, _/_, _≤_, _<_}
+use Prim.Native.Nat.{ℕ, zero, suc, _+_, _*_, _/_, _≤_, _<_}
 use mathlib.Core.Path.{_≡_, refl, sym, ap, _∙_}
 use mathlib.Core.Logic.{⊎-elim}
 use mathlib.Core.Bool.{Bool, true, false, cond, _&&_}
-use mathlib.Core.List.{List}
+use mathlib.Core.List.{List, [], _∷_}
 use native.Mathlib.Omega.{arith}
+use native.Mathlib.Nat.{le-of-suc-le-suc}
+use native.Mathlib.Decide.{decLt}
 use lib.Dec.{eqb}
-use lib.ListN.{length, length-append, length-replicate}
+use lib.ListN.{length, length-append, length-replicate, List·getD-eq-default}
+use lib.Seq.{ext-getD}
 use borrow.Author.Tests.{eq-eqb, le-leb, lt-ltb, leb-true, ltb-true}
 use Rattle.theory.specs.Pool.{words, rightOf}
 use Rattle.theory.specs.Settled.{Settled}
 use Rattle.theory.specs.Finished.{Finished}
 use Rattle.theory.proofs.RightLaws.{by-cases}
+use Rattle.theory.proofs.FinishedLaws.{one-finished}
 use Rattle.words.specs.Region.{regionOf, covered}
 use Rattle.words.specs.declared.Region.{Region}
 use Rattle.words.specs.declared.Rounded.the-variants.{Covers}
@@ -22,6 +26,8 @@ use Rattle.table.specs.Map.{addresses, formOf}
 use Rattle.table.specs.Fresh.{freshPool}
 use Rattle.table.specs.Lookup.{Numbers, numbers, lookupOf}
 use Rattle.table.proofs.ShapeLaws.{and-both}
+use Rattle.table.proofs.FormLaws.{lawful, exact}
+use Rattle.table.proofs.WantLaws.{wanting}
 use Rattle.table.proofs.LookupLaws.{looks-up}
 use Rattle.table.proofs.FreshWordLaws.{fresh-right, fresh-settled}
 use Rattle.targets.specs.declared.Paint.{Paint}
@@ -30,7 +36,10 @@ use Rattle.plan.specs.Aims.{aims}
 use Rattle.change.specs.declared.Answer.{Answer}
 use Rattle.change.specs.declared.Answer.the-variants.{Done}
 use Rattle.change.specs.Cuts.{differing}
-use Rattle.change.specs.Answers.{paintOf, Asked, Changes, Tidies, in-order, done}
+use Rattle.change.specs.Answers.{paintOf, IsDone, IsCut, Asked, Changes, Tidies, in-order, done}
+use Rattle.places.proofs.Exists.{finished-fits}
+use Rattle.change.proofs.TidyGoalLaws.{fits-goal}
+use Rattle.change.proofs.EndLaws.{goal-ends}
 use Rattle.change.proofs.ChangesLaws.{one-change}
 use Rattle.change.proofs.TidiesLaws.{one-tidy}
 use Rattle.benchmarks.specs.Rows.{shape, Always, Finds, Sets}
@@ -43,6 +52,29 @@ always-change Is c x = record { some = (_, _, c); each = λ b y z. let (e, f) = 
 pub always-tidy : {p : List ℕ} {s : Shape} {n : ℕ} {a : Answer} {q : List ℕ} (Is : Answer → List ℕ → Type 0)
     → Tidies p s n a q → Is a q → Always (Tidies p s n) Is
 always-tidy Is c x = record { some = (_, _, c); each = λ b y z. let (e, f) = one-tidy z c in rw (e, f) x }
+
+-- The words `f k`, `f (k + 1)`, .. as a list.
+unfoldable pub listed : (ℕ → ℕ) → ℕ → ℕ → List ℕ
+listed f k zero = []
+listed f k (suc n) = f k ∷ listed f (suc k) n
+
+pub listed-long : (f : ℕ → ℕ) (k n : ℕ) → length (listed f k n) ≡ n
+unfolding listed
+listed-long f k zero = refl
+listed-long f k (suc n) = ap suc (listed-long f (suc k) n)
+
+listed-word : (f : ℕ → ℕ) (k n j : ℕ) → j < n → words (listed f k n) j ≡ f (k + j)
+unfolding listed
+listed-word f k zero j h = absurd (omega arith)
+listed-word f k (suc n) zero h = ap f (omega arith)
+listed-word f k (suc n) (suc j) h = listed-word f (suc k) n j (le-of-suc-le-suc h) ∙ ap f (omega arith)
+
+-- A list of words that are 0 from its end on.
+pub listed-words : (f : ℕ → ℕ) (n : ℕ) → ((j : ℕ) → n ≤ j → f j ≡ 0) → (j : ℕ) → words (listed f 0 n) j ≡ f j
+listed-words f n z j = elim (decLt j n) [
+  | yes h ↦ listed-word f 0 n j h ∙ ap f (omega arith)
+  | no h ↦ List·getD-eq-default (listed f 0 n) 0 (rw (listed-long f 0 n) (omega arith)) ∙ sym (z j (omega arith))
+]
 
 -- What a lookup answers by its definition.
 pub finds : (p : List ℕ) (s : Shape) (a : ℕ) (r : Found) → lookupOf p s 0 a ≡ r → Finds p s a (numbers r)
@@ -81,3 +113,19 @@ module _ (p : List ℕ) (s : Shape) (d start len r n : ℕ) (g : Region) (asked 
   change-done q k f l e h =
       let c : Changes p s d start len r n (Done (differing p q)) q = in-order g asked (done settled q (record { finished = f; long = l; enough = rw e h })) in
       rw e at c
+
+  -- With a smaller allowance it is cut.
+  pub change-cut : (q : List ℕ) → Finished (formOf s) (words p) (aims s d (paintOf g r) (words p)) (words q) → length q ≡ length p
+      → n < differing p q → (x : List ℕ) × IsCut s d (paintOf g r) p n x
+  change-cut q f l h =
+      let room = finished-fits (s .domains) (s .middles) (s .leaves) f in
+      let low = asked .right in
+      let (Q, kept, goal) = fits-goal s d (paintOf g r) p (omega arith) (asked .fits) (settled .sound) room in
+      ⊎-elim (λ (y, z). absurd (too-many y z)) (λ c. c) (goal-ends s d (paintOf g r) p Q kept n goal)
+    where
+      too-many : (y : List ℕ) → IsDone s d (paintOf g r) p n y → ⊥
+      too-many y z =
+          let e : y ≡ q = ext-getD 0 y q (z .long ∙ sym l)
+          (λ j i. one-finished (formOf s) (lawful _ _ _) (wanting _ _ _) (words p) (aims s d (paintOf g r) (words p)) (exact _ _ _) (z .finished) f j) in
+          let k = rw e at (z .enough) in
+          omega arith

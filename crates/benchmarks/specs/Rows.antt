@@ -3,8 +3,8 @@
 use Prim.Native.Nat.{ℕ, _+_, _*_, _≤_, _<_}
 use mathlib.Core.Path.{_≡_}
 use mathlib.Core.Logic.{_⊎_}
-use mathlib.Core.List.{List, _∷_, _++_}
-use lib.ListN.{length, replicate}
+use mathlib.Core.List.{List, _++_}
+use lib.ListN.{length, replicate, set}
 use Rattle.theory.specs.Pool.{words, SoundPool}
 use Rattle.words.specs.declared.Region.{Region}
 use Rattle.table.specs.declared.Shape.{Shape}
@@ -99,9 +99,9 @@ LastWord = (r n : ℕ) → r ≤ 3
     → Always (Sets 1 1 0xFFFFFFFC 4 r n) (λ a q. ((k : ℕ) × IsDone k a) ⊎ (IsCut a × (n < 1026)))
     × Always (Sets 1 1 0xFFFFFFFC 5 r n) (λ a q. IsRefused 5 a × (q ≡ freshPool (shape 1 1)))
 
--- M 1, and root entry 0 leads to a middle table of 1,024 words 0x80000000.
+-- M 1: every word of the root and of the middle place is 0x80000000, but root entry 0, which leads to that place.
 abbrev pub needless : ℕ → List ℕ
-needless L = firstMiddle 1 ∷ (replicate 2047 0x80000000 ++ replicate (64 * L) 0)
+needless L = set (replicate 2048 0x80000000 ++ replicate (64 * L) 0) 0 (firstMiddle 1)
 
 -- 11. M 1, root entry 0 leading to a middle table of 1,024 words 0x80000000: a change in order up to 6 is refused 7, tidying makes one store.
 -- For every L.

@@ -19,3 +19,4 @@ pub mod TidyEndLaws
 pub mod TidiesLaws
 pub mod ChangesLaws
 pub mod Witness
+pub mod EndLaws
