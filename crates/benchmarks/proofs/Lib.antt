@@ -2,4 +2,5 @@ pub mod RowLaws
 pub mod FlatLaws
 pub mod FlatRows
 pub mod PageLaws
+pub mod PagePools
 pub mod PageRows

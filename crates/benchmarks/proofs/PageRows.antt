@@ -5,62 +5,78 @@ use mathlib.Core.Logic.{_≢_, _⊎_, inl, inr, ⊎-elim}
 use mathlib.Core.Bool.{Bool, true, false, cond, true≢false}
 use mathlib.Core.List.{List}
 use native.Mathlib.Omega.{arith}
-use lib.ListN.{length}
+use lib.ListN.{length, replicate}
 use Rattle.theory.specs.Pool.{words, rightOf}
+use Rattle.theory.specs.Walk.{walk}
 use Rattle.theory.specs.Finished.{Finished}
-use Rattle.theory.proofs.RightLaws.{by-cases}
-use Rattle.theory.proofs.FinishedLaws.{finished-same, finished-words}
 use Rattle.words.specs.Rights.{pack}
 use Rattle.words.specs.Region.{rounded, regionOf, covered}
 use Rattle.words.specs.declared.Region.{Region}
-use Rattle.words.specs.declared.Rounded.the-variants.{Covers}
-use Rattle.table.specs.Shape.{maxLeaves}
-use Rattle.table.specs.Map.{addresses, block, part, formOf}
-use Rattle.table.specs.Wants.{any, wantsOf, saidOf}
+use Rattle.table.specs.declared.Found.the-variants.{Right}
+use Rattle.table.specs.Wants.{any}
 use Rattle.table.specs.Fresh.{freshPool}
-use Rattle.table.proofs.WantLaws.{wants-leaf, wants-says, none-rights, painted-rights}
-use Rattle.table.proofs.FreshWordLaws.{fresh-settled}
-use Rattle.plan.specs.Aims.{aims}
+use Rattle.table.specs.Map.{addresses, formOf}
+use Rattle.table.proofs.WantLaws.{wants-leaf}
+use Rattle.change.specs.declared.Answer.the-variants.{Done}
 use Rattle.change.specs.Cuts.{differing}
-use Rattle.change.specs.Answers.{paintOf, Asked, Changes}
-use Rattle.benchmarks.specs.Rows.{shape, Always, IsDone, Sets, SetsOneLeaf, SetsOneMiddle}
-use Rattle.benchmarks.proofs.RowLaws.{always-change, fresh-fits, in-range, covered-yes, covered-no, aims-fresh, change-done, listed, listed-long, listed-words}
-use Rattle.benchmarks.proofs.PageLaws.{OnePage, after, after-past, page-finished}
+use Rattle.benchmarks.specs.Rows.{shape, Always, IsDone, Gives, Sets, SetsOneLeaf, LooksAround, SetsOneMiddle}
+use Rattle.benchmarks.proofs.RowLaws.{always-change, finds, listed, covered-range}
+use Rattle.benchmarks.proofs.PageLaws.{OnePage, after}
+use Rattle.benchmarks.proofs.PagePools.{painted, one-page, pagePool, page-done}
 
--- Painting a region of one entry.
-module _ (L low : ℕ) (g : Region) (r a0 c0 : ℕ) where
-  -- The new right on the covered words, and none elsewhere.
-  abbrev pub painted : ℕ → ℕ
-  painted a = cond (covered g a) r 0
+-- Row 2: a leaf whose first entry has the right.
+abbrev in-leaf : Region
+in-leaf = rounded 0x1000 64
 
-  pub one-page : low < 2 → (low ≡ 0 → 1 ≤ L) → a0 < addresses → c0 < addresses → r ≢ 0 → r < 4
-      → ((b : ℕ) → covered g b ≡ true → b / block low ≡ a0 / block low) → covered g a0 ≡ true → covered g c0 ≡ false
-      → a0 / part (suc low) ≡ c0 / part (suc low) → wantsOf painted low a0 ≡ false → OnePage L low painted a0 c0 (saidOf painted low a0)
-  one-page lo room ba bc some small near here there part no-table = record {
-    lowest = lo;
-    room = room;
-    inside = ba;
-    beside = bc;
-    quiet = λ b bb n. by-cases (covered g b) (λ e. absurd (n (near b e))) (λ e. ap (λ t. cond t r 0) e);
-    said = wants-says 1 1 L painted low a0 (painted-rights g r (λ x. 0) small none-rights) (omega arith) ba no-table;
-    together = part;
-    differ = λ e. some (sym (ap (λ t. cond t r 0) here) ∙ e ∙ ap (λ t. cond t r 0) there);
-  }
+leaf-page : OnePage 1 0 (painted in-leaf 2) 0x1000 0x1040 0xAAAAAAAA
+unfolding pack
+leaf-page = one-page 1 0 in-leaf 2 0x1000 0x1040 (omega arith) (λ z. omega arith) (omega arith) (omega arith) (λ z. omega arith) (omega arith)
+    (λ b e. let r = covered-range in-leaf b e in omega arith) refl refl refl (wants-leaf (painted in-leaf 2) 0x1000)
 
-  -- The finished pool as a list.
-  module _ (w : ℕ) (o : OnePage L low painted a0 c0 w) where
-    abbrev pub pool : List ℕ
-    pool = listed (after low a0 w) 0 (2048 + 64 * L)
+abbrev leaf-pool : List ℕ
+leaf-pool = pagePool 1 0 0x1000 0xAAAAAAAA
 
-    pub pool-word : (j : ℕ) → words pool j ≡ after low a0 w j
-    pool-word = listed-words (after low a0 w) (2048 + 64 * L) (λ j h. after-past o j h)
+leaf-stores : differing (freshPool (shape 1 1)) leaf-pool ≡ 1026
+unfolding differing listed after
+leaf-stores = refl
 
-    pub pool-finished : Finished (formOf (shape 1 L)) (words (freshPool (shape 1 L))) (aims (shape 1 L) 0 (paintOf g r) (words (freshPool (shape 1 L)))) (words pool)
-    pool-finished = finished-words (formOf (shape 1 L)) _ _ (λ j. sym (pool-word j))
-        (finished-same (formOf (shape 1 L)) _ (λ d. painted) _ (λ d a bd ba. sym (aims-fresh (shape 1 L) (paintOf g r) d a bd bd)) (page-finished o))
+leaf-set : (n : ℕ) → 1026 ≤ n → Sets 1 1 0x1000 64 2 n (Done 1026) leaf-pool
+unfolding regionOf
+leaf-set n h = page-done in-leaf 2 leaf-page (omega arith) 0x1000 64 (omega arith) refl n 1026 leaf-stores h
 
-    -- Setting a fresh pool so, with an allowance that suffices.
-    pub pool-set : (start len n k : ℕ) → L ≤ maxLeaves → r ≤ 3 → regionOf start len ≡ Covers g → differing (freshPool (shape 1 L)) pool ≡ k → k ≤ n
-        → Asked (freshPool (shape 1 L)) (shape 1 L) 0 start len r g
-    pool-set start len n k hl hr e d h =
-        record { fits = fresh-fits (shape 1 L) (in-range 1 L (omega arith) hl); domain = omega arith; right = hr; region = e }
+pub row-2 : SetsOneLeaf
+unfolding listed after
+row-2 n h = always-change (λ a q. IsDone 1026 a × (words q 2048 ≡ 0xAAAAAAAA)) (leaf-set n h) (refl, refl)
+
+-- Row 3.
+leaf-looks : Gives leaf-pool (shape 1 1) 0x103F 2 0xAAAAAAAA 3 × Gives leaf-pool (shape 1 1) 0x1040 0 0 3
+    × Gives leaf-pool (shape 1 1) 0x2000 0 0x80000000 2 × Gives leaf-pool (shape 1 1) 0x400000 0 0x80000000 1
+unfolding listed after walk
+leaf-looks = (
+  finds leaf-pool (shape 1 1) 0x103F (Right 2 0xAAAAAAAA 3) refl,
+  finds leaf-pool (shape 1 1) 0x1040 (Right 0 0 3) refl,
+  finds leaf-pool (shape 1 1) 0x2000 (Right 0 0x80000000 2) refl,
+  finds leaf-pool (shape 1 1) 0x400000 (Right 0 0x80000000 1) refl,
+)
+
+pub row-3 : LooksAround
+row-3 n h = always-change (λ a q. Gives q (shape 1 1) 0x103F 2 0xAAAAAAAA 3 × Gives q (shape 1 1) 0x1040 0 0 3
+    × Gives q (shape 1 1) 0x2000 0 0x80000000 2 × Gives q (shape 1 1) 0x400000 0 0x80000000 1) (leaf-set n h) leaf-looks
+
+-- Row 6: a middle table alone.
+abbrev in-middle : Region
+in-middle = rounded 0x1000 512
+
+middle-page : OnePage 0 1 (painted in-middle 2) 0x1000 0x1200 0x80000002
+unfolding pack any
+middle-page = one-page 0 1 in-middle 2 0x1000 0x1200 (omega arith) (λ z. omega arith) (omega arith) (omega arith) (λ z. omega arith) (omega arith)
+    (λ b e. let r = covered-range in-middle b e in omega arith) refl refl refl refl
+
+middle-stores : differing (freshPool (shape 1 0)) (pagePool 0 1 0x1000 0x80000002) ≡ 1025
+unfolding differing listed after
+middle-stores = refl
+
+pub row-6 : SetsOneMiddle
+unfolding listed after regionOf
+row-6 n h = always-change (λ a q. IsDone 1025 a × (words q 1025 ≡ 0x80000002))
+    (page-done in-middle 2 middle-page (omega arith) 0x1000 512 (omega arith) refl n 1025 middle-stores h) (refl, refl)

@@ -7,7 +7,7 @@ use mathlib.Core.List.{List, [], _∷_}
 use native.Mathlib.Omega.{arith}
 use native.Mathlib.Nat.{le-of-suc-le-suc}
 use native.Mathlib.Decide.{decLt}
-use lib.Dec.{eqb}
+use lib.Dec.{eqb, leb, ltb}
 use lib.ListN.{length, length-append, length-replicate, List·getD-eq-default}
 use lib.Seq.{ext-getD}
 use borrow.Author.Tests.{eq-eqb, le-leb, lt-ltb, leb-true, ltb-true}
@@ -94,10 +94,11 @@ in-range M L m l = record { some-domain = omega arith; domains = omega arith; mi
 pub covered-yes : (g : Region) (a : ℕ) → g .lo ≤ a / 4 → a / 4 < g .hi → covered g a ≡ true
 covered-yes g a x y = rw (le-leb (g .lo) (a / 4) x, lt-ltb (a / 4) (g .hi) y) refl
 
+pub covered-range : (g : Region) (a : ℕ) → covered g a ≡ true → (g .lo ≤ a / 4) × (a / 4 < g .hi)
+covered-range g a e = let (x, y) = and-both (leb (g .lo) (a / 4)) (ltb (a / 4) (g .hi)) e in (leb-true (g .lo) (a / 4) x, ltb-true (a / 4) (g .hi) y)
+
 pub covered-no : (g : Region) (a : ℕ) → (g .lo ≤ a / 4 → a / 4 < g .hi → ⊥) → covered g a ≡ false
-covered-no g a f = by-cases (covered g a)
-    (λ e. let (x, y) = and-both _ _ e in absurd (f (leb-true (g .lo) (a / 4) x) (ltb-true (a / 4) (g .hi) y)))
-    (λ e. e)
+covered-no g a f = by-cases (covered g a) (λ e. let (x, y) = covered-range g a e in absurd (f x y)) (λ e. e)
 
 -- What a change of a fresh pool aims at: the right on the covered words, and none elsewhere.
 pub aims-fresh : (s : Shape) (paint : Paint) (d a : ℕ) → d < s .domains → d < 1
