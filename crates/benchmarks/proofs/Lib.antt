@@ -4,3 +4,4 @@ pub mod FlatRows
 pub mod PageLaws
 pub mod PagePools
 pub mod PageRows
+pub mod CutRows

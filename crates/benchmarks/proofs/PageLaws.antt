@@ -70,6 +70,11 @@ module _ (low a0 w : ℕ) where
   unfolding after
   elsewhere j x y z = rw (ne-eqb j (index 2 a0) x, ne-eqb j (1024 + index 1 a0) y, ne-eqb j (2048 + index 0 a0) z)
 
+-- The other root words say none.
+pub after-root : (low a0 w j : ℕ) → j < 1024 → j ≢ index 2 a0 → after low a0 w j ≡ 0x80000000
+after-root low a0 w j h e =
+    elsewhere low a0 w j e (λ t. omega arith) (λ t. omega arith) ∙ ap (λ t. cond t 0x80000000 0) (lt-ltb j 2048 (omega arith))
+
 -- Past the pool there is nothing.
 pub after-past : {L low : ℕ} {R : ℕ → ℕ} {a0 c0 w : ℕ} → OnePage L low R a0 c0 w → (j : ℕ) → 2048 + 64 * L ≤ j → after low a0 w j ≡ 0
 after-past {L} {low} {R} {a0} {c0} {w} o j h = elim (ℕ-discrete j (2048 + index 0 a0)) [
@@ -281,8 +286,7 @@ module _ {L low : ℕ} {R : ℕ → ℕ} {a0 c0 w : ℕ} (o : OnePage L low R a0
   unchanged j un = elim (decLt j 1024) [
     | yes x ↦ elim (ℕ-discrete j (index 2 a0)) [
       | yes e ↦ absurd (un 2 0 a0 (omega arith) (o .inside) (omega arith) (λ i lo hi. absurd (omega arith)) (omega arith))
-      | no e ↦ elsewhere low a0 w j e (λ t. omega arith) (λ t. omega arith) ∙ ap (λ t. cond t 0x80000000 0) (lt-ltb j 2048 (omega arith))
-          ∙ sym (fresh-low j x)
+      | no e ↦ after-root low a0 w j x e ∙ sym (fresh-low j x)
     ]
     | no x ↦ elim (decLt j 2048) [
       | yes y ↦ absurd (un 1 0 (a0 / 4194304 * 4194304 + 4096 * (j - 1024)) (omega arith) (let k = o .inside in omega arith) (omega arith) (in-block (omega arith) y) (omega arith))

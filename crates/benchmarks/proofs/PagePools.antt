@@ -63,14 +63,14 @@ module _ {L low : ℕ} (g : Region) (r : ℕ) {a0 c0 w : ℕ} (o : OnePage L low
       (finished-same (formOf (shape 1 L)) _ (λ d. painted g r) _ (λ d a bd ba. sym (aims-fresh (shape 1 L) (paintOf g r) d a bd bd)) (page-finished o))
 
   module _ (start len : ℕ) (hr : r ≤ 3) (e : regionOf start len ≡ Covers g) where
-    asked : Asked (freshPool (shape 1 L)) (shape 1 L) 0 start len r g
-    asked = record { fits = fresh-fits (shape 1 L) (in-range 1 L (omega arith) hl); domain = omega arith; right = hr; region = e }
+    pub page-asked : Asked (freshPool (shape 1 L)) (shape 1 L) 0 start len r g
+    page-asked = record { fits = fresh-fits (shape 1 L) (in-range 1 L (omega arith) hl); domain = omega arith; right = hr; region = e }
 
     -- With an allowance that suffices, and with a smaller one.
     pub page-done : (n k : ℕ) → differing (freshPool (shape 1 L)) (pagePool L low a0 w) ≡ k → k ≤ n → Sets 1 L start len r n (Done k) (pagePool L low a0 w)
     page-done n k d h =
-        change-done (freshPool (shape 1 L)) (shape 1 L) 0 start len r n g asked (fresh-settled (shape 1 L)) (pagePool L low a0 w) k page-done-finished page-long d h
+        change-done (freshPool (shape 1 L)) (shape 1 L) 0 start len r n g page-asked (fresh-settled (shape 1 L)) (pagePool L low a0 w) k page-done-finished page-long d h
 
     pub page-cut : (n k : ℕ) → differing (freshPool (shape 1 L)) (pagePool L low a0 w) ≡ k → n < k → (x : List ℕ) × IsCut (shape 1 L) 0 (paintOf g r) (freshPool (shape 1 L)) n x
     page-cut n k d h =
-        change-cut (freshPool (shape 1 L)) (shape 1 L) 0 start len r n g asked (fresh-settled (shape 1 L)) (pagePool L low a0 w) page-done-finished page-long (rw d h)
+        change-cut (freshPool (shape 1 L)) (shape 1 L) 0 start len r n g page-asked (fresh-settled (shape 1 L)) (pagePool L low a0 w) page-done-finished page-long (rw d h)

@@ -1,4 +1,4 @@
--- The rows whose change makes a middle table, and a leaf: 2 to 6.
+-- The rows whose change makes a middle table, and a leaf: 2, 3 and 6.
 use Prim.Native.Nat.{ℕ, zero, suc, _+_, _*_, _/_, _%_, _≤_, _<_}
 use mathlib.Core.Path.{_≡_, refl, sym, ap, _∙_}
 use mathlib.Core.Logic.{_≢_, _⊎_, inl, inr, ⊎-elim}
@@ -25,22 +25,22 @@ use Rattle.benchmarks.proofs.PageLaws.{OnePage, after}
 use Rattle.benchmarks.proofs.PagePools.{painted, one-page, pagePool, page-done}
 
 -- Row 2: a leaf whose first entry has the right.
-abbrev in-leaf : Region
+abbrev pub in-leaf : Region
 in-leaf = rounded 0x1000 64
 
-leaf-page : OnePage 1 0 (painted in-leaf 2) 0x1000 0x1040 0xAAAAAAAA
+pub leaf-page : OnePage 1 0 (painted in-leaf 2) 0x1000 0x1040 0xAAAAAAAA
 unfolding pack
 leaf-page = one-page 1 0 in-leaf 2 0x1000 0x1040 (omega arith) (λ z. omega arith) (omega arith) (omega arith) (λ z. omega arith) (omega arith)
     (λ b e. let r = covered-range in-leaf b e in omega arith) refl refl refl (wants-leaf (painted in-leaf 2) 0x1000)
 
-abbrev leaf-pool : List ℕ
+abbrev pub leaf-pool : List ℕ
 leaf-pool = pagePool 1 0 0x1000 0xAAAAAAAA
 
-leaf-stores : differing (freshPool (shape 1 1)) leaf-pool ≡ 1026
+pub leaf-stores : differing (freshPool (shape 1 1)) leaf-pool ≡ 1026
 unfolding differing listed after
 leaf-stores = refl
 
-leaf-set : (n : ℕ) → 1026 ≤ n → Sets 1 1 0x1000 64 2 n (Done 1026) leaf-pool
+pub leaf-set : (n : ℕ) → 1026 ≤ n → Sets 1 1 0x1000 64 2 n (Done 1026) leaf-pool
 unfolding regionOf
 leaf-set n h = page-done in-leaf 2 leaf-page (omega arith) 0x1000 64 (omega arith) refl n 1026 leaf-stores h
 
