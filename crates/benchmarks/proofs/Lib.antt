@@ -5,3 +5,6 @@ pub mod PageLaws
 pub mod PagePools
 pub mod PageRows
 pub mod CutRows
+pub mod LastRow
+pub mod TidyRow
+pub mod Rows
