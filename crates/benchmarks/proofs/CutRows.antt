@@ -67,7 +67,7 @@ pub row-4 : CutBeforeTheLast
 unfolding regionOf
 row-4 =
     let (x, c) = leaf-cut in
-    always-change (λ a q. IsCut a × NoneOrTwo q (shape 1 1) 0x1000 0x103F × SoundPool (formOf (shape 1 1)) (words q))
+    always-change
     (in-order in-leaf (page-asked in-leaf 2 leaf-page (omega arith) 0x1000 64 (omega arith) refl) (cut (fresh-settled (shape 1 1)) x c))
     (refl, cut-looks (c .cut), c .cut .sound)
 
@@ -122,4 +122,4 @@ gives-up m h =
 pub row-5 : GivesUpBoth
 row-5 n m h k b p x =
     let (_, e) = one-change x (leaf-set n h) in
-    rw e (always-change (λ a q. IsDone 1 a × (words q 0 ≡ 0x80000000)) (gives-up m k) (refl, root-word 0 (omega arith)))
+    rw e (always-change (gives-up m k) (refl, root-word 0 (omega arith)))

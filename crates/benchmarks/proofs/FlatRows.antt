@@ -78,11 +78,14 @@ row-1 M L p f =
 
 -- Row 12: the zero word leads to pool word 0, which is no place.
 pub row-12 : ZeroWord
-row-12 M L p f z =
+row-12 M L p f =
     let s = shape M L in
-    finds p s 0 (Refused 6)
-    (lookup-walks p s 0 0 (fits-test s (length p) f) (omega arith)
-    ∙ ap (foundAt (formOf s) (words p) 0) (walk-refused (formOf s) (words p) 0 2 0 (rw z refl)))
+    let long = f .long in
+    let z : words (set p 0 0) 0 ≡ 0 = getD-set-same p 0 0 0 (omega arith) in
+    let g : Fits s (length (set p 0 0)) = rw (length-set p 0 0) f in
+    finds (set p 0 0) s 0 (Refused 6)
+    (lookup-walks (set p 0 0) s 0 0 (fits-test s (length (set p 0 0)) g) (omega arith)
+    ∙ ap (foundAt (formOf s) (words (set p 0 0)) 0) (walk-refused (formOf s) (words (set p 0 0)) 0 2 0 (rw z refl)))
 
 -- Row 7.
 abbrev pool : List ℕ
@@ -143,7 +146,7 @@ asked start len r g h e = record { fits = fresh-fits (shape 0 0) (in-range 0 0 (
 
 pub row-7 : SetsOnePart
 unfolding regionOf
-row-7 n h = always-change (λ a q. IsDone 1 a × (words q 0 ≡ 0x80000001))
+row-7 n h = always-change
     (change-done pool (shape 0 0) 0 0 524288 1 n (rounded 0 524288) (asked 0 524288 1 (rounded 0 524288) (omega arith) refl) (fresh-settled (shape 0 0)) one-part 1
     (finished (rounded 0 524288) 1 (words one-part) part-flat part-rights (λ j b. part-other j (λ z. omega arith) ∙ ap (λ t. cond t 0x80000000 0) (le-ltb j 1024 b)))
     (length-set pool 0 0x80000001)
@@ -173,7 +176,7 @@ read-rights a ba =
 
 pub row-9 : SetsAll
 unfolding regionOf differing
-row-9 n h = always-change (λ a q. IsDone 1024 a × ((i : ℕ) → i < 1024 → words q i ≡ 0x80005555))
+row-9 n h = always-change
     (change-done pool (shape 0 0) 0 0 4294967295 1 n (rounded 0 4294967295) (asked 0 4294967295 1 (rounded 0 4294967295) (omega arith) refl) (fresh-settled (shape 0 0)) all-read 1024
     (finished (rounded 0 4294967295) 1 (words all-read) (λ j b. rw (read-word j b) refl) read-rights read-past)
     refl refl h)
@@ -199,6 +202,6 @@ no-room-there room =
 
 pub row-8 : NoRoomForLess
 unfolding regionOf
-row-8 n = always-change (λ a q. IsRefused 8 a × (q ≡ pool))
+row-8 n = always-change
     (in-order (rounded 0 524284) (asked 0 524284 1 (rounded 0 524284) (omega arith) refl) (no-room (fresh-settled (shape 0 0)) no-room-there))
     (refl, refl)

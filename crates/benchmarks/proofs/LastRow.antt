@@ -63,9 +63,9 @@ unfolding regionOf
 takes-right r n some h = elim (decLt n 1026) [
   | yes b ↦
       (let (x, c) = page-cut last r (last-page r some h) (omega arith) 0xFFFFFFFC 4 h refl n 1026 (last-stores r some h) b in
-      always-change (Accepted n)
+      always-change
       (in-order last (page-asked last r (last-page r some h) (omega arith) 0xFFFFFFFC 4 h refl) (cut (fresh-settled (shape 1 1)) x c)) (inr (refl, b)))
-  | no b ↦ always-change (Accepted n)
+  | no b ↦ always-change
       (page-done last r (last-page r some h) (omega arith) 0xFFFFFFFC 4 h refl n 1026 (last-stores r some h) (omega arith)) (inl (1026, refl))
 ]
 
@@ -81,7 +81,7 @@ still = finished-same (formOf (shape 1 1)) (words fresh) (rightOf (formOf (shape
 
 takes-none : (n : ℕ) → Always (Sets 1 1 0xFFFFFFFC 4 0 n) (Accepted n)
 unfolding regionOf
-takes-none n = always-change (Accepted n)
+takes-none n = always-change
     (change-done fresh (shape 1 1) 0 0xFFFFFFFC 4 0 n last (record { fits = fresh-fit; domain = omega arith; right = omega arith; region = refl })
     (fresh-settled (shape 1 1)) fresh 0 still refl (differing-self fresh) (omega arith))
     (inl (0, refl))
@@ -90,5 +90,5 @@ pub row-10 : LastWord
 unfolding regionOf
 row-10 r n h = (
   elim (ℕ-discrete r 0) [ yes e ↦ rw e (takes-none n) | no e ↦ takes-right r n e h ],
-  always-change (λ a q. IsRefused 5 a × (q ≡ fresh)) (no-region fresh-fit (omega arith) h 5 refl) (refl, refl),
+  always-change (no-region fresh-fit (omega arith) h 5 refl) (refl, refl),
 )

@@ -46,22 +46,17 @@ leaf-set n h = page-done in-leaf 2 leaf-page (omega arith) 0x1000 64 (omega arit
 
 pub row-2 : SetsOneLeaf
 unfolding listed after
-row-2 n h = always-change (λ a q. IsDone 1026 a × (words q 2048 ≡ 0xAAAAAAAA)) (leaf-set n h) (refl, refl)
+row-2 n h = always-change (leaf-set n h) (refl, refl)
 
--- Row 3.
-leaf-looks : Gives leaf-pool (shape 1 1) 0x103F 2 0xAAAAAAAA 3 × Gives leaf-pool (shape 1 1) 0x1040 0 0 3
-    × Gives leaf-pool (shape 1 1) 0x2000 0 0x80000000 2 × Gives leaf-pool (shape 1 1) 0x400000 0 0x80000000 1
+-- Row 3: lookups in that pool.
+pub row-3 : LooksAround
 unfolding listed after walk
-leaf-looks = (
+row-3 n h = always-change (leaf-set n h) (
   finds leaf-pool (shape 1 1) 0x103F (Right 2 0xAAAAAAAA 3) refl,
   finds leaf-pool (shape 1 1) 0x1040 (Right 0 0 3) refl,
   finds leaf-pool (shape 1 1) 0x2000 (Right 0 0x80000000 2) refl,
   finds leaf-pool (shape 1 1) 0x400000 (Right 0 0x80000000 1) refl,
 )
-
-pub row-3 : LooksAround
-row-3 n h = always-change (λ a q. Gives q (shape 1 1) 0x103F 2 0xAAAAAAAA 3 × Gives q (shape 1 1) 0x1040 0 0 3
-    × Gives q (shape 1 1) 0x2000 0 0x80000000 2 × Gives q (shape 1 1) 0x400000 0 0x80000000 1) (leaf-set n h) leaf-looks
 
 -- Row 6: a middle table alone.
 abbrev in-middle : Region
@@ -78,5 +73,5 @@ middle-stores = refl
 
 pub row-6 : SetsOneMiddle
 unfolding listed after regionOf
-row-6 n h = always-change (λ a q. IsDone 1025 a × (words q 1025 ≡ 0x80000002))
+row-6 n h = always-change
     (page-done in-middle 2 middle-page (omega arith) 0x1000 512 (omega arith) refl n 1025 middle-stores h) (refl, refl)

@@ -45,13 +45,13 @@ use Rattle.change.proofs.TidiesLaws.{one-tidy}
 use Rattle.benchmarks.specs.Rows.{shape, Always, Finds, Sets}
 
 -- One outcome of a change, or of a tidying, that is as said.
-pub always-change : {p : List ℕ} {s : Shape} {d start len r n : ℕ} {a : Answer} {q : List ℕ} (Is : Answer → List ℕ → Type 0)
+pub always-change : {p : List ℕ} {s : Shape} {d start len r n : ℕ} {a : Answer} {q : List ℕ} {Is : Answer → List ℕ → Type 0}
     → Changes p s d start len r n a q → Is a q → Always (Changes p s d start len r n) Is
-always-change Is c x = record { some = (_, _, c); each = λ b y z. let (e, f) = one-change z c in rw (e, f) x }
+always-change c x = record { some = (_, _, c); each = λ b y z. let (e, f) = one-change z c in rw (e, f) x }
 
-pub always-tidy : {p : List ℕ} {s : Shape} {n : ℕ} {a : Answer} {q : List ℕ} (Is : Answer → List ℕ → Type 0)
+pub always-tidy : {p : List ℕ} {s : Shape} {n : ℕ} {a : Answer} {q : List ℕ} {Is : Answer → List ℕ → Type 0}
     → Tidies p s n a q → Is a q → Always (Tidies p s n) Is
-always-tidy Is c x = record { some = (_, _, c); each = λ b y z. let (e, f) = one-tidy z c in rw (e, f) x }
+always-tidy c x = record { some = (_, _, c); each = λ b y z. let (e, f) = one-tidy z c in rw (e, f) x }
 
 -- The words `f k`, `f (k + 1)`, .. as a list.
 unfoldable pub listed : (ℕ → ℕ) → ℕ → ℕ → List ℕ

@@ -158,7 +158,7 @@ module _ (L : ℕ) where
 
 pub row-11 : Needless
 row-11 L n hl = (
-  λ d start len r g asked. always-change (λ a q. IsRefused 7 a × (q ≡ needless L))
+  λ d start len r g asked. always-change
       (in-order g asked (unsettled (needless-sound L) (needless-unsettled L))) (refl, refl),
-  λ h. always-tidy (λ a q. IsDone 1 a × (words q 0 ≡ 0x80000000)) (tidies L n hl h) (refl, tidied-first L),
+  λ h. always-tidy (tidies L n hl h) (refl, tidied-first L),
 )

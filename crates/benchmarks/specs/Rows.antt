@@ -113,8 +113,8 @@ Needless = (L n : ℕ) → L ≤ maxLeaves
 
 -- 12. A zero word as root entry 0: lookup of address 0 refused 6. In every pool of one root.
 abbrev pub ZeroWord : Type 0
-ZeroWord = (M L : ℕ) (p : List ℕ) → Fits (shape M L) (length p) → words p 0 ≡ 0
-    → Finds p (shape M L) 0 (record { refusal = 6; right = 0; entry = 0; loads = 0 })
+ZeroWord = (M L : ℕ) (p : List ℕ) → Fits (shape M L) (length p)
+    → Finds (set p 0 0) (shape M L) 0 (record { refusal = 6; right = 0; entry = 0; loads = 0 })
 
 -- The twelve.
 pub record Rows : Type 0 where

@@ -9,7 +9,7 @@ use native.Mathlib.Decide.{ℕ-discrete, decLt}
 use lib.ListN.{length, set}
 use Rattle.theory.specs.Pool.{words, SoundPool}
 use Rattle.theory.specs.Settled.{Settled}
-use Rattle.theory.specs.Check.{refused, met, rootsCheck} 
+use Rattle.theory.specs.Check.{refused, met, rootsCheck}
 use Rattle.theory.specs.Check.{Answer as Checked}
 use Rattle.theory.proofs.CheckLaws.{roots-check-sound, roots-check-refused}
 use Rattle.theory.proofs.FinishedLaws.{one-finished, finished-words, settled-finished}
