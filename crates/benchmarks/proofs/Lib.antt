@@ -8,3 +8,5 @@ pub mod CutRows
 pub mod LastRow
 pub mod TidyRow
 pub mod Rows
+pub mod AllowanceLaws
+pub mod CutWitness

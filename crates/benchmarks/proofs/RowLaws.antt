@@ -63,7 +63,7 @@ unfolding listed
 listed-long f k zero = refl
 listed-long f k (suc n) = ap suc (listed-long f (suc k) n)
 
-listed-word : (f : ℕ → ℕ) (k n j : ℕ) → j < n → words (listed f k n) j ≡ f (k + j)
+pub listed-word : (f : ℕ → ℕ) (k n j : ℕ) → j < n → words (listed f k n) j ≡ f (k + j)
 unfolding listed
 listed-word f k zero j h = absurd (omega arith)
 listed-word f k (suc n) zero h = ap f (omega arith)

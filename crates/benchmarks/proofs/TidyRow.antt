@@ -85,7 +85,7 @@ module _ (L : ℕ) where
   met : {m j : ℕ} → Reach F P (Roots F) m j → At m j
   met r = let (d, a, bd, ba, v) = met-by F (exact 1 1 L) r in visits-at a d bd v
 
-  needless-sound : SoundPool F P
+  pub needless-sound : SoundPool F P
   needless-sound = record {
     good = λ {m} {j} r. ⊎-elim
         (λ (x, y). elim (ℕ-discrete j 0) [ yes e ↦ rw (x, e) refl | no e ↦ rw (x, P-other j e (omega arith)) refl ])
@@ -111,7 +111,7 @@ module _ (L : ℕ) where
         right-says F P 2 (entry F d a) a (rw y refl) ∙ says-none 1 (entry F d a) a y)
   ]
 
-  needless-unsettled : Settled F P → ⊥
+  pub needless-unsettled : Settled F P → ⊥
   needless-unsettled s =
       let (b, c, bb, bc, x, y, z) = s .wanted {d = 0} {a = 0} {h = 1} (omega arith) (omega arith) (omega arith)
       (1024, (0, here, refl, P-first)) in
@@ -121,7 +121,7 @@ module _ (L : ℕ) where
   abbrev tidied : List ℕ
   tidied = set (needless L) 0 0x80000000
 
-  needless-long : length (needless L) ≡ 2048 + 64 * L
+  pub needless-long : length (needless L) ≡ 2048 + 64 * L
   needless-long = length-set base 0 1024 ∙ base-long
 
   tidied-first : words tidied 0 ≡ 0x80000000

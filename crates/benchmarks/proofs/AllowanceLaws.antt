@@ -1,0 +1,59 @@
+-- An allowance of as many stores as the pool has words suffices.
+use Prim.Native.Nat.{ℕ, zero, suc, _+_, _≤_, _<_}
+use mathlib.Core.Path.{_≡_, refl, sym, ap, _∙_}
+use mathlib.Core.Logic.{_≢_, ⊎-elim}
+use mathlib.Core.Bool.{Bool, true, false, cond}
+use mathlib.Core.List.{List, [], _∷_}
+use native.Mathlib.Omega.{arith}
+use native.Mathlib.Decide.{ℕ-discrete, decLt}
+use lib.Dec.{eqb}
+use lib.ListN.{length, List·getD-eq-default}
+use borrow.Author.Tests.{eq-eqb}
+use Rattle.theory.specs.Pool.{words}
+use Rattle.table.specs.declared.Shape.{Shape}
+use Rattle.targets.specs.declared.Paint.{Paint}
+use Rattle.plan.specs.Goals.{Goal}
+use Rattle.change.specs.Cuts.{differing}
+use Rattle.change.specs.Answers.{IsDone, IsCut}
+use Rattle.change.proofs.OutcomeLaws.{one-goal}
+use Rattle.change.proofs.EndLaws.{goal-ends}
+use Rattle.benchmarks.proofs.RowLaws.{listed, listed-long, listed-word}
+
+-- No more words differ than there are ..
+differing-long : (p q : List ℕ) → differing p q ≤ length p
+unfolding differing
+differing-long [] q = omega arith
+differing-long (x ∷ p) [] = omega arith
+differing-long (x ∷ p) (y ∷ q) = go (eqb x y) (differing p q) (length p) (differing-long p q)
+  where
+    go : (b : Bool) (m n : ℕ) → m ≤ n → cond b m (suc m) ≤ suc n
+    go true m n h = omega arith
+    go false m n h = omega arith
+
+-- .. and where some differ there is one.
+pub differing-some : (p q : List ℕ) → 0 < differing p q → (j : ℕ) × (words q j ≢ words p j)
+unfolding differing
+differing-some [] q h = absurd (omega arith)
+differing-some (x ∷ p) [] h = absurd (omega arith)
+differing-some (x ∷ p) (y ∷ q) h = elim (ℕ-discrete x y) [
+  | yes e ↦ (let (j, n) = differing-some p q (rw (eq-eqb x y e) at h) in (suc j, n))
+  | no n ↦ (0, λ e. n (sym e))
+]
+
+module _ (s : Shape) (d : ℕ) (paint : Paint) (old : List ℕ) (Q : ℕ → ℕ) (kept : ℕ → Bool) (g : Goal s d paint old Q kept) where
+  goal-word : (j : ℕ) → words (listed Q 0 (length old)) j ≡ Q j
+  goal-word j = elim (decLt j (length old)) [
+    | yes h ↦ listed-word Q 0 (length old) j h ∙ ap Q (omega arith)
+    | no h ↦ List·getD-eq-default (listed Q 0 (length old)) 0 (rw (listed-long Q 0 (length old)) (omega arith))
+        ∙ sym (g .beyond j (omega arith) ∙ List·getD-eq-default old 0 (omega arith))
+  ]
+
+  pub enough-done : (q : List ℕ) × IsDone s d paint old (length old) q
+  enough-done = ⊎-elim (λ x. x) (λ (x, c). absurd (too-few x c)) (goal-ends s d paint old Q kept (length old) g)
+    where
+      too-few : (x : List ℕ) → IsCut s d paint old (length old) x → ⊥
+      too-few x c =
+          let more = c .more (listed Q 0 (length old)) (listed-long Q 0 (length old))
+          (λ j. goal-word j ∙ sym (one-goal s d paint old Q (g .finished) (c .cut) j)) in
+          let most = differing-long old (listed Q 0 (length old)) in
+          omega arith

@@ -1,0 +1,96 @@
+-- What the promises suppose can be met: of each kind of pool, cut, store, buffer and series that they speak of there is one.
+use Prim.Native.Nat.{ℕ, _<_}
+use mathlib.Core.Path.{_≡_}
+use mathlib.Core.Logic.{_≢_}
+use mathlib.Core.Bool.{true}
+use mathlib.Core.List.{List}
+use lib.ListN.{length}
+use Rattle.theory.specs.Pool.{words, SoundPool, rightOf}
+use Rattle.theory.specs.Settled.{HasTable, Settled}
+use Rattle.words.specs.Region.{covered}
+use Rattle.table.specs.declared.Shape.{Shape}
+use Rattle.table.specs.Shape.{Fits}
+use Rattle.table.specs.Map.{addresses, formOf}
+use Rattle.targets.specs.declared.Paint.{Paint}
+use Rattle.plan.specs.Aims.{Covered}
+use Rattle.change.specs.declared.Answer.the-variants.{Done, Cut}
+use Rattle.change.specs.Cuts.{Due}
+use Rattle.change.specs.Answers.{IsCut}
+use Rattle.lookaside.specs.declared.Slot.{Slot}
+use Rattle.lookaside.specs.declared.Buffer.{Buffer}
+use Rattle.lookaside.specs.declared.Hit.the-variants.{At}
+use Rattle.lookaside.specs.Slots.{firstMatch}
+use Rattle.lookaside.specs.Agree.{nowhere, Agrees}
+use Rattle.demands.specs.Series.{made, changed, tidied, Series}
+use Rattle.demands.specs.Watched.{Watched}
+
+-- A sound pool, and it is not settled.
+pub record SomeSound : Type 0 where
+  pub shape : Shape
+  pub pool : List ℕ
+  pub fits : Fits shape (length pool)
+  pub sound : SoundPool (formOf shape) (words pool)
+  pub unsettled : Settled (formOf shape) (words pool) → ⊥
+
+-- A settled pool in which domains 0 and 1 have a middle table and a leaf each.
+pub record SomeSettled : Type 0 where
+  pub shape : Shape
+  pub pool : List ℕ
+  pub fits : Fits shape (length pool)
+  pub settled : Settled (formOf shape) (words pool)
+  pub two : 1 < shape .domains
+  pub middle : (d : ℕ) → d < 2 → (a : ℕ) × HasTable (formOf shape) (words pool) d a 1
+  pub leaf : (d : ℕ) → d < 2 → (a : ℕ) × HasTable (formOf shape) (words pool) d a 0
+
+-- A change that was cut after some stores; a covered word has got the new right, which it had not before.
+pub record SomeCut : Type 0 where
+  pub shape : Shape
+  pub domain : ℕ
+  pub paint : Paint
+  pub old : List ℕ
+  pub stores : ℕ
+  pub pool : List ℕ
+  pub some : 0 < stores
+  pub cut : IsCut shape domain paint old stores pool
+  pub word : ℕ
+  pub address : word < addresses
+  pub covers : Covered domain paint domain word
+  pub had-not : rightOf (formOf shape) (words old) domain word ≢ paint .right
+  pub has : rightOf (formOf shape) (words pool) domain word ≡ paint .right
+
+-- A store that is due.
+pub record SomeDue : Type 0 where
+  pub shape : Shape
+  pub domain : ℕ
+  pub paint : Paint
+  pub pool : List ℕ
+  pub word : ℕ
+  pub value : ℕ
+  pub due : Due shape domain paint pool word value
+
+-- A buffer in use, nowhere stale, that agrees with its table; and a slot of it answers.
+pub record SomeBuffer : Type 0 where
+  pub shape : Shape
+  pub pool : List ℕ
+  pub buffer : Buffer
+  pub watched : Watched shape pool buffer nowhere
+  pub agrees : Agrees shape pool buffer
+  pub slot : Slot
+  pub answers : firstMatch (buffer .slots) 0 0x1004 ≡ At slot
+
+-- A series: a change that finished, one that was cut, and a tidying after it.
+pub record SomeSeries : Type 0 where
+  pub shape : Shape
+  pub pool : List ℕ
+  pub stores : ℕ
+  pub tidied-stores : ℕ
+  pub series : Series shape pool (tidied (changed (changed made 0 0x1000 64 2 (Done stores)) 0 0 4294967295 1 Cut) (Done tidied-stores))
+
+-- All of them.
+pub record Met : Type 0 where
+  pub some-sound : SomeSound
+  pub some-settled : SomeSettled
+  pub some-cut : SomeCut
+  pub some-due : SomeDue
+  pub some-buffer : SomeBuffer
+  pub some-series : SomeSeries
