@@ -10,3 +10,5 @@ pub mod TidyRow
 pub mod Rows
 pub mod AllowanceLaws
 pub mod CutWitness
+pub mod TwoDomains
+pub mod Witnesses
