@@ -1,21 +1,19 @@
 -- The rows about what comes after or instead of row 2: a cut before its last store (4), and the same region to none (5).
-use Prim.Native.Nat.{ℕ, zero, suc, _+_, _*_, _/_, _%_, _≤_, _<_}
+use Prim.Native.Nat.{ℕ, suc, _+_, _*_, _/_, _%_, _≤_, _<_}
 use mathlib.Core.Path.{_≡_, refl, sym, ap, _∙_}
-use mathlib.Core.Logic.{_≢_, _⊎_, inl, inr, ⊎-elim}
-use mathlib.Core.Bool.{Bool, true, false, cond}
+use mathlib.Core.Logic.{_⊎_, inl, inr, ⊎-elim}
+use mathlib.Core.Bool.{false, cond}
 use mathlib.Core.List.{List}
 use native.Mathlib.Omega.{arith}
 use native.Mathlib.Decide.{ℕ-discrete}
 use lib.ListN.{length, set, length-set}
 use lib.Seq.{getD-set-same, getD-set-other}
-use Rattle.theory.specs.Pool.{words, SoundPool, rightOf}
+use Rattle.theory.specs.Pool.{words, rightOf}
 use Rattle.theory.specs.Finished.{Finished}
 use Rattle.theory.proofs.RightLaws.{by-cases}
-use Rattle.words.specs.Rights.{rightAt, goodRights}
-use Rattle.words.specs.Region.{rounded, regionOf, covered}
-use Rattle.words.specs.declared.Region.{Region}
+use Rattle.words.specs.Rights.{rightAt}
+use Rattle.words.specs.Region.{regionOf, covered}
 use Rattle.words.proofs.RightsLaws.{eight-right}
-use Rattle.table.specs.declared.Shape.{Shape}
 use Rattle.table.specs.declared.Found.the-variants.{Right}
 use Rattle.table.specs.Shape.{Fits}
 use Rattle.table.specs.Map.{addresses, formOf}
@@ -24,18 +22,17 @@ use Rattle.table.proofs.LookupLaws.{sound-lookup}
 use Rattle.table.proofs.FreshWordLaws.{fresh-right, fresh-settled}
 use Rattle.plan.specs.Aims.{aims}
 use Rattle.plan.proofs.AimLaws.{aims-covered, aims-other, covered-or}
-use Rattle.change.specs.declared.Answer.{Answer}
-use Rattle.change.specs.declared.Answer.the-variants.{Done, Cut}
-use Rattle.change.specs.Cuts.{differing, CutAt}
-use Rattle.change.specs.Answers.{paintOf, Asked, Changes, in-order, cut}
+use Rattle.change.specs.declared.Answer.the-variants.{Done}
+use Rattle.change.specs.Cuts.{CutAt}
+use Rattle.change.specs.Answers.{paintOf, Changes, in-order, cut}
 use Rattle.change.specs.Answers.{IsCut as WasCut}
 use Rattle.change.proofs.ChangesLaws.{one-change}
 use Rattle.change.proofs.DifferLaws.{differing-set, differing-self}
-use Rattle.benchmarks.specs.Rows.{shape, Always, IsDone, IsCut, Gives, NoneOrTwo, Sets, CutBeforeTheLast, GivesUpBoth}
+use Rattle.benchmarks.specs.Rows.{shape, NoneOrTwo, CutBeforeTheLast, GivesUpBoth}
 use Rattle.benchmarks.proofs.RowLaws.{always-change, finds, fresh-fits, in-range, covered-range, aims-fresh, change-done, listed}
 use Rattle.benchmarks.proofs.FlatLaws.{flat-finished, flat-right}
 use Rattle.benchmarks.proofs.PageLaws.{after, after-root}
-use Rattle.benchmarks.proofs.PagePools.{painted, page-asked, page-cut, page-word, page-long, page-done-finished}
+use Rattle.benchmarks.proofs.PagePools.{page-asked, page-cut, page-word, page-long, page-done-finished}
 use Rattle.benchmarks.proofs.PageRows.{in-leaf, leaf-page, leaf-pool, leaf-stores, leaf-set}
 
 abbrev fresh : List ℕ

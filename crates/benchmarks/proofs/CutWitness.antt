@@ -1,5 +1,5 @@
 -- A cut and a series: after row 2 the whole memory is to be read, and the change is cut after five stores; then the pool is tidied.
-use Prim.Native.Nat.{ℕ, zero, suc, _+_, _*_, _/_, _%_, _≤_, _<_}
+use Prim.Native.Nat.{ℕ, _+_, _*_, _/_, _%_, _≤_, _<_}
 use mathlib.Core.Path.{_≡_, refl, sym, ap, _∙_}
 use mathlib.Core.Logic.{_≢_, ⊎-elim}
 use mathlib.Core.Bool.{Bool, true, false, cond}
@@ -28,10 +28,10 @@ use Rattle.plan.proofs.AimLaws.{aims-covered}
 use Rattle.change.specs.declared.Answer.the-variants.{Done, Cut}
 use Rattle.change.specs.Cuts.{differing}
 use Rattle.change.specs.Answers.{paintOf, noPaint, IsCut, Asked, Changes, Tidies, in-order}
-use Rattle.change.specs.Answers.{ChangesRegion, cut, done}
+use Rattle.change.specs.Answers.{cut, done}
 use Rattle.change.proofs.OutcomeLaws.{one-goal}
 use Rattle.change.proofs.TidyGoalLaws.{tidy-goal}
-use Rattle.demands.specs.Series.{Series, fresh, change, tidy}
+use Rattle.demands.specs.Series.{fresh, change, tidy}
 use Rattle.benchmarks.specs.Rows.{shape}
 use Rattle.benchmarks.specs.Witnesses.{SomeCut, SomeSeries}
 use Rattle.benchmarks.proofs.RowLaws.{fresh-fits, in-range, covered-yes, aims-fresh, change-cut, listed, listed-long, listed-words}

@@ -1,10 +1,9 @@
 -- A pool all of whose root words are eight rights has no table; it is the finished pool for the rights that it gives.
-use Prim.Native.Nat.{ℕ, zero, suc, _+_, _*_, _/_, _%_, _≤_, _<_}
-use mathlib.Core.Path.{_≡_, refl, sym, ap, _∙_}
+use Prim.Native.Nat.{ℕ, _+_, _*_, _/_, _%_, _≤_, _<_}
+use mathlib.Core.Path.{_≡_, refl, sym, _∙_}
 use mathlib.Core.Bool.{true, false, true≢false}
 use native.Mathlib.Omega.{arith}
 use native.Mathlib.Decide.{decLt}
-use Rattle.theory.specs.Form.{Form}
 use Rattle.theory.specs.Pool.{Reach, start, Visits, here, next, Roots, entry, rightOf, Led}
 use Rattle.theory.specs.Settled.{Settled}
 use Rattle.theory.specs.Finished.{Finished}
@@ -12,7 +11,7 @@ use Rattle.theory.proofs.RightLaws.{right-says}
 use Rattle.theory.proofs.BlockLaws.{met-by}
 use Rattle.theory.proofs.SettledLaws.{unsaid-settled}
 use Rattle.words.specs.Rights.{rightAt, goodRights}
-use Rattle.table.specs.Map.{addresses, leads, form}
+use Rattle.table.specs.Map.{addresses, form}
 use Rattle.table.proofs.FormLaws.{eight-good, lawful, exact}
 use Rattle.table.proofs.WantLaws.{wanting}
 

@@ -1,17 +1,16 @@
 -- The rows in whose pools no table stands afterwards, and those of lookups: 1, 7, 8, 9 and 12.
-use Prim.Native.Nat.{ℕ, zero, suc, _+_, _*_, _/_, _%_, _≤_, _<_}
+use Prim.Native.Nat.{ℕ, suc, _+_, _*_, _/_, _%_, _≤_, _<_}
 use mathlib.Core.Path.{_≡_, refl, sym, ap, _∙_}
 use mathlib.Core.Logic.{_≢_}
-use mathlib.Core.Bool.{Bool, true, false, cond, _&&_}
+use mathlib.Core.Bool.{Bool, true, false, cond}
 use mathlib.Core.List.{List}
 use native.Mathlib.Omega.{arith}
 use native.Mathlib.Decide.{ℕ-discrete, decLt}
-use lib.Dec.{eqb, leb, ltb}
+use lib.Dec.{eqb, ltb}
 use lib.ListN.{length, set, replicate, length-set, length-replicate, getD-replicate, List·getD-eq-default}
 use lib.Seq.{getD-set-same, getD-set-other}
-use borrow.Author.Tests.{eq-eqb, ne-eqb, lt-ltb, le-ltb, le-leb}
+use borrow.Author.Tests.{eq-eqb, ne-eqb, lt-ltb, le-ltb}
 use Rattle.theory.specs.Pool.{words, entry, rightOf}
-use Rattle.theory.specs.Walk.{walk}
 use Rattle.theory.proofs.WalkLaws.{walk-stops, walk-refused}
 use Rattle.theory.specs.Finished.{Finished}
 use Rattle.words.specs.Rights.{rightAt, goodRights, pack}
@@ -19,12 +18,11 @@ use Rattle.words.specs.Region.{rounded, regionOf, covered}
 use Rattle.words.specs.declared.Region.{Region}
 use Rattle.words.specs.declared.Rounded.the-variants.{Covers}
 use Rattle.words.proofs.RightsLaws.{eight-right, pack-digit}
-use Rattle.table.specs.declared.Shape.{Shape}
 use Rattle.table.specs.declared.Found.the-variants.{Right, Refused}
 use Rattle.table.specs.declared.Made.the-variants.{Done as Made}
 use Rattle.table.specs.Shape.{Fits}
 use Rattle.table.specs.Map.{addresses, formOf}
-use Rattle.table.specs.Fresh.{freshPool, MakesFresh}
+use Rattle.table.specs.Fresh.{freshPool}
 use Rattle.table.specs.Lookup.{lookupOf, foundAt}
 use Rattle.table.proofs.ShapeLaws.{fits-test}
 use Rattle.table.proofs.BlockLaws.{number-below}
@@ -38,11 +36,10 @@ use Rattle.places.proofs.ChangedLaws.{changed-rights}
 use Rattle.targets.specs.declared.Paint.{Paint}
 use Rattle.targets.specs.Targets.{region}
 use Rattle.plan.specs.Aims.{aims}
-use Rattle.change.specs.declared.Answer.the-variants.{Done}
 use Rattle.change.specs.Cuts.{differing}
-use Rattle.change.specs.Answers.{paintOf, Asked, Changes, in-order, no-room}
+use Rattle.change.specs.Answers.{paintOf, Asked, in-order, no-room}
 use Rattle.change.proofs.DifferLaws.{differing-set, differing-self}
-use Rattle.benchmarks.specs.Rows.{shape, Always, Gives, IsDone, IsRefused, AnyAddress, SetsOnePart, NoRoomForLess, SetsAll, ZeroWord}
+use Rattle.benchmarks.specs.Rows.{shape, AnyAddress, SetsOnePart, NoRoomForLess, SetsAll, ZeroWord}
 use Rattle.benchmarks.proofs.RowLaws.{always-change, finds, fresh-fits, in-range, covered-yes, covered-no, aims-fresh, change-done}
 use Rattle.benchmarks.proofs.FlatLaws.{flat-finished, flat-right}
 

@@ -1,6 +1,6 @@
 -- Row 10: the last word of memory.
-use Prim.Native.Nat.{ℕ, zero, suc, _+_, _*_, _/_, _≤_, _<_}
-use mathlib.Core.Path.{_≡_, refl, sym, ap, _∙_}
+use Prim.Native.Nat.{ℕ, zero, suc, _≤_, _<_}
+use mathlib.Core.Path.{_≡_, refl, sym, _∙_}
 use mathlib.Core.Logic.{_≢_, _⊎_, inl, inr}
 use mathlib.Core.Bool.{Bool, true, false, cond}
 use mathlib.Core.List.{List}
@@ -22,9 +22,9 @@ use Rattle.table.proofs.FreshWordLaws.{fresh-right, fresh-settled}
 use Rattle.plan.specs.Aims.{aims}
 use Rattle.change.specs.declared.Answer.{Answer}
 use Rattle.change.specs.Cuts.{differing}
-use Rattle.change.specs.Answers.{paintOf, Asked, Changes, no-region, in-order, cut}
+use Rattle.change.specs.Answers.{paintOf, no-region, in-order, cut}
 use Rattle.change.proofs.DifferLaws.{differing-self}
-use Rattle.benchmarks.specs.Rows.{shape, Always, IsDone, IsCut, IsRefused, Sets, LastWord}
+use Rattle.benchmarks.specs.Rows.{shape, Always, IsDone, IsCut, Sets, LastWord}
 use Rattle.benchmarks.proofs.RowLaws.{always-change, fresh-fits, in-range, covered-range, aims-fresh, change-done, listed}
 use Rattle.benchmarks.proofs.PageLaws.{OnePage, after}
 use Rattle.benchmarks.proofs.PagePools.{painted, one-page, pagePool, page-asked, page-done, page-cut}

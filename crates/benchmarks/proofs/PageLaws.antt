@@ -2,18 +2,18 @@
 -- (`low` is 0) or of the middle table (`low` is 1). `a0` is an address of it, and `w` the word of that entry.
 use Prim.Native.Nat.{ℕ, zero, suc, _+_, _*_, _-_, _/_, _%_, _≤_, _<_}
 use mathlib.Core.Path.{_≡_, refl, sym, ap, _∙_}
-use mathlib.Core.Logic.{_≢_, ⊎-elim}
+use mathlib.Core.Logic.{_≢_}
 use mathlib.Core.Bool.{Bool, true, false, cond, _&&_, true≢false}
 use native.Mathlib.Omega.{arith}
 use native.Mathlib.Decide.{ℕ-discrete, decLt}
 use lib.Dec.{eqb, ltb}
 use borrow.Author.Tests.{eq-eqb, ne-eqb, eqb-true, lt-ltb, le-ltb, ltb-true}
 use Rattle.theory.specs.Form.{Form}
-use Rattle.theory.specs.Pool.{words, Led}
-use Rattle.theory.specs.Settled.{Together, Says}
-use Rattle.theory.specs.Finished.{Place, Before, Finished}
+use Rattle.theory.specs.Pool.{words}
+use Rattle.theory.specs.Settled.{Says}
+use Rattle.theory.specs.Finished.{Place, Finished}
 use Rattle.theory.proofs.RightLaws.{by-cases}
-use Rattle.theory.proofs.Encodes.{TellsWants, Gets, spot, Placing, Encodes, Fresh, Follows}
+use Rattle.theory.proofs.Encodes.{TellsWants, Gets, spot, Placing, Encodes, Follows}
 use Rattle.theory.proofs.EncodesLaws.{encodes-finished}
 use Rattle.words.specs.Rights.{rightAt}
 use Rattle.words.proofs.RightsLaws.{eight-right, sixteen-right}

@@ -1,25 +1,19 @@
 -- The rows whose change makes a middle table, and a leaf: 2, 3 and 6.
-use Prim.Native.Nat.{ℕ, zero, suc, _+_, _*_, _/_, _%_, _≤_, _<_}
-use mathlib.Core.Path.{_≡_, refl, sym, ap, _∙_}
-use mathlib.Core.Logic.{_≢_, _⊎_, inl, inr, ⊎-elim}
-use mathlib.Core.Bool.{Bool, true, false, cond, true≢false}
+use Prim.Native.Nat.{ℕ, _≤_}
+use mathlib.Core.Path.{_≡_, refl}
 use mathlib.Core.List.{List}
 use native.Mathlib.Omega.{arith}
-use lib.ListN.{length, replicate}
-use Rattle.theory.specs.Pool.{words, rightOf}
 use Rattle.theory.specs.Walk.{walk}
-use Rattle.theory.specs.Finished.{Finished}
 use Rattle.words.specs.Rights.{pack}
-use Rattle.words.specs.Region.{rounded, regionOf, covered}
+use Rattle.words.specs.Region.{rounded, regionOf}
 use Rattle.words.specs.declared.Region.{Region}
 use Rattle.table.specs.declared.Found.the-variants.{Right}
 use Rattle.table.specs.Wants.{any}
 use Rattle.table.specs.Fresh.{freshPool}
-use Rattle.table.specs.Map.{addresses, formOf}
 use Rattle.table.proofs.WantLaws.{wants-leaf}
 use Rattle.change.specs.declared.Answer.the-variants.{Done}
 use Rattle.change.specs.Cuts.{differing}
-use Rattle.benchmarks.specs.Rows.{shape, Always, IsDone, Gives, Sets, SetsOneLeaf, LooksAround, SetsOneMiddle}
+use Rattle.benchmarks.specs.Rows.{shape, Sets, SetsOneLeaf, LooksAround, SetsOneMiddle}
 use Rattle.benchmarks.proofs.RowLaws.{always-change, finds, listed, covered-range}
 use Rattle.benchmarks.proofs.PageLaws.{OnePage, after}
 use Rattle.benchmarks.proofs.PagePools.{painted, one-page, pagePool, page-done}

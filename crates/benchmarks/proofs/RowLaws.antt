@@ -1,13 +1,13 @@
 -- What the rows share: one outcome that is as said settles every outcome; fresh pools; and what a change of a fresh pool aims at.
-use Prim.Native.Nat.{ℕ, zero, suc, _+_, _*_, _/_, _≤_, _<_}
+use Prim.Native.Nat.{ℕ, zero, suc, _+_, _/_, _≤_, _<_}
 use mathlib.Core.Path.{_≡_, refl, sym, ap, _∙_}
 use mathlib.Core.Logic.{⊎-elim}
-use mathlib.Core.Bool.{Bool, true, false, cond, _&&_}
+use mathlib.Core.Bool.{true, false, cond, _&&_}
 use mathlib.Core.List.{List, [], _∷_}
 use native.Mathlib.Omega.{arith}
 use native.Mathlib.Nat.{le-of-suc-le-suc}
 use native.Mathlib.Decide.{decLt}
-use lib.Dec.{eqb, leb, ltb}
+use lib.Dec.{leb, ltb}
 use lib.ListN.{length, length-append, length-replicate, List·getD-eq-default}
 use lib.Seq.{ext-getD}
 use borrow.Author.Tests.{eq-eqb, le-leb, lt-ltb, leb-true, ltb-true}
@@ -16,20 +16,19 @@ use Rattle.theory.specs.Settled.{Settled}
 use Rattle.theory.specs.Finished.{Finished}
 use Rattle.theory.proofs.RightLaws.{by-cases}
 use Rattle.theory.proofs.FinishedLaws.{one-finished}
-use Rattle.words.specs.Region.{regionOf, covered}
+use Rattle.words.specs.Region.{covered}
 use Rattle.words.specs.declared.Region.{Region}
-use Rattle.words.specs.declared.Rounded.the-variants.{Covers}
 use Rattle.table.specs.declared.Shape.{Shape}
 use Rattle.table.specs.declared.Found.{Found}
 use Rattle.table.specs.Shape.{InRange, Fits, poolLength, maxMiddles, maxLeaves}
-use Rattle.table.specs.Map.{addresses, formOf}
+use Rattle.table.specs.Map.{formOf}
 use Rattle.table.specs.Fresh.{freshPool}
-use Rattle.table.specs.Lookup.{Numbers, numbers, lookupOf}
+use Rattle.table.specs.Lookup.{numbers, lookupOf}
 use Rattle.table.proofs.ShapeLaws.{and-both}
 use Rattle.table.proofs.FormLaws.{lawful, exact}
 use Rattle.table.proofs.WantLaws.{wanting}
 use Rattle.table.proofs.LookupLaws.{looks-up}
-use Rattle.table.proofs.FreshWordLaws.{fresh-right, fresh-settled}
+use Rattle.table.proofs.FreshWordLaws.{fresh-right}
 use Rattle.targets.specs.declared.Paint.{Paint}
 use Rattle.targets.specs.Targets.{region}
 use Rattle.plan.specs.Aims.{aims}
@@ -42,7 +41,7 @@ use Rattle.change.proofs.TidyGoalLaws.{fits-goal}
 use Rattle.change.proofs.EndLaws.{goal-ends}
 use Rattle.change.proofs.ChangesLaws.{one-change}
 use Rattle.change.proofs.TidiesLaws.{one-tidy}
-use Rattle.benchmarks.specs.Rows.{shape, Always, Finds, Sets}
+use Rattle.benchmarks.specs.Rows.{Always, Finds}
 
 -- One outcome of a change, or of a tidying, that is as said.
 pub always-change : {p : List ℕ} {s : Shape} {d start len r n : ℕ} {a : Answer} {q : List ℕ} {Is : Answer → List ℕ → Type 0}

@@ -2,10 +2,10 @@
 use Prim.Native.Nat.{ℕ, zero, suc, _+_, _*_, _/_, _%_, _≤_, _<_}
 use mathlib.Core.Path.{_≡_, refl, sym, ap, _∙_}
 use mathlib.Core.Logic.{_≢_, _⊎_, inl, inr, ⊎-elim}
-use mathlib.Core.Bool.{Bool, true, false, cond, true≢false, false≢true}
+use mathlib.Core.Bool.{true, false, cond, true≢false}
 use mathlib.Core.List.{List, _++_}
 use native.Mathlib.Omega.{arith}
-use native.Mathlib.Decide.{ℕ-discrete, decLt}
+use native.Mathlib.Decide.{ℕ-discrete}
 use lib.Dec.{ltb}
 use lib.ListN.{length, set, replicate, length-set, length-append, length-replicate}
 use lib.Seq.{getD-set-same, getD-set-other}
@@ -18,20 +18,18 @@ use Rattle.theory.proofs.RightLaws.{right-down, right-says}
 use Rattle.theory.proofs.BlockLaws.{met-by}
 use Rattle.words.specs.Rights.{rightAt}
 use Rattle.words.proofs.RightsLaws.{eight-right}
-use Rattle.table.specs.declared.Shape.{Shape}
 use Rattle.table.specs.Shape.{Fits, maxLeaves}
-use Rattle.table.specs.Map.{addresses, leads, form, formOf}
-use Rattle.table.specs.Fresh.{freshPool}
+use Rattle.table.specs.Map.{leads, form}
 use Rattle.table.proofs.FormLaws.{exact}
 use Rattle.table.proofs.FreshWordLaws.{fresh-word}
 use Rattle.plan.specs.Aims.{aims}
 use Rattle.change.specs.declared.Answer.the-variants.{Done}
 use Rattle.change.specs.Cuts.{differing}
-use Rattle.change.specs.Answers.{noPaint, Changes, Tidies, in-order, unsettled, done}
+use Rattle.change.specs.Answers.{noPaint, Tidies, in-order, unsettled, done}
 use Rattle.change.specs.Answers.{IsDone as WasDone}
 use Rattle.change.proofs.DifferLaws.{differing-set, differing-self}
 use Rattle.change.proofs.TidyGoalLaws.{aims-none}
-use Rattle.benchmarks.specs.Rows.{shape, Always, IsDone, IsRefused, needless, Needless}
+use Rattle.benchmarks.specs.Rows.{shape, needless, Needless}
 use Rattle.benchmarks.proofs.RowLaws.{always-change, always-tidy, in-range}
 use Rattle.benchmarks.proofs.FlatLaws.{flat-finished, flat-right}
 

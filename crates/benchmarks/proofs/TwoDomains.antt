@@ -1,5 +1,5 @@
 -- A settled pool in which two domains have tables: two changes, one for each, of the same 64 bytes.
-use Prim.Native.Nat.{ℕ, zero, suc, _+_, _*_, _/_, _%_, _≤_, _<_}
+use Prim.Native.Nat.{ℕ, zero, suc, _+_, _*_, _/_, _≤_, _<_}
 use mathlib.Core.Path.{_≡_, refl, sym, ap, _∙_}
 use mathlib.Core.Logic.{_≢_}
 use mathlib.Core.Bool.{true, false}
@@ -14,7 +14,7 @@ use Rattle.words.specs.Region.{rounded, covered}
 use Rattle.words.specs.declared.Region.{Region}
 use Rattle.table.specs.declared.Shape.{Shape}
 use Rattle.table.specs.Shape.{Fits}
-use Rattle.table.specs.Map.{addresses, block, part, formOf}
+use Rattle.table.specs.Map.{addresses, block, formOf}
 use Rattle.table.specs.Fresh.{freshPool}
 use Rattle.table.proofs.BlockLaws.{part-in-block}
 use Rattle.table.proofs.WantLaws.{wants-divided}
@@ -22,7 +22,7 @@ use Rattle.table.proofs.FreshWordLaws.{fresh-right, fresh-settled}
 use Rattle.places.specs.Count.{count, Room}
 use Rattle.places.proofs.CountLaws.{count-into, count-all}
 use Rattle.places.proofs.ChangedLaws.{changed-uncovered}
-use Rattle.places.proofs.Final.{blocks, number, domainOf, addressOf, want}
+use Rattle.places.proofs.Final.{blocks, domainOf, addressOf, want}
 use Rattle.places.proofs.NumberLaws.{number-first}
 use Rattle.targets.specs.declared.Paint.{Paint}
 use Rattle.targets.specs.Targets.{region}

@@ -1,9 +1,7 @@
 -- What the promises suppose is met.
-use Prim.Native.Nat.{ℕ}
-use mathlib.Core.Path.{_≡_, refl}
+use mathlib.Core.Path.{refl}
 use native.Mathlib.Omega.{arith}
 use Rattle.theory.specs.Walk.{walk}
-use Rattle.table.specs.declared.Shape.{Shape}
 use Rattle.table.specs.Access.{store}
 use Rattle.change.proofs.Witness.{all-read, nothing, store-due}
 use Rattle.lookaside.specs.declared.Buffer.{Buffer}

@@ -15,7 +15,7 @@ use Rattle.table.specs.Fresh.{madeNumber, freshPool, MakesFresh}
 use Rattle.table.specs.Lookup.{Numbers, numbers, LooksUp}
 use Rattle.change.specs.declared.Answer.{Answer}
 use Rattle.change.specs.Answers.{Asked, Changes, Tidies}
-use Rattle.change.specs.Answers.{Numbers as Counts, numbers as counts}
+use Rattle.change.specs.Answers.{numbers as counts}
 
 -- One root, M middle places and L leaf places.
 abbrev pub shape : ℕ → ℕ → Shape

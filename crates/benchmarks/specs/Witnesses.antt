@@ -2,12 +2,10 @@
 use Prim.Native.Nat.{ℕ, _<_}
 use mathlib.Core.Path.{_≡_}
 use mathlib.Core.Logic.{_≢_}
-use mathlib.Core.Bool.{true}
 use mathlib.Core.List.{List}
 use lib.ListN.{length}
 use Rattle.theory.specs.Pool.{words, SoundPool, rightOf}
 use Rattle.theory.specs.Settled.{HasTable, Settled}
-use Rattle.words.specs.Region.{covered}
 use Rattle.table.specs.declared.Shape.{Shape}
 use Rattle.table.specs.Shape.{Fits}
 use Rattle.table.specs.Map.{addresses, formOf}

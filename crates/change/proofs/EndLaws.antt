@@ -15,7 +15,6 @@ use Rattle.theory.proofs.CheckLaws.{roots-check-sound, roots-check-refused}
 use Rattle.theory.proofs.FinishedLaws.{one-finished, finished-words, settled-finished}
 use Rattle.theory.proofs.RightLaws.{by-cases}
 use Rattle.words.specs.Region.{regionOf}
-use Rattle.words.specs.declared.Region.{Region}
 use Rattle.words.specs.declared.Rounded.{Rounded}
 use Rattle.words.specs.declared.Rounded.the-variants.{Covers, Refused as NoRegion}
 use Rattle.table.specs.declared.Shape.{Shape}
@@ -30,7 +29,7 @@ use Rattle.plan.specs.Aims.{aims}
 use Rattle.plan.specs.Goals.{Goal}
 use Rattle.change.specs.declared.Answer.{Answer}
 use Rattle.change.specs.Runs.{phases, At}
-use Rattle.change.specs.Answers.{noPaint, paintOf, IsDone, IsCut, Asked, ChangesRegion, Changes, Tidies}
+use Rattle.change.specs.Answers.{noPaint, paintOf, IsDone, IsCut, ChangesRegion, Changes, Tidies}
 use Rattle.change.specs.Answers.{no-shape, no-domain, no-right, no-region, in-order, unsound, unsettled, no-room, done, cut}
 use Rattle.change.proofs.State.{at-skip, at-store, at-long}
 use Rattle.change.proofs.StateLaws.{at-begin, at-turn, at-end}
