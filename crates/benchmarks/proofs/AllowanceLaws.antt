@@ -1,14 +1,13 @@
 -- An allowance of as many stores as the pool has words suffices.
-use Prim.Native.Nat.{ℕ, suc, _≤_, _<_}
+use Prim.Native.Nat.{ℕ, suc, _≤_}
 use mathlib.Core.Path.{_≡_, sym, ap, _∙_}
-use mathlib.Core.Logic.{_≢_, ⊎-elim}
+use mathlib.Core.Logic.{⊎-elim}
 use mathlib.Core.Bool.{Bool, true, false, cond}
 use mathlib.Core.List.{List, [], _∷_}
 use native.Mathlib.Omega.{arith}
-use native.Mathlib.Decide.{ℕ-discrete, decLt}
+use native.Mathlib.Decide.{decLt}
 use lib.Dec.{eqb}
 use lib.ListN.{length, List·getD-eq-default}
-use borrow.Author.Tests.{eq-eqb}
 use Rattle.theory.specs.Pool.{words}
 use Rattle.table.specs.declared.Shape.{Shape}
 use Rattle.targets.specs.declared.Paint.{Paint}
@@ -19,7 +18,7 @@ use Rattle.change.proofs.OutcomeLaws.{one-goal}
 use Rattle.change.proofs.EndLaws.{goal-ends}
 use Rattle.benchmarks.proofs.RowLaws.{listed, listed-long, listed-word}
 
--- No more words differ than there are ..
+-- No more words differ than there are.
 differing-long : (p q : List ℕ) → differing p q ≤ length p
 unfolding differing
 differing-long [] q = omega arith
@@ -29,16 +28,6 @@ differing-long (x ∷ p) (y ∷ q) = go (eqb x y) (differing p q) (length p) (di
     go : (b : Bool) (m n : ℕ) → m ≤ n → cond b m (suc m) ≤ suc n
     go true m n h = omega arith
     go false m n h = omega arith
-
--- .. and where some differ there is one.
-pub differing-some : (p q : List ℕ) → 0 < differing p q → (j : ℕ) × (words q j ≢ words p j)
-unfolding differing
-differing-some [] q h = absurd (omega arith)
-differing-some (x ∷ p) [] h = absurd (omega arith)
-differing-some (x ∷ p) (y ∷ q) h = elim (ℕ-discrete x y) [
-  | yes e ↦ (let (j, n) = differing-some p q (rw (eq-eqb x y e) at h) in (suc j, n))
-  | no n ↦ (0, λ e. n (sym e))
-]
 
 module _ (s : Shape) (d : ℕ) (paint : Paint) (old : List ℕ) (Q : ℕ → ℕ) (kept : ℕ → Bool) (g : Goal s d paint old Q kept) where
   goal-word : (j : ℕ) → words (listed Q 0 (length old)) j ≡ Q j

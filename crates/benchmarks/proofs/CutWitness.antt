@@ -1,165 +1,211 @@
--- A cut and a series: after row 2 the whole memory is to be read, and the change is cut after five stores; then the pool is tidied.
-use Prim.Native.Nat.{ℕ, _+_, _*_, _/_, _%_, _≤_, _<_}
+-- Before its last store the change leaves 128 pages to be read; so there is a cut, and a series with a tidying that makes a store.
+use Prim.Native.Nat.{ℕ, _+_, _-_, _/_, _≤_, _<_}
 use mathlib.Core.Path.{_≡_, refl, sym, ap, _∙_}
-use mathlib.Core.Logic.{_≢_, ⊎-elim}
-use mathlib.Core.Bool.{Bool, true, false, cond}
+use mathlib.Core.Logic.{_≢_, _⊎_, inl, inr, ⊎-elim}
+use mathlib.Core.Bool.{Bool, true, false, cond, _&&_, _||_}
 use mathlib.Core.List.{List}
 use native.Mathlib.Omega.{arith}
-use native.Mathlib.Decide.{decLt}
-use lib.Dec.{ltb}
-use lib.ListN.{length}
-use borrow.Author.Tests.{lt-ltb, le-ltb}
-use Rattle.theory.specs.Pool.{words, entry, rightOf}
+use native.Mathlib.Decide.{ℕ-discrete, decLt}
+use lib.Dec.{eqb, ltb}
+use lib.ListN.{length, set}
+use lib.Seq.{ext-getD}
+use borrow.Author.Tests.{lt-ltb, le-ltb, ltb-true}
+use Rattle.theory.specs.Pool.{words, rightOf}
 use Rattle.theory.specs.Settled.{Settled}
-use Rattle.theory.specs.Finished.{Finished}
-use Rattle.theory.proofs.RightLaws.{right-says}
-use Rattle.words.specs.Rights.{rightAt, goodRights}
-use Rattle.words.specs.Region.{rounded, regionOf, covered}
-use Rattle.words.specs.declared.Region.{Region}
-use Rattle.words.proofs.RightsLaws.{eight-right}
-use Rattle.table.specs.Shape.{Fits}
-use Rattle.table.specs.Map.{addresses, formOf}
+use Rattle.theory.specs.Stores.{Kept, top, down}
+use Rattle.theory.specs.Phase.{phase}
+use Rattle.theory.proofs.RightLaws.{by-cases}
+use Rattle.words.specs.Region.{rounded, regionOf}
 use Rattle.table.specs.declared.Made.the-variants.{Done as Made}
+use Rattle.table.specs.Shape.{Fits}
+use Rattle.table.specs.Map.{addresses, formOf, leads}
 use Rattle.table.specs.Fresh.{freshPool, MakesFresh}
 use Rattle.table.proofs.ShapeLaws.{fits-test}
+use Rattle.table.proofs.FormLaws.{eight-good}
 use Rattle.table.proofs.FreshLaws.{makes-fresh}
-use Rattle.plan.specs.Aims.{aims}
-use Rattle.plan.proofs.AimLaws.{aims-covered}
-use Rattle.change.specs.declared.Answer.the-variants.{Done, Cut}
+use Rattle.change.specs.declared.Answer.the-variants.{Done, Cut, Refused}
 use Rattle.change.specs.Cuts.{differing}
-use Rattle.change.specs.Answers.{paintOf, noPaint, IsCut, Asked, Changes, Tidies, in-order}
-use Rattle.change.specs.Answers.{cut, done}
+use Rattle.change.specs.Answers.{paintOf, IsCut, Changes, Tidies, in-order, unsettled, cut}
+use Rattle.change.proofs.DifferLaws.{differing-less}
 use Rattle.change.proofs.OutcomeLaws.{one-goal}
-use Rattle.change.proofs.TidyGoalLaws.{tidy-goal}
 use Rattle.demands.specs.Series.{fresh, change, tidy}
 use Rattle.benchmarks.specs.Rows.{shape}
 use Rattle.benchmarks.specs.Witnesses.{SomeCut, SomeSeries}
-use Rattle.benchmarks.proofs.RowLaws.{fresh-fits, in-range, covered-yes, aims-fresh, change-cut, listed, listed-long, listed-words}
-use Rattle.benchmarks.proofs.FlatLaws.{flat-finished, flat-right}
-use Rattle.benchmarks.proofs.PageLaws.{after, after-past}
-use Rattle.benchmarks.proofs.PagePools.{page-word, page-long, page-done-finished}
-use Rattle.benchmarks.proofs.PageRows.{in-leaf, leaf-page, leaf-pool, leaf-set}
-use Rattle.benchmarks.proofs.AllowanceLaws.{differing-some, enough-done}
+use Rattle.benchmarks.proofs.RowLaws.{fresh-fits, in-range, aims-fresh, listed, listed-long}
+use Rattle.benchmarks.proofs.FlatLaws.{first-part}
+use Rattle.benchmarks.proofs.PageLaws.{after}
+use Rattle.benchmarks.proofs.PagePools.{page-done-finished}
+use Rattle.benchmarks.proofs.PageRows.{in-middle, middle-page, middle-pool, middle-set}
+use Rattle.benchmarks.proofs.OneTable.{table-sound, settled-divided}
+use Rattle.benchmarks.proofs.RootTidy.{tidied-first, tidied-root, tidies-root}
+use Rattle.benchmarks.proofs.CutPools.{s, until, read-pool, pages, goal, read-in, read-same, read-one, read-right, middle-one}
+use Rattle.benchmarks.proofs.CutPools.{goal-finished, middle-fits, middle-settled, asked, some-outcome}
 
-abbrev whole : Region
-whole = rounded 0 4294967295
+abbrev cut-pool : List ℕ
+cut-pool = read-pool 128
 
-abbrev reads : ℕ → ℕ
-reads j = cond (ltb j 1024) 0x80005555 (after 0 0x1000 0xAAAAAAAA j)
-
--- The finished pool: every root word says read, and both tables lie idle.
-abbrev all-read : List ℕ
-all-read = listed reads 0 2112
-
-reads-past : (j : ℕ) → 1024 ≤ j → reads j ≡ after 0 0x1000 0xAAAAAAAA j
-reads-past j h = ap (λ t. cond t 0x80005555 (after 0 0x1000 0xAAAAAAAA j)) (le-ltb j 1024 h)
-
-read-word : (j : ℕ) → words all-read j ≡ reads j
-read-word = listed-words reads 2112 (λ j h. reads-past j (omega arith) ∙ after-past leaf-page j h)
-
-read-root : (j : ℕ) → j < 1024 → words all-read j ≡ 0x80005555
-read-root j h = read-word j ∙ ap (λ t. cond t 0x80005555 (after 0 0x1000 0xAAAAAAAA j)) (lt-ltb j 1024 h)
-
-read-rest : (j : ℕ) → 1024 ≤ j → words all-read j ≡ words leaf-pool j
-read-rest j h = read-word j ∙ reads-past j h ∙ sym (page-word in-leaf 2 leaf-page (omega arith) j)
-
-is-covered : (a : ℕ) → a < addresses → covered whole a ≡ true
-is-covered a ba = covered-yes whole a (omega arith) (omega arith)
-
-read-finished : Finished (formOf (shape 1 1)) (words leaf-pool) (aims (shape 1 1) 0 (paintOf whole 1) (words leaf-pool)) (words all-read)
-read-finished = flat-finished 1 1 1 (words all-read) flat (words leaf-pool) (aims (shape 1 1) 0 (paintOf whole 1) (words leaf-pool))
-    (λ d a bd ba. flat-right 1 1 1 (words all-read) flat d a bd
-    ∙ ap (λ w. rightAt w (a / 524288 % 8)) (read-root (1024 * d + a / 4194304 % 1024) (omega arith))
-    ∙ eight-right 1 (a / 524288 % 8) (omega arith) (omega arith)
-    ∙ sym (aims-covered (shape 1 1) 0 (paintOf whole 1) (words leaf-pool) d a (omega arith, is-covered a ba)))
-    read-rest
-  where
-    flat : (j : ℕ) → j < 1024 → goodRights (words all-read j) ≡ true
-    flat j h = rw (read-root j h) refl
-
-read-stores : differing leaf-pool all-read ≡ 1024
+cut-stores : differing middle-pool cut-pool ≡ 128
 unfolding differing listed after
-read-stores = refl
+cut-stores = refl
 
-leaf-fits : Fits (shape 1 1) (length leaf-pool)
-leaf-fits = rw (page-long in-leaf 2 leaf-page (omega arith)) (fresh-fits (shape 1 1) (in-range 1 1 (omega arith) (omega arith)))
+-- Every cut after 128 stores is that pool.
+module _ {x : List ℕ} (c : IsCut s 0 (paintOf pages 1) middle-pool 128 x) where
+  goal-is : (j : ℕ) → c .cut .goal j ≡ words goal j
+  goal-is = one-goal s 0 (paintOf pages 1) middle-pool (words goal) goal-finished (c .cut)
 
-leaf-settled : Settled (formOf (shape 1 1)) (words leaf-pool)
-leaf-settled = page-done-finished in-leaf 2 leaf-page (omega arith) .settled
+  -- All words of the table are stored in the third phase, in their order.
+  is-kept : (j : ℕ) → 1024 ≤ j → j < 2048 → c .way .kept j ≡ true
+  is-kept j lo hi =
+      let same = middle-one .first ∙ sym (goal-is 0 ∙ read-one 129 (omega arith) (omega arith) .first) in
+      let e : words middle-pool 0 + (j - 1024) ≡ j = let z = middle-one .first in omega arith in
+      let k : Kept (formOf s) (words middle-pool) (c .cut .goal) 2 0 = top (0, 0, refl, refl, omega arith, omega arith) in
+      c .way .tells .is 1 j (rw e at (down (j - 1024) k same (rw (middle-one .first) refl) (omega arith)))
 
-asked : Asked leaf-pool (shape 1 1) 0 0 4294967295 1 whole
-unfolding regionOf
-asked = record { fits = leaf-fits; domain = omega arith; right = omega arith; region = refl }
+  third : (j : ℕ) → 1024 ≤ j → j < 2048 → phase (formOf s) (words middle-pool) (c .way .kept) j ≡ 3
+  third j lo hi =
+      let zone : formOf s .zone j ≡ 1 = rw (le-ltb j 1024 lo, lt-ltb j 2048 hi) refl in
+      ap (λ b. cond b (cond (leads (formOf s .zone j) (words middle-pool j)) 1 3) 2) (is-kept j lo hi)
+      ∙ ap (λ h. cond (leads h (words middle-pool j)) 1 3) zone
+      ∙ ap (λ t. cond t 1 3) (eight-good 1 1 0 0 (words middle-pool j) (omega arith) (middle-one .middle j lo hi) .1)
 
-read-cut : (x : List ℕ) × IsCut (shape 1 1) 0 (paintOf whole 1) leaf-pool 5 x
-read-cut =
-    change-cut leaf-pool (shape 1 1) 0 0 4294967295 1 5 whole asked leaf-settled all-read read-finished
-    (listed-long reads 0 2112 ∙ sym (leaf-fits .long)) (rw read-stores (omega arith))
+  abbrev reached : ℕ → Bool
+  reached j = ltb 3 (c .way .phase-reached) || (eqb 3 (c .way .phase-reached) && ltb j (c .way .word-reached))
 
--- A word that was stored is a root word, and gives the new right.
-module _ {x : List ℕ} (c : IsCut (shape 1 1) 0 (paintOf whole 1) leaf-pool 5 x) where
-  stored : (j : ℕ) × (j < 1024) × (words x j ≡ 0x80005555)
-  stored =
-      let (j, n) = differing-some leaf-pool x (rw (c .cut .count) (omega arith)) in
-      let e = ⊎-elim (λ z. absurd (n z)) (λ z. z ∙ one-goal (shape 1 1) 0 (paintOf whole 1) leaf-pool (words all-read) read-finished (c .cut) j) (c .cut .each j) in
-      elim (decLt j 1024) [
-        | yes h ↦ (j, h, e ∙ read-root j h)
-        | no h ↦ absurd (n (e ∙ read-rest j (omega arith)))
-      ]
+  cut-word : (j : ℕ) → 1024 ≤ j → j < 2048 → words x j ≡ cond (reached j) (c .cut .goal j) (words middle-pool j)
+  cut-word j lo hi =
+      c .way .is j ∙ ap (λ p. cond (ltb p (c .way .phase-reached) || (eqb p (c .way .phase-reached) && ltb j (c .way .word-reached)))
+      (c .cut .goal j) (words middle-pool j)) (third j lo hi)
 
-  new-right : (j : ℕ) → j < 1024 → words x j ≡ 0x80005555 → rightOf (formOf (shape 1 1)) (words x) 0 (4194304 * j) ≡ 1
-  new-right j h e =
-      let i : entry (formOf (shape 1 1)) 0 (4194304 * j) ≡ j = omega arith in
-      let w : words x (entry (formOf (shape 1 1)) 0 (4194304 * j)) ≡ 0x80005555 = ap (words x) i ∙ e in
-      right-says (formOf (shape 1 1)) (words x) 2 (entry (formOf (shape 1 1)) 0 (4194304 * j)) (4194304 * j) (rw w refl)
-      ∙ ap (λ v. rightAt v (4194304 * j / 524288 % 8)) w ∙ eight-right 1 (4194304 * j / 524288 % 8) (omega arith) (omega arith)
+  before : (j k : ℕ) → j ≤ k → reached k ≡ true → reached j ≡ true
+  before j k h = go (ltb 3 (c .way .phase-reached)) (eqb 3 (c .way .phase-reached))
+    where
+      go : (a b : Bool) → (a || (b && ltb k (c .way .word-reached))) ≡ true → (a || (b && ltb j (c .way .word-reached))) ≡ true
+      go true b e = refl
+      go false true e = lt-ltb j (c .way .word-reached) (let z = ltb-true k (c .way .word-reached) e in omega arith)
+      go false false e = e
 
-old-right : (a : ℕ) → a < addresses → rightOf (formOf (shape 1 1)) (words leaf-pool) 0 a ≢ 1
-old-right a ba e = never (covered in-leaf a)
-    (sym (page-done-finished in-leaf 2 leaf-page (omega arith) .rights 0 a (omega arith) ba
-    ∙ aims-fresh (shape 1 1) (paintOf in-leaf 2) 0 a (omega arith) (omega arith)) ∙ e)
-  where
-    never : (b : Bool) → _≡_ {A = ℕ} (cond b 2 0) 1 → ⊥
-    never true z = omega arith
-    never false z = omega arith
+  -- The last store is the one that is missing: were it made, all would be.
+  whole : reached 1152 ≡ true → (j : ℕ) → words x j ≡ c .cut .goal j
+  whole t j = elim (decLt j 1024) [
+    | yes h ↦ still (λ lo hi. omega arith)
+    | no h ↦ elim (decLt j 1153) [
+      | yes k ↦ cut-word j (omega arith) (omega arith) ∙ ap (λ b. cond b (c .cut .goal j) (words middle-pool j)) (before j 1152 (omega arith) t)
+      | no k ↦ still (λ lo hi. omega arith)
+    ]
+  ]
+    where
+      still : (1024 ≤ j → j < 1153 → ⊥) → words x j ≡ c .cut .goal j
+      still f = ⊎-elim (λ e. e ∙ sym (goal-is j ∙ read-same 129 (omega arith) (omega arith) j f)) (λ e. e) (c .cut .each j)
+
+  last-old : words x 1152 ≡ words middle-pool 1152
+  last-old = by-cases (reached 1152)
+      (λ t. absurd (let z = c .more x (c .cut .long) (whole t) in let y = c .cut .count in omega arith))
+      (λ t. cut-word 1152 (omega arith) (omega arith) ∙ ap (λ b. cond b (c .cut .goal 1152) (words middle-pool 1152)) t)
+
+  others : (j : ℕ) → j ≢ 1152 → words goal j ≡ words cut-pool j
+  others j n = elim (decLt j 1024) [
+    | yes h ↦ same (λ lo hi. omega arith)
+    | no h ↦ elim (decLt j 1152) [
+      | yes k ↦ read-in 129 (omega arith) (omega arith) j (omega arith) (omega arith) ∙ sym (read-in 128 (omega arith) (omega arith) j (omega arith) k)
+      | no k ↦ same (λ lo hi. n (omega arith))
+    ]
+  ]
+    where
+      same : (1024 ≤ j → j < 1153 → ⊥) → words goal j ≡ words cut-pool j
+      same f = read-same 129 (omega arith) (omega arith) j f ∙ sym (read-same 128 (omega arith) (omega arith) j (λ lo hi. f lo (omega arith)))
+
+  among : (j : ℕ) → (words x j ≡ words middle-pool j) ⊎ (words x j ≡ words cut-pool j)
+  among j = elim (ℕ-discrete j 1152) [
+    | yes e ↦ rw e (inl last-old)
+    | no n ↦ ⊎-elim inl (λ e. inr (e ∙ goal-is j ∙ others j n)) (c .cut .each j)
+  ]
+
+  is-cut-pool : x ≡ cut-pool
+  is-cut-pool =
+      let long : length cut-pool ≡ length middle-pool = listed-long (until 128) 0 2048 ∙ sym (middle-fits .long) in
+      ext-getD 0 x cut-pool (c .cut .long ∙ sym long) (λ j h. elim (ℕ-discrete (words x j) (words cut-pool j)) [
+        | yes e ↦ e
+        | no n ↦ absurd
+            (let z = differing-less middle-pool x cut-pool j (c .cut .long) long among (rw (c .cut .long) at h) (λ e. n (sym e)) in
+            let y = c .cut .count in
+            let w = cut-stores in
+            omega arith)
+      ])
+
+the-cut : IsCut s 0 (paintOf pages 1) middle-pool 128 cut-pool
+the-cut = let (x, c) = some-outcome in rw (is-cut-pool c) at c
+
+cut-right : (a : ℕ) → a < addresses → rightOf (formOf s) (words cut-pool) 0 a ≡ cond (ltb (a / 4096) 128) 1 0
+cut-right a ba = read-right 128 (omega arith) (omega arith) 0 a (omega arith) ba
 
 pub some-cut : SomeCut
-some-cut =
-    let (x, c) = read-cut in
-    let (j, h, e) = stored c in
-    record {
-      shape = shape 1 1;
-      domain = 0;
-      paint = paintOf whole 1;
-      old = leaf-pool;
-      stores = 5;
-      pool = x;
-      some = omega arith;
-      cut = c;
-      word = 4194304 * j;
-      address = omega arith;
-      covers = (refl, is-covered (4194304 * j) (omega arith));
-      had-not = old-right (4194304 * j) (omega arith);
-      has = new-right c j h e;
-    }
+some-cut = record {
+  shape = s;
+  domain = 0;
+  paint = paintOf pages 1;
+  old = middle-pool;
+  stores = 128;
+  pool = cut-pool;
+  some = omega arith;
+  cut = the-cut;
+  word = 0;
+  address = omega arith;
+  covers = (refl, refl);
+  had-not = λ e. none (sym (page-done-finished in-middle 2 middle-page (omega arith) .rights 0 0 (omega arith) (omega arith)
+      ∙ aims-fresh s (paintOf in-middle 2) 0 0 (omega arith) (omega arith)) ∙ e);
+  has = cut-right 0 (omega arith);
+}
+  where
+    none : _≡_ {A = ℕ} 0 1 → ⊥
+    none e = omega arith
+
+-- The table has become needless: each 512 KB has one right.
+cut-unsettled : Settled (formOf s) (words cut-pool) → ⊥
+cut-unsettled t =
+    let (b, c, bb, bc, x, y, z) = settled-divided 0 (read-one 128 (omega arith) (omega arith)) t in
+    z (cut-right b bb ∙ ap (λ t. cond t 1 0) (low b ∙ ap (λ n. ltb n 1) y ∙ sym (low c)) ∙ sym (cut-right c bc))
+  where
+    low : (a : ℕ) → ltb (a / 4096) 128 ≡ ltb (a / 524288) 1
+    low a = elim (decLt (a / 4096) 128) [
+      | yes h ↦ lt-ltb (a / 4096) 128 h ∙ sym (lt-ltb (a / 524288) 1 (omega arith))
+      | no h ↦ le-ltb (a / 4096) 128 (omega arith) ∙ sym (le-ltb (a / 524288) 1 (omega arith))
+    ]
+
+cut-fits : Fits s (length cut-pool)
+cut-fits = rw (listed-long (until 128) 0 2048 ∙ sym (middle-fits .long)) middle-fits
+
+refused-7 : Changes cut-pool s 0 0 4 0 0 (Refused 7) cut-pool
+unfolding regionOf
+refused-7 = in-order (rounded 0 4) (record { fits = cut-fits; domain = omega arith; right = omega arith; region = refl })
+    (unsettled (table-sound 0 (read-one 128 (omega arith) (omega arith))) cut-unsettled)
+
+-- The root word says what the table said.
+tidies-cut : Tidies cut-pool s 1 (Done 1) (set cut-pool 0 0x80000001)
+tidies-cut =
+    let one = read-one 128 (omega arith) (omega arith) in
+    tidies-root 0 cut-pool (cut-fits .long) one 0x80000001 refl
+    (λ a ba. first-part (words (set cut-pool 0 0x80000001)) (tidied-first 0 cut-pool (cut-fits .long) one 0x80000001 refl)
+    (tidied-root 0 cut-pool (cut-fits .long) one 0x80000001 refl) a ba ∙ ap (λ t. cond t 1 0) (low a) ∙ sym (cut-right a ba))
+    (omega arith) 1 (omega arith)
+  where
+    low : (a : ℕ) → ltb a 524288 ≡ ltb (a / 4096) 128
+    low a = elim (decLt a 524288) [
+      | yes h ↦ lt-ltb a 524288 h ∙ sym (lt-ltb (a / 4096) 128 (omega arith))
+      | no h ↦ le-ltb a 524288 (omega arith) ∙ sym (le-ltb (a / 4096) 128 (omega arith))
+    ]
+
+begun : Changes middle-pool s 0 0 528384 1 128 Cut cut-pool
+begun = in-order pages asked (cut middle-settled cut-pool the-cut)
+
+made : MakesFresh s (freshPool s) Made (freshPool s)
+made = makes-fresh s (freshPool s) (freshPool s) (fits-test s (length (freshPool s)) (fresh-fits s (in-range 1 0 (omega arith) (omega arith)))) refl
 
 pub some-series : SomeSeries
-some-series =
-    let (x, c) = read-cut in
-    let s = shape 1 1 in
-    let f : Fits s (length x) = rw (c .cut .long) leaf-fits in
-    let (Q, kept, g) = tidy-goal s 0 x f (c .cut .sound) in
-    let (q, d) = enough-done s 0 noPaint x Q kept g in
-    let begun : Changes leaf-pool s 0 0 4294967295 1 5 Cut x = in-order whole asked (cut leaf-settled x c) in
-    let tidied : Tidies x s (length x) (Done (differing x q)) q = done f (c .cut .sound) q d in
-    record {
-      shape = s;
-      pool = q;
-      stores = 1026;
-      tidied-stores = differing x q;
-      series = tidy (change (change (fresh made) (leaf-set 1026 (omega arith))) begun) tidied;
-    }
-  where
-    made : MakesFresh (shape 1 1) (freshPool (shape 1 1)) Made (freshPool (shape 1 1))
-    made = makes-fresh (shape 1 1) (freshPool (shape 1 1)) (freshPool (shape 1 1))
-        (fits-test (shape 1 1) (length (freshPool (shape 1 1))) (fresh-fits (shape 1 1) (in-range 1 1 (omega arith) (omega arith)))) refl
+some-series = record {
+  shape = s;
+  pool = set cut-pool 0 0x80000001;
+  made-stores = 1025;
+  tidied-stores = 1;
+  some = omega arith;
+  series = tidy (change (change (change (fresh made) (middle-set 1025 (omega arith))) begun) refused-7) tidies-cut;
+}

@@ -1,16 +1,20 @@
 -- A pool all of whose root words are eight rights has no table; it is the finished pool for the rights that it gives.
 use Prim.Native.Nat.{ℕ, _+_, _*_, _/_, _%_, _≤_, _<_}
-use mathlib.Core.Path.{_≡_, refl, sym, _∙_}
-use mathlib.Core.Bool.{true, false, true≢false}
+use mathlib.Core.Path.{_≡_, refl, sym, ap, _∙_}
+use mathlib.Core.Logic.{_≢_}
+use mathlib.Core.Bool.{Bool, true, false, cond, true≢false}
 use native.Mathlib.Omega.{arith}
-use native.Mathlib.Decide.{decLt}
+use native.Mathlib.Decide.{ℕ-discrete, decLt}
+use lib.Dec.{eqb, ltb}
+use borrow.Author.Tests.{eq-eqb, ne-eqb, lt-ltb, le-ltb}
 use Rattle.theory.specs.Pool.{Reach, start, Visits, here, next, Roots, entry, rightOf, Led}
 use Rattle.theory.specs.Settled.{Settled}
 use Rattle.theory.specs.Finished.{Finished}
 use Rattle.theory.proofs.RightLaws.{right-says}
 use Rattle.theory.proofs.BlockLaws.{met-by}
 use Rattle.theory.proofs.SettledLaws.{unsaid-settled}
-use Rattle.words.specs.Rights.{rightAt, goodRights}
+use Rattle.words.specs.Rights.{rightAt, goodRights, pack}
+use Rattle.words.proofs.RightsLaws.{eight-right, pack-digit}
 use Rattle.table.specs.Map.{addresses, form}
 use Rattle.table.proofs.FormLaws.{eight-good, lawful, exact}
 use Rattle.table.proofs.WantLaws.{wanting}
@@ -57,3 +61,27 @@ module _ (D M L : ℕ) (Q : ℕ → ℕ) (flat : (j : ℕ) → j < 1024 * D → 
         | no h ↦ rest j (omega arith)
       ];
     }
+
+-- The first of eight rights alone is 1.
+first-right : (i : ℕ) → i < 8 → rightAt 0x80000001 i ≡ cond (eqb i 0) 1 0
+unfolding pack
+first-right i h = pack-digit 32768 8 i (λ j. cond (eqb j 0) 1 0) (λ j b. small (eqb j 0)) h
+  where
+    small : (b : Bool) → cond b 1 0 < 4
+    small true = omega arith
+    small false = omega arith
+
+-- A root that says read of the first 512 KB, and none of all else.
+pub first-part : (Q : ℕ → ℕ) → Q 0 ≡ 0x80000001 → ((j : ℕ) → j ≢ 0 → j < 1024 → Q j ≡ 0x80000000) → (a : ℕ) → a < addresses
+    → rightAt (Q (a / 4194304 % 1024)) (a / 524288 % 8) ≡ cond (ltb a 524288) 1 0
+first-part Q first others a ba = elim (ℕ-discrete (a / 4194304 % 1024) 0) [
+  | yes e ↦ ap (λ w. rightAt w (a / 524288 % 8)) (ap Q e ∙ first) ∙ first-right (a / 524288 % 8) (omega arith) ∙ ap (λ t. cond t 1 0) (low e)
+  | no n ↦ ap (λ w. rightAt w (a / 524288 % 8)) (others (a / 4194304 % 1024) n (omega arith)) ∙ eight-right 0 (a / 524288 % 8) (omega arith) (omega arith)
+      ∙ ap (λ t. cond t 1 0) (sym (le-ltb a 524288 (omega arith)))
+]
+  where
+    low : a / 4194304 % 1024 ≡ 0 → eqb (a / 524288 % 8) 0 ≡ ltb a 524288
+    low e = elim (decLt a 524288) [
+      | yes h ↦ eq-eqb (a / 524288 % 8) 0 (omega arith) ∙ sym (lt-ltb a 524288 h)
+      | no h ↦ ne-eqb (a / 524288 % 8) 0 (λ z. omega arith) ∙ sym (le-ltb a 524288 (omega arith))
+    ]

@@ -2,22 +2,22 @@
 use Prim.Native.Nat.{ℕ, suc, _+_, _*_, _/_, _%_, _≤_, _<_}
 use mathlib.Core.Path.{_≡_, refl, sym, ap, _∙_}
 use mathlib.Core.Logic.{_≢_}
-use mathlib.Core.Bool.{Bool, true, false, cond}
+use mathlib.Core.Bool.{true, cond}
 use mathlib.Core.List.{List}
 use native.Mathlib.Omega.{arith}
 use native.Mathlib.Decide.{ℕ-discrete, decLt}
-use lib.Dec.{eqb, ltb}
+use lib.Dec.{ltb}
 use lib.ListN.{length, set, replicate, length-set, length-replicate, getD-replicate, List·getD-eq-default}
 use lib.Seq.{getD-set-same, getD-set-other}
-use borrow.Author.Tests.{eq-eqb, ne-eqb, lt-ltb, le-ltb}
+use borrow.Author.Tests.{lt-ltb, le-ltb}
 use Rattle.theory.specs.Pool.{words, entry, rightOf}
 use Rattle.theory.proofs.WalkLaws.{walk-stops, walk-refused}
 use Rattle.theory.specs.Finished.{Finished}
-use Rattle.words.specs.Rights.{rightAt, goodRights, pack}
+use Rattle.words.specs.Rights.{rightAt, goodRights}
 use Rattle.words.specs.Region.{rounded, regionOf, covered}
 use Rattle.words.specs.declared.Region.{Region}
 use Rattle.words.specs.declared.Rounded.the-variants.{Covers}
-use Rattle.words.proofs.RightsLaws.{eight-right, pack-digit}
+use Rattle.words.proofs.RightsLaws.{eight-right}
 use Rattle.table.specs.declared.Found.the-variants.{Right, Refused}
 use Rattle.table.specs.declared.Made.the-variants.{Done as Made}
 use Rattle.table.specs.Shape.{Fits}
@@ -41,7 +41,7 @@ use Rattle.change.specs.Answers.{paintOf, Asked, in-order, no-room}
 use Rattle.change.proofs.DifferLaws.{differing-set, differing-self}
 use Rattle.benchmarks.specs.Rows.{shape, AnyAddress, SetsOnePart, NoRoomForLess, SetsAll, ZeroWord}
 use Rattle.benchmarks.proofs.RowLaws.{always-change, finds, fresh-fits, in-range, covered-yes, covered-no, aims-fresh, change-done}
-use Rattle.benchmarks.proofs.FlatLaws.{flat-finished, flat-right}
+use Rattle.benchmarks.proofs.FlatLaws.{flat-finished, flat-right, first-part}
 
 -- Row 1: the root word decides.
 module _ (M L : ℕ) (f : Fits (shape M L) (length (freshPool (shape M L)))) (a : ℕ) where
@@ -106,26 +106,14 @@ part-root j h n = part-other j n ∙ ap (λ t. cond t 0x80000000 0) (lt-ltb j 10
 part-flat : (j : ℕ) → j < 1024 → goodRights (words one-part j) ≡ true
 part-flat j h = elim (ℕ-discrete j 0) [ yes e ↦ rw e refl | no n ↦ rw (part-root j h n) refl ]
 
--- The first of eight rights alone is 1.
-first-right : (i : ℕ) → i < 8 → rightAt 0x80000001 i ≡ cond (eqb i 0) 1 0
-unfolding pack
-first-right i h = pack-digit 32768 8 i (λ j. cond (eqb j 0) 1 0) (λ j b. small (eqb j 0)) h
-  where
-    small : (b : Bool) → cond b 1 0 < 4
-    small true = omega arith
-    small false = omega arith
+part-rights : (a : ℕ) → a < addresses → rightAt (words one-part (a / 4194304 % 1024)) (a / 524288 % 8) ≡ cond (ltb a 524288) 1 0
+part-rights a ba = first-part (words one-part) part-first (λ j n h. part-root j h n) a ba
 
-part-rights : (a : ℕ) → a < addresses → rightAt (words one-part (a / 4194304 % 1024)) (a / 524288 % 8) ≡ cond (covered (rounded 0 524288) a) 1 0
-part-rights a ba = elim (ℕ-discrete (a / 4194304 % 1024) 0) [
-  | yes e ↦ ap (λ i. rightAt (words one-part i) (a / 524288 % 8)) e ∙ ap (λ w. rightAt w (a / 524288 % 8)) part-first
-      ∙ first-right (a / 524288 % 8) (omega arith)
-      ∙ elim (decLt a 524288) [
-        | yes h ↦ ap (λ t. cond t 1 0) (eq-eqb (a / 524288 % 8) 0 (omega arith) ∙ sym (covered-yes (rounded 0 524288) a (omega arith) (omega arith)))
-        | no h ↦ ap (λ t. cond t 1 0) (ne-eqb (a / 524288 % 8) 0 (λ z. omega arith) ∙ sym (covered-no (rounded 0 524288) a (λ x y. omega arith)))
-      ]
-  | no n ↦ ap (λ w. rightAt w (a / 524288 % 8)) (part-root (a / 4194304 % 1024) (omega arith) n)
-      ∙ eight-right 0 (a / 524288 % 8) (omega arith) (omega arith)
-      ∙ ap (λ t. cond t 1 0) (sym (covered-no (rounded 0 524288) a (λ x y. omega arith)))
+-- What the change covers.
+part-covered : (a : ℕ) → covered (rounded 0 524288) a ≡ ltb a 524288
+part-covered a = elim (decLt a 524288) [
+  | yes h ↦ covered-yes (rounded 0 524288) a (omega arith) (omega arith) ∙ sym (lt-ltb a 524288 h)
+  | no h ↦ covered-no (rounded 0 524288) a (λ x y. omega arith) ∙ sym (le-ltb a 524288 (omega arith))
 ]
 
 -- A flat pool that is finished, from the fresh one.
@@ -145,7 +133,7 @@ pub row-7 : SetsOnePart
 unfolding regionOf
 row-7 n h = always-change
     (change-done pool (shape 0 0) 0 0 524288 1 n (rounded 0 524288) (asked 0 524288 1 (rounded 0 524288) (omega arith) refl) (fresh-settled (shape 0 0)) one-part 1
-    (finished (rounded 0 524288) 1 (words one-part) part-flat part-rights (λ j b. part-other j (λ z. omega arith) ∙ ap (λ t. cond t 0x80000000 0) (le-ltb j 1024 b)))
+    (finished (rounded 0 524288) 1 (words one-part) part-flat (λ a ba. part-rights a ba ∙ ap (λ t. cond t 1 0) (sym (part-covered a))) (λ j b. part-other j (λ z. omega arith) ∙ ap (λ t. cond t 0x80000000 0) (le-ltb j 1024 b)))
     (length-set pool 0 0x80000001)
     (differing-set pool pool 0 0x80000001 refl (rw pool-long (omega arith)) refl other ∙ ap suc (differing-self pool))
     h)

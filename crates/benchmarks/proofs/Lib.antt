@@ -6,9 +6,12 @@ pub mod PagePools
 pub mod PageRows
 pub mod CutRows
 pub mod LastRow
+pub mod OneTable
+pub mod RootTidy
 pub mod TidyRow
 pub mod Rows
 pub mod AllowanceLaws
+pub mod CutPools
 pub mod CutWitness
 pub mod TwoDomains
 pub mod Witnesses

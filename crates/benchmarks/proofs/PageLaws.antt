@@ -48,11 +48,11 @@ after low a0 w j =
 
 -- Its words.
 module _ (low a0 w : ℕ) where
-  at-root : after low a0 w (index 2 a0) ≡ 1024
+  pub at-root : after low a0 w (index 2 a0) ≡ 1024
   unfolding after
   at-root = rw (eq-eqb (index 2 a0) (index 2 a0) refl)
 
-  at-middle : after low a0 w (1024 + index 1 a0) ≡ cond (eqb low 0) 2048 w
+  pub at-middle : after low a0 w (1024 + index 1 a0) ≡ cond (eqb low 0) 2048 w
   unfolding after
   at-middle =
       rw (ne-eqb (1024 + index 1 a0) (index 2 a0) (λ e. omega arith), eq-eqb (1024 + index 1 a0) (1024 + index 1 a0) refl)
@@ -74,6 +74,10 @@ module _ (low a0 w : ℕ) where
 pub after-root : (low a0 w j : ℕ) → j < 1024 → j ≢ index 2 a0 → after low a0 w j ≡ 0x80000000
 after-root low a0 w j h e =
     elsewhere low a0 w j e (λ t. omega arith) (λ t. omega arith) ∙ ap (λ t. cond t 0x80000000 0) (lt-ltb j 2048 (omega arith))
+
+-- The other words of the middle table do too.
+pub after-middle : (low a0 w j : ℕ) → 1024 ≤ j → j < 2048 → j ≢ 1024 + index 1 a0 → after low a0 w j ≡ 0x80000000
+after-middle low a0 w j lo hi e = elsewhere low a0 w j (λ t. omega arith) e (λ t. omega arith) ∙ ap (λ t. cond t 0x80000000 0) (lt-ltb j 2048 hi)
 
 -- Past the pool there is nothing.
 pub after-past : {L low : ℕ} {R : ℕ → ℕ} {a0 c0 w : ℕ} → OnePage L low R a0 c0 w → (j : ℕ) → 2048 + 64 * L ≤ j → after low a0 w j ≡ 0

@@ -53,19 +53,25 @@ row-3 n h = always-change (leaf-set n h) (
 )
 
 -- Row 6: a middle table alone.
-abbrev in-middle : Region
+abbrev pub in-middle : Region
 in-middle = rounded 0x1000 512
 
-middle-page : OnePage 0 1 (painted in-middle 2) 0x1000 0x1200 0x80000002
+pub middle-page : OnePage 0 1 (painted in-middle 2) 0x1000 0x1200 0x80000002
 unfolding pack any
 middle-page = one-page 0 1 in-middle 2 0x1000 0x1200 (omega arith) (λ z. omega arith) (omega arith) (omega arith) (λ z. omega arith) (omega arith)
     (λ b e. let r = covered-range in-middle b e in omega arith) refl refl refl refl
 
-middle-stores : differing (freshPool (shape 1 0)) (pagePool 0 1 0x1000 0x80000002) ≡ 1025
+abbrev pub middle-pool : List ℕ
+middle-pool = pagePool 0 1 0x1000 0x80000002
+
+middle-stores : differing (freshPool (shape 1 0)) middle-pool ≡ 1025
 unfolding differing listed after
 middle-stores = refl
 
+pub middle-set : (n : ℕ) → 1025 ≤ n → Sets 1 0 0x1000 512 2 n (Done 1025) middle-pool
+unfolding regionOf
+middle-set n h = page-done in-middle 2 middle-page (omega arith) 0x1000 512 (omega arith) refl n 1025 middle-stores h
+
 pub row-6 : SetsOneMiddle
-unfolding listed after regionOf
-row-6 n h = always-change
-    (page-done in-middle 2 middle-page (omega arith) 0x1000 512 (omega arith) refl n 1025 middle-stores h) (refl, refl)
+unfolding listed after
+row-6 n h = always-change (middle-set n h) (refl, refl)

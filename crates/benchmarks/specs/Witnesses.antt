@@ -11,7 +11,7 @@ use Rattle.table.specs.Shape.{Fits}
 use Rattle.table.specs.Map.{addresses, formOf}
 use Rattle.targets.specs.declared.Paint.{Paint}
 use Rattle.plan.specs.Aims.{Covered}
-use Rattle.change.specs.declared.Answer.the-variants.{Done, Cut}
+use Rattle.change.specs.declared.Answer.the-variants.{Done, Cut, Refused}
 use Rattle.change.specs.Cuts.{Due}
 use Rattle.change.specs.Answers.{IsCut}
 use Rattle.lookaside.specs.declared.Slot.{Slot}
@@ -76,13 +76,14 @@ pub record SomeBuffer : Type 0 where
   pub slot : Slot
   pub answers : firstMatch (buffer .slots) 0 0x1004 ≡ At slot
 
--- A series: a change that finished, one that was cut, and a tidying after it.
+-- A series: a change that finished, one that was cut, a third that was refused 7 for the cut, and a tidying that made a store.
 pub record SomeSeries : Type 0 where
   pub shape : Shape
   pub pool : List ℕ
-  pub stores : ℕ
+  pub made-stores : ℕ
   pub tidied-stores : ℕ
-  pub series : Series shape pool (tidied (changed (changed made 0 0x1000 64 2 (Done stores)) 0 0 4294967295 1 Cut) (Done tidied-stores))
+  pub some : 0 < tidied-stores
+  pub series : Series shape pool (tidied (changed (changed (changed made 0 0x1000 512 2 (Done made-stores)) 0 0 528384 1 Cut) 0 0 4 0 (Refused 7)) (Done tidied-stores))
 
 -- All of them.
 pub record Met : Type 0 where
