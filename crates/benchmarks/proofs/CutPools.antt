@@ -21,6 +21,7 @@ use Rattle.words.proofs.RightsLaws.{eight-right}
 use Rattle.table.specs.declared.Shape.{Shape}
 use Rattle.table.specs.Shape.{Fits}
 use Rattle.table.specs.Map.{addresses, formOf}
+use Rattle.targets.specs.declared.Paint.{Paint}
 use Rattle.plan.specs.Aims.{aims}
 use Rattle.plan.proofs.AimLaws.{aims-covered, aims-other}
 use Rattle.change.specs.Cuts.{differing}
@@ -32,8 +33,9 @@ use Rattle.benchmarks.proofs.PagePools.{page-word, page-long, page-done
 use Rattle.benchmarks.proofs.PageRows.{in-middle, middle-page, middle-pool}
 use Rattle.benchmarks.proofs.OneTable.{OneTable, table-right, elsewhere-right, table-settled, table-finished}
 
-abbrev pub s : Shape
-s = shape 1 0
+-- One root and one middle place.
+abbrev pub one-middle : Shape
+one-middle = shape 1 0
 
 -- The pool of row 6 with the pages below `n` to be read.
 abbrev pub until : ℕ → ℕ → ℕ
@@ -83,7 +85,7 @@ module _ (n : ℕ) (lo : 2 ≤ n) (hi : n ≤ 1024) where
     ];
   }
 
-  pub read-right : (d a : ℕ) → d < 1 → a < addresses → rightOf (formOf s) (words (read-pool n)) d a ≡ cond (ltb (a / 4096) n) 1 0
+  pub read-right : (d a : ℕ) → d < 1 → a < addresses → rightOf (formOf one-middle) (words (read-pool n)) d a ≡ cond (ltb (a / 4096) n) 1 0
   read-right d a bd ba = elim (ℕ-discrete (a / 4194304 % 1024) 0) [
     | yes e ↦ table-right 0 read-one d a bd e ∙ elim (decLt (a / 4096) n) [
       | yes h ↦ ap (λ w. rightAt w (a / 512 % 8)) (read-in (1024 + a / 4096 % 1024) (omega arith) (omega arith))
@@ -98,6 +100,9 @@ module _ (n : ℕ) (lo : 2 ≤ n) (hi : n ≤ 1024) where
 abbrev pub pages : Region
 pages = rounded 0 528384
 
+abbrev pub reading : Paint
+reading = paintOf pages 1
+
 abbrev pub goal : List ℕ
 goal = read-pool 129
 
@@ -111,17 +116,17 @@ middle-one = record {
   ];
 }
 
-goal-aimed : (d a : ℕ) → d < 1 → a < addresses → cond (ltb (a / 4096) 129) 1 0 ≡ aims s 0 (paintOf pages 1) (words middle-pool) d a
+goal-aimed : (d a : ℕ) → d < 1 → a < addresses → cond (ltb (a / 4096) 129) 1 0 ≡ aims one-middle 0 reading (words middle-pool) d a
 goal-aimed d a bd ba = elim (decLt (a / 4096) 129) [
   | yes h ↦ ap (λ t. cond t 1 0) (lt-ltb (a / 4096) 129 h)
-      ∙ sym (aims-covered s 0 (paintOf pages 1) (words middle-pool) d a (omega arith, covered-yes pages a (omega arith) (omega arith)))
+      ∙ sym (aims-covered one-middle 0 reading (words middle-pool) d a (omega arith, covered-yes pages a (omega arith) (omega arith)))
   | no h ↦ ap (λ t. cond t 1 0) (le-ltb (a / 4096) 129 (omega arith))
-      ∙ sym (aims-other s 0 (paintOf pages 1) (words middle-pool) d a (λ c. let z = covered-range pages a (c .1) in omega arith)
+      ∙ sym (aims-other one-middle 0 reading (words middle-pool) d a (λ c. let z = covered-range pages a (c .1) in omega arith)
       ∙ page-done-finished in-middle 2 middle-page (omega arith) .rights d a bd ba
-      ∙ aims-fresh s (paintOf in-middle 2) d a bd bd ∙ ap (λ t. cond t 2 0) (covered-no in-middle a (λ x y. omega arith)))
+      ∙ aims-fresh one-middle (paintOf in-middle 2) d a bd bd ∙ ap (λ t. cond t 2 0) (covered-no in-middle a (λ x y. omega arith)))
 ]
 
-pub goal-finished : Finished (formOf s) (words middle-pool) (aims s 0 (paintOf pages 1) (words middle-pool)) (words goal)
+pub goal-finished : Finished (formOf one-middle) (words middle-pool) (aims one-middle 0 reading (words middle-pool)) (words goal)
 goal-finished =
     let right = read-right 129 (omega arith) (omega arith) in
     table-finished 0 middle-one (read-one 129 (omega arith) (omega arith)) _
@@ -133,13 +138,13 @@ goal-finished =
     differ : {x y : ℕ} → x ≡ 1 → y ≡ 0 → x ≢ y
     differ a b e = omega arith
 
-pub middle-fits : Fits s (length middle-pool)
-middle-fits = rw (page-long in-middle 2 middle-page (omega arith)) (fresh-fits s (in-range 1 0 (omega arith) (omega arith)))
+pub middle-fits : Fits one-middle (length middle-pool)
+middle-fits = rw (page-long in-middle 2 middle-page (omega arith)) (fresh-fits one-middle (in-range 1 0 (omega arith) (omega arith)))
 
-pub middle-settled : Settled (formOf s) (words middle-pool)
+pub middle-settled : Settled (formOf one-middle) (words middle-pool)
 middle-settled = page-done-finished in-middle 2 middle-page (omega arith) .settled
 
-pub asked : Asked middle-pool s 0 0 528384 1 pages
+pub asked : Asked middle-pool one-middle 0 0 528384 1 pages
 unfolding regionOf
 asked = record { fits = middle-fits; domain = omega arith; right = omega arith; region = refl }
 
@@ -147,7 +152,7 @@ pub goal-stores : differing middle-pool goal ≡ 129
 unfolding differing listed after
 goal-stores = refl
 
-pub some-outcome : (x : List ℕ) × IsCut s 0 (paintOf pages 1) middle-pool 128 x
+pub some-outcome : (x : List ℕ) × IsCut one-middle 0 reading middle-pool 128 x
 some-outcome =
-    change-cut middle-pool s 0 0 528384 1 128 pages asked middle-settled goal goal-finished
+    change-cut middle-pool one-middle 0 0 528384 1 128 pages asked middle-settled goal goal-finished
     (listed-long (until 129) 0 2048 ∙ sym (middle-fits .long)) (rw goal-stores (omega arith))

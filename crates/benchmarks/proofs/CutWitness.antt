@@ -38,7 +38,7 @@ use Rattle.benchmarks.proofs.PagePools.{page-done-finished}
 use Rattle.benchmarks.proofs.PageRows.{in-middle, middle-page, middle-pool, middle-set}
 use Rattle.benchmarks.proofs.OneTable.{table-sound, settled-divided}
 use Rattle.benchmarks.proofs.RootTidy.{tidied-first, tidied-root, tidies-root}
-use Rattle.benchmarks.proofs.CutPools.{s, until, read-pool, pages, goal, read-in, read-same, read-one, read-right, middle-one}
+use Rattle.benchmarks.proofs.CutPools.{one-middle, until, read-pool, pages, reading, goal, read-in, read-same, read-one, read-right, middle-one}
 use Rattle.benchmarks.proofs.CutPools.{goal-finished, middle-fits, middle-settled, asked, some-outcome}
 
 abbrev cut-pool : List ℕ
@@ -49,22 +49,22 @@ unfolding differing listed after
 cut-stores = refl
 
 -- Every cut after 128 stores is that pool.
-module _ {x : List ℕ} (c : IsCut s 0 (paintOf pages 1) middle-pool 128 x) where
+module _ {x : List ℕ} (c : IsCut one-middle 0 reading middle-pool 128 x) where
   goal-is : (j : ℕ) → c .cut .goal j ≡ words goal j
-  goal-is = one-goal s 0 (paintOf pages 1) middle-pool (words goal) goal-finished (c .cut)
+  goal-is = one-goal one-middle 0 reading middle-pool (words goal) goal-finished (c .cut)
 
   -- All words of the table are stored in the third phase, in their order.
   is-kept : (j : ℕ) → 1024 ≤ j → j < 2048 → c .way .kept j ≡ true
   is-kept j lo hi =
       let same = middle-one .first ∙ sym (goal-is 0 ∙ read-one 129 (omega arith) (omega arith) .first) in
       let e : words middle-pool 0 + (j - 1024) ≡ j = let z = middle-one .first in omega arith in
-      let k : Kept (formOf s) (words middle-pool) (c .cut .goal) 2 0 = top (0, 0, refl, refl, omega arith, omega arith) in
+      let k : Kept (formOf one-middle) (words middle-pool) (c .cut .goal) 2 0 = top (0, 0, refl, refl, omega arith, omega arith) in
       c .way .tells .is 1 j (rw e at (down (j - 1024) k same (rw (middle-one .first) refl) (omega arith)))
 
-  third : (j : ℕ) → 1024 ≤ j → j < 2048 → phase (formOf s) (words middle-pool) (c .way .kept) j ≡ 3
+  third : (j : ℕ) → 1024 ≤ j → j < 2048 → phase (formOf one-middle) (words middle-pool) (c .way .kept) j ≡ 3
   third j lo hi =
-      let zone : formOf s .zone j ≡ 1 = rw (le-ltb j 1024 lo, lt-ltb j 2048 hi) refl in
-      ap (λ b. cond b (cond (leads (formOf s .zone j) (words middle-pool j)) 1 3) 2) (is-kept j lo hi)
+      let zone : formOf one-middle .zone j ≡ 1 = rw (le-ltb j 1024 lo, lt-ltb j 2048 hi) refl in
+      ap (λ b. cond b (cond (leads (formOf one-middle .zone j) (words middle-pool j)) 1 3) 2) (is-kept j lo hi)
       ∙ ap (λ h. cond (leads h (words middle-pool j)) 1 3) zone
       ∙ ap (λ t. cond t 1 3) (eight-good 1 1 0 0 (words middle-pool j) (omega arith) (middle-one .middle j lo hi) .1)
 
@@ -132,17 +132,17 @@ module _ {x : List ℕ} (c : IsCut s 0 (paintOf pages 1) middle-pool 128 x) wher
             omega arith)
       ])
 
-the-cut : IsCut s 0 (paintOf pages 1) middle-pool 128 cut-pool
+the-cut : IsCut one-middle 0 reading middle-pool 128 cut-pool
 the-cut = let (x, c) = some-outcome in rw (is-cut-pool c) at c
 
-cut-right : (a : ℕ) → a < addresses → rightOf (formOf s) (words cut-pool) 0 a ≡ cond (ltb (a / 4096) 128) 1 0
+cut-right : (a : ℕ) → a < addresses → rightOf (formOf one-middle) (words cut-pool) 0 a ≡ cond (ltb (a / 4096) 128) 1 0
 cut-right a ba = read-right 128 (omega arith) (omega arith) 0 a (omega arith) ba
 
 pub some-cut : SomeCut
 some-cut = record {
-  shape = s;
+  shape = one-middle;
   domain = 0;
-  paint = paintOf pages 1;
+  paint = reading;
   old = middle-pool;
   stores = 128;
   pool = cut-pool;
@@ -152,7 +152,7 @@ some-cut = record {
   address = omega arith;
   covers = (refl, refl);
   had-not = λ e. none (sym (page-done-finished in-middle 2 middle-page (omega arith) .rights 0 0 (omega arith) (omega arith)
-      ∙ aims-fresh s (paintOf in-middle 2) 0 0 (omega arith) (omega arith)) ∙ e);
+      ∙ aims-fresh one-middle (paintOf in-middle 2) 0 0 (omega arith) (omega arith)) ∙ e);
   has = cut-right 0 (omega arith);
 }
   where
@@ -160,7 +160,7 @@ some-cut = record {
     none e = omega arith
 
 -- The table has become needless: each 512 KB has one right.
-cut-unsettled : Settled (formOf s) (words cut-pool) → ⊥
+cut-unsettled : Settled (formOf one-middle) (words cut-pool) → ⊥
 cut-unsettled t =
     let (b, c, bb, bc, x, y, z) = settled-divided 0 (read-one 128 (omega arith) (omega arith)) t in
     z (cut-right b bb ∙ ap (λ t. cond t 1 0) (low b ∙ ap (λ n. ltb n 1) y ∙ sym (low c)) ∙ sym (cut-right c bc))
@@ -171,16 +171,16 @@ cut-unsettled t =
       | no h ↦ le-ltb (a / 4096) 128 (omega arith) ∙ sym (le-ltb (a / 524288) 1 (omega arith))
     ]
 
-cut-fits : Fits s (length cut-pool)
+cut-fits : Fits one-middle (length cut-pool)
 cut-fits = rw (listed-long (until 128) 0 2048 ∙ sym (middle-fits .long)) middle-fits
 
-refused-7 : Changes cut-pool s 0 0 4 0 0 (Refused 7) cut-pool
+refused-7 : Changes cut-pool one-middle 0 0 4 0 0 (Refused 7) cut-pool
 unfolding regionOf
 refused-7 = in-order (rounded 0 4) (record { fits = cut-fits; domain = omega arith; right = omega arith; region = refl })
     (unsettled (table-sound 0 (read-one 128 (omega arith) (omega arith))) cut-unsettled)
 
 -- The root word says what the table said.
-tidies-cut : Tidies cut-pool s 1 (Done 1) (set cut-pool 0 0x80000001)
+tidies-cut : Tidies cut-pool one-middle 1 (Done 1) (set cut-pool 0 0x80000001)
 tidies-cut =
     let one = read-one 128 (omega arith) (omega arith) in
     tidies-root 0 cut-pool (cut-fits .long) one 0x80000001 refl
@@ -194,15 +194,15 @@ tidies-cut =
       | no h ↦ le-ltb a 524288 (omega arith) ∙ sym (le-ltb (a / 4096) 128 (omega arith))
     ]
 
-begun : Changes middle-pool s 0 0 528384 1 128 Cut cut-pool
+begun : Changes middle-pool one-middle 0 0 528384 1 128 Cut cut-pool
 begun = in-order pages asked (cut middle-settled cut-pool the-cut)
 
-made : MakesFresh s (freshPool s) Made (freshPool s)
-made = makes-fresh s (freshPool s) (freshPool s) (fits-test s (length (freshPool s)) (fresh-fits s (in-range 1 0 (omega arith) (omega arith)))) refl
+made : MakesFresh one-middle (freshPool one-middle) Made (freshPool one-middle)
+made = makes-fresh one-middle (freshPool one-middle) (freshPool one-middle) (fits-test one-middle (length (freshPool one-middle)) (fresh-fits one-middle (in-range 1 0 (omega arith) (omega arith)))) refl
 
 pub some-series : SomeSeries
 some-series = record {
-  shape = s;
+  shape = one-middle;
   pool = set cut-pool 0 0x80000001;
   made-stores = 1025;
   tidied-stores = 1;

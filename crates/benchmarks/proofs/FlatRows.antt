@@ -133,7 +133,8 @@ pub row-7 : SetsOnePart
 unfolding regionOf
 row-7 n h = always-change
     (change-done pool (shape 0 0) 0 0 524288 1 n (rounded 0 524288) (asked 0 524288 1 (rounded 0 524288) (omega arith) refl) (fresh-settled (shape 0 0)) one-part 1
-    (finished (rounded 0 524288) 1 (words one-part) part-flat (λ a ba. part-rights a ba ∙ ap (λ t. cond t 1 0) (sym (part-covered a))) (λ j b. part-other j (λ z. omega arith) ∙ ap (λ t. cond t 0x80000000 0) (le-ltb j 1024 b)))
+    (finished (rounded 0 524288) 1 (words one-part) part-flat (λ a ba. part-rights a ba ∙ ap (λ t. cond t 1 0) (sym (part-covered a)))
+    (λ j b. part-other j (λ z. omega arith) ∙ ap (λ t. cond t 0x80000000 0) (le-ltb j 1024 b)))
     (length-set pool 0 0x80000001)
     (differing-set pool pool 0 0x80000001 refl (rw pool-long (omega arith)) refl other ∙ ap suc (differing-self pool))
     h)
