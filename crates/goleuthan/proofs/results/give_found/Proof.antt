@@ -1,0 +1,42 @@
+-- `goleuthan::results::give_found` meets its contract. Assumes nothing.
+use mathlib.Core.Path.{refl}
+use borrow.Author.Needs.{needs}
+use Rattle.goleuthan.proofs.results.give_found.Statement.{statement}
+use Rattle.goleuthan.proofs.results.give_found.Tie as tie
+
+enum-known-found : tie.Need-enum-known-found
+enum-known-found c = search needs
+
+three-requires : tie.Need-three-requires
+three-requires c κs = search needs
+
+enum-known-found-2 : tie.Need-enum-known-found-2
+enum-known-found-2 c = search needs
+
+three-requires-2 : tie.Need-three-requires-2
+three-requires-2 c κs = search needs
+
+same-length : tie.Need-same-length
+same-length c = search needs
+
+returns : tie.Need-returns
+returns c = rw (c .before .before .before .before .before .found .given .1) (refl, c .before .before .three .ensures)
+
+same-length-2 : tie.Need-same-length-2
+same-length-2 c = search needs
+
+returns-2 : tie.Need-returns-2
+returns-2 c = rw (c .before .before .before .before .before .found2 .given .1) (refl, c .before .before .three2 .ensures)
+
+pub give-found-spec : {M : Type 1} → statement M
+give-found-spec =
+    tie.close
+    (tie.spec
+    enum-known-found
+    three-requires
+    enum-known-found-2
+    three-requires-2
+    same-length
+    returns
+    same-length-2
+    returns-2)

@@ -1,0 +1,113 @@
+// The C face: the library's calls on numbers and slices, under plain names. A slice is a pointer and a length in words. Results go into the lent words
+// `out`, as many as fit; include/goleuthan.h says what a caller owes and gets.
+mod results;
+
+ghost use Rattle.goleuthan.specs.Calls.{shapeOf, FreshCall, LookupCall, ChangeCall, TidyCall, ListCall};
+use table::Shape;
+
+// Makes a pool fresh.
+#[no_mangle]
+pub extern "C" fn gol_fresh(pool: &mut [u32], d: u32, m: u32, l: u32) -> u32
+    ensures { λ r. ⌜ FreshCall (now (pool .entry)) (shapeOf d m l) r (now (pool .exit)) ⌝ }
+{
+    let shape = Shape {
+        domains: d,
+        middles: m,
+        leaves: l,
+    };
+    let made = table::fresh(pool, shape);
+    results::made_number(made)
+}
+
+// The right of an address, the deciding entry and the loads made.
+#[no_mangle]
+pub extern "C" fn gol_lookup(
+    pool: &[u32],
+    d: u32,
+    m: u32,
+    l: u32,
+    domain: u32,
+    address: u32,
+    out: &mut [u32],
+) -> u32
+    ensures { λ r. ⌜ LookupCall (now (pool .entry)) (shapeOf d m l) domain address (now (out .entry)) r (now (out .exit)) ⌝ }
+{
+    let shape = Shape {
+        domains: d,
+        middles: m,
+        leaves: l,
+    };
+    let at = words::byte_addr(address);
+    let found = table::lookup(pool, shape, domain, at);
+    results::give_found(found, out)
+}
+
+// A change of rights.
+#[no_mangle]
+pub extern "C" fn gol_change(
+    pool: &mut [u32],
+    d: u32,
+    m: u32,
+    l: u32,
+    domain: u32,
+    start: u32,
+    length: u32,
+    right: u32,
+    allowance: u32,
+    out: &mut [u32],
+) -> u32
+    ensures { λ r. ⌜ ChangeCall (now (pool .entry)) (shapeOf d m l) domain start length right allowance (now (out .entry)) r (now (pool .exit)) (now (out .exit)) ⌝ }
+{
+    let shape = Shape {
+        domains: d,
+        middles: m,
+        leaves: l,
+    };
+    let first = words::byte_addr(start);
+    let answer = change::change(pool, shape, domain, first, length, right, allowance);
+    results::give_answer(answer, out)
+}
+
+// A tidying.
+#[no_mangle]
+pub extern "C" fn gol_tidy(
+    pool: &mut [u32],
+    d: u32,
+    m: u32,
+    l: u32,
+    allowance: u32,
+    out: &mut [u32],
+) -> u32
+    ensures { λ r. ⌜ TidyCall (now (pool .entry)) (shapeOf d m l) allowance (now (out .entry)) r (now (pool .exit)) (now (out .exit)) ⌝ }
+{
+    let shape = Shape {
+        domains: d,
+        middles: m,
+        leaves: l,
+    };
+    let answer = change::tidy(pool, shape, allowance);
+    results::give_answer(answer, out)
+}
+
+// The runs of a pool from number `from` on, four words each, as many as fit into `runs`.
+#[no_mangle]
+pub extern "C" fn gol_list(
+    pool: &[u32],
+    d: u32,
+    m: u32,
+    l: u32,
+    from: u32,
+    runs: &mut [u32],
+    out: &mut [u32],
+) -> u32
+    ensures { λ r. ⌜ ListCall (now (pool .entry)) (shapeOf d m l) from (now (runs .entry)) (now (out .entry)) r (now (runs .exit)) (now (out .exit)) ⌝ }
+{
+    let shape = Shape {
+        domains: d,
+        middles: m,
+        leaves: l,
+    };
+    let first = from as usize;
+    let listed = listing::list_runs(pool, shape, first, runs);
+    results::give_listed(listed, out)
+}

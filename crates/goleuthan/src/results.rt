@@ -1,0 +1,119 @@
+// The result words of a call, and the number of an answer.
+ghost use mathlib.Core.Path.{_≡_};
+ghost use mathlib.Core.List.{[], _∷_};
+ghost use lib.ListN.{set};
+ghost use Rattle.table.specs.Fresh.{madeNumber};
+ghost use Rattle.table.specs.Lookup.{numbers as foundNumbers};
+ghost use Rattle.listing.specs.Listing.{numbers as listedNumbers};
+ghost use Rattle.goleuthan.specs.Out.{outWith, inOneWord};
+ghost use Rattle.goleuthan.specs.Calls.{answerNumber, foundResults, answerResults, listedResults};
+use change::Answer;
+use listing::Listed;
+use table::Found;
+use table::Made;
+
+// A change or a tidying was cut.
+pub const CUT: u32 = 100;
+
+// One result word, where `out` has its place.
+fn put(out: &mut [u32], at: usize, v: u32)
+    ensures { λ _. ⌜ now (out .exit) ≡ set (now (out .entry)) at v ⌝ }
+{
+    if at < out.len() {
+        out[at] = v;
+    }
+}
+
+pub fn one(out: &mut [u32], a: u32)
+    ensures { λ _. ⌜ now (out .exit) ≡ outWith (a ∷ []) (now (out .entry)) ⌝ }
+{
+    put(out, 0, a);
+}
+
+pub fn two(out: &mut [u32], a: u32, b: u32)
+    ensures { λ _. ⌜ now (out .exit) ≡ outWith (a ∷ b ∷ []) (now (out .entry)) ⌝ }
+{
+    put(out, 0, a);
+    put(out, 1, b);
+}
+
+pub fn three(out: &mut [u32], a: u32, b: u32, c: u32)
+    ensures { λ _. ⌜ now (out .exit) ≡ outWith (a ∷ b ∷ c ∷ []) (now (out .entry)) ⌝ }
+{
+    put(out, 0, a);
+    put(out, 1, b);
+    put(out, 2, c);
+}
+
+// A count in one word: the greatest word where it is greater.
+fn in_one_word(n: usize) -> u32
+    ensures { λ r. ⌜ r ≡ inOneWord n ⌝ }
+{
+    if n <= 0xFFFF_FFFF {
+        return n as u32;
+    }
+    0xFFFF_FFFF
+}
+
+pub fn made_number(made: Made) -> u32
+    ensures { λ r. ⌜ r ≡ madeNumber made ⌝ }
+{
+    match made {
+        Made::Done => 0,
+        Made::Refused(n) => n,
+    }
+}
+
+pub fn give_found(found: Found, out: &mut [u32]) -> u32
+    ensures { λ r. ⌜ (r ≡ foundNumbers found .refusal) × (now (out .exit) ≡ outWith (foundResults found) (now (out .entry))) ⌝ }
+{
+    match found {
+        Found::Right {
+            right,
+            entry,
+            loads,
+        } => {
+            three(out, right, entry, loads);
+            0
+        }
+        Found::Refused(n) => {
+            three(out, 0, 0, 0);
+            n
+        }
+    }
+}
+
+pub fn give_answer(answer: Answer, out: &mut [u32]) -> u32
+    ensures { λ r. ⌜ (r ≡ answerNumber answer) × (now (out .exit) ≡ outWith (answerResults answer) (now (out .entry))) ⌝ }
+{
+    match answer {
+        Answer::Done(n) => {
+            one(out, n);
+            0
+        }
+        Answer::Cut => {
+            one(out, 0);
+            CUT
+        }
+        Answer::Refused(n) => {
+            one(out, 0);
+            n
+        }
+    }
+}
+
+pub fn give_listed(listed: Listed, out: &mut [u32]) -> u32
+    ensures { λ r. ⌜ (r ≡ listedNumbers listed .refusal) × (now (out .exit) ≡ outWith (listedResults listed) (now (out .entry))) ⌝ }
+{
+    match listed {
+        Listed::Runs(n) => {
+            let count = in_one_word(n);
+            one(out, count);
+            0
+        }
+        Listed::Refused(n) => {
+            one(out, 0);
+            n
+        }
+    }
+}

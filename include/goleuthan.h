@@ -1,0 +1,120 @@
+/*
+ * goleuthan.h: word-level rights tables in a lent memory, for the supervisor's programmer.
+ *
+ * A table gives each 32-bit memory word, for each of up to four domains, one right: 0 none, 1 read, 2 read and write,
+ * 3 execute and read. It lives in a pool: a memory of 32-bit words that the caller owns and lends for each call. The
+ * library keeps nothing between calls, allocates nothing and calls nothing. Every call returns, whatever the numbers and
+ * whatever the words hold; no call has a condition on its numbers.
+ *
+ * POINTERS. A lent memory is a pointer and a length, counted in words of four bytes. The pointer is not null (also where
+ * the length is 0), is a multiple of 4, and its words are the caller's to lend: readable, and for a pointer that is not
+ * const writable, for as long as the call runs. Two memories lent to one call do not overlap, unless both are const. No
+ * other thread writes a lent memory, or reads one that is not const, during the call. This is all that a caller owes.
+ *
+ * THE POOL holds D roots of 1,024 words, then M middle places of 1,024 words, then L leaf places of 64 words, with D 1 to
+ * 4, M 0 to 8 and L 0 to 64. `words` is exactly 1024*D + 1024*M + 64*L. The pool does not hold D, M and L: give each call
+ * the same three that it was made fresh with. GOL_POOL_WORDS(d, m, l) is that length.
+ *
+ * RESULTS go into the lent words `out`, in the order given at each call, as many of them as `out_len` has room for. Words
+ * of `out` past the results stay as they were. An `out_len` of 0 asks for no result.
+ *
+ * NUMBERS. Each call returns 0 where it is done, or one of the numbers below. Where several would fit, the call's own list
+ * gives the order: the first that fits is returned. On every refusal, that is on every number but 0 and GOL_CUT, the
+ * pool and all lent states are as they came, and the result words of `out` are 0, as many of them as fit.
+ *
+ *   1   D, M or L out of range, or a pool of another length     10  address or target not a multiple of the access size
+ *   2   a domain is D or more                                   11  gate address not a multiple of 4
+ *   3   right above 3                                           12  a new gate and 64 present
+ *   4   length 0                                                13  no gate there to remove
+ *   5   rounded start plus rounded length above 2^32            14  a switch gate to its own domain
+ *   6   pool not sound, or a bad entry met on the walk          15  switch gate, stack full
+ *   7   pool sound, not settled: tidy it first                  16  return gate, stack empty
+ *   8   not enough middle or leaf places for these rights       17  return gate, target differs
+ *   9   no such access kind or size                             18  gate count above 64, depth above 16, next above 63
+ *   100 the allowance of stores ran out before the end (a cut: see RECOVERY; some stores were made)
+ *   101 a lent state of the wrong length (looked at before all others)
+ *
+ * RECOVERY after a brown-out. A change or a tidying may stop after any of its stores, by its allowance or by a loss of
+ * power. The pool is then sound: each word has its old right or, where the change covers it, its new one, and nothing else.
+ * After a reset, in this order:
+ *   1. empty the lookaside buffers (all 257 words 0): they may hold entries that the pool no longer has;
+ *   2. gol_tidy with an allowance that suffices (0xFFFFFFFF always does): it gives no word another right, and after it
+ *      the pool is settled, so that no change is refused 7;
+ *   3. make the interrupted change again, if it is still wanted, then flush what it covers.
+ * Gate sets and call stacks are the caller's memory too: rebuild them, or begin with empty ones.
+ * A pool that was being made fresh when the power went must be made fresh again.
+ */
+#ifndef GOLEUTHAN_H
+#define GOLEUTHAN_H
+
+#include <stddef.h>
+#include <stdint.h>
+
+#ifdef __cplusplus
+extern "C" {
+#endif
+
+/* The length of a pool in words. */
+#define GOL_POOL_WORDS(d, m, l) (1024u * (d) + 1024u * (m) + 64u * (l))
+
+/* The numbers of this face's own. */
+#define GOL_DONE 0u
+#define GOL_CUT 100u
+#define GOL_WRONG_LENGTH 101u
+
+/* Rights. */
+#define GOL_NONE 0u
+#define GOL_READ 1u
+#define GOL_WRITE 2u
+#define GOL_EXECUTE 3u
+
+/*
+ * Makes the pool fresh: no domain has a right anywhere. Every root word becomes 0x80000000, every other word 0.
+ * Returns 0, or 1.
+ */
+uint32_t gol_fresh(uint32_t *pool, size_t words, uint32_t d, uint32_t m, uint32_t l);
+
+/*
+ * Gives `domain` the right `right` on the bytes from `start`, `length` of them. The start is rounded down to a multiple of
+ * 4 and the length up, each by itself. Words outside keep their rights, and other domains too.
+ * At most `allowance` words of the pool are written, each once; the allowance does not alter which, nor in which order.
+ * Afterwards, done or cut, flush the same region in every lookaside buffer that the domain uses.
+ * out[0]: the number of words written; 0 where it was cut or refused.
+ * Returns 0, 1 to 8 in this order, or 100 where more stores were wanted than allowed (exactly `allowance` were made).
+ */
+uint32_t gol_change(uint32_t *pool, size_t words, uint32_t d, uint32_t m, uint32_t l, uint32_t domain, uint32_t start,
+                    uint32_t length, uint32_t right, uint32_t allowance, uint32_t *out, size_t out_len);
+
+/*
+ * Makes a sound pool settled: gives up tables that the rights no longer need. No word's right changes, after any store.
+ * No flush is needed.
+ * out[0]: the number of words written; 0 where it was cut or refused.
+ * Returns 0, 1, 6, or 100 as gol_change does.
+ */
+uint32_t gol_tidy(uint32_t *pool, size_t words, uint32_t d, uint32_t m, uint32_t l, uint32_t allowance, uint32_t *out,
+                  size_t out_len);
+
+/*
+ * The right that `domain` has on the word at `address`, whose low two bits do not matter.
+ * out[0]: the right. out[1]: the entry that decides. out[2]: the loads made: 1 root, 2 middle table, 3 leaf.
+ * Returns 0, 1, 2, or 6 where the walk meets a bad entry.
+ */
+uint32_t gol_lookup(const uint32_t *pool, size_t words, uint32_t d, uint32_t m, uint32_t l, uint32_t domain,
+                    uint32_t address, uint32_t *out, size_t out_len);
+
+/*
+ * The longest runs of one right other than none, by domain and then address, from run number `from` on (the first is
+ * number 0). Each is four words of `runs`: domain, first byte, last byte, right. As many are written as have four whole
+ * words; words of `runs` past them stay as they were. For a listing in parts, go on with `from` plus the runs that fitted.
+ * out[0]: how many runs there are in all, whatever `from` and `runs_len` are; 0xFFFFFFFF stands for that number and any
+ * greater one. On a refusal `runs` is as it came.
+ * Returns 0, 1, or 6.
+ */
+uint32_t gol_list(const uint32_t *pool, size_t words, uint32_t d, uint32_t m, uint32_t l, uint32_t from, uint32_t *runs,
+                  size_t runs_len, uint32_t *out, size_t out_len);
+
+#ifdef __cplusplus
+}
+#endif
+
+#endif
