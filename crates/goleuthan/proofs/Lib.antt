@@ -1,3 +1,5 @@
--- The laws of result words, and that each call has one outcome.
+-- The laws of result words and of the states' words, and that each call has one outcome.
 pub mod OutLaws
+pub mod RowLaws
+pub mod StateLaws
 pub mod UniqueLaws
