@@ -2,4 +2,6 @@
 pub mod OutLaws
 pub mod RowLaws
 pub mod StateLaws
+pub mod FillLaws
+pub mod CallLaws
 pub mod UniqueLaws

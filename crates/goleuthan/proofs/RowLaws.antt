@@ -7,7 +7,7 @@ use native.Mathlib.Nat.{not-suc-le-zero, le-of-suc-le-suc, mul-zero, mul-suc, mu
 use native.Mathlib.Numerals.{add-one}
 use native.Mathlib.Omega.{arith}
 use lib.ListN.{length, getD, take, drop, set, length-append, length-drop, List·getD-append, take-append-drop}
-use lib.Seq.{sets, sets-eq, take-suc, take-suc-set, take-add, take-at, drop-at, drop-drop, drop-append-add, getD-at, split-at, ext-getD, length-take-le, set-split}
+use lib.Seq.{sets, sets-eq, take-suc, take-suc-set, take-add, take-all, take-at, drop-at, drop-drop, drop-append-add, getD-at, split-at, ext-getD, length-take-le, set-split}
 use Rattle.goleuthan.specs.Rows.{rowsOf, wordsOf}
 
 module _ {A : Type 0} where
@@ -31,12 +31,24 @@ module _ {A : Type 0} where
   unfolding rowsOf
   rows-turn l f i x h e q = rw (add-one i, take-suc-set l i x h, e, q)
 
+  -- The end of that loop.
+  pub rows-all : (l : List A) (f : ℕ → A) (i n : ℕ) → length l ≡ n → i ≡ n → take i l ≡ rowsOf i f → l ≡ rowsOf n f
+  rows-all l f i n h e q = sym (take-all n l (omega arith)) ∙ (rw e at q)
+
 -- As many words as `vs` has, stored over those that follow `b`.
 sets-seam : (b c t vs : List ℕ) (n : ℕ) → length b ≡ n → length c ≡ length vs → sets (b ++ (c ++ t)) n vs ≡ b ++ (vs ++ t)
 sets-seam b c t vs n eb ec =
     let e : length (b ++ (c ++ t)) ≡ n + (length vs + length t) = simp length-append (omega arith) in
     sets-eq vs (b ++ (c ++ t)) n (omega arith)
     ∙ rw (take-at b (c ++ t) n eb, ← eb, drop-append-add b (c ++ t) (length vs), drop-at c t (length vs) ec) (append-assoc b vs t)
+
+-- The last words stored: those that follow the rows.
+pub sets-end : (w l vs : List ℕ) (n : ℕ) → length w ≡ n → length l ≡ n + length vs → sets (w ++ drop n l) n vs ≡ w ++ vs
+sets-end w l vs n h room =
+    let e = length-drop n l in
+    ap (λ (r : List ℕ). sets (w ++ r) n vs) (sym (append-nil (drop n l)))
+    ∙ sets-seam w (drop n l) [] vs n h (omega arith)
+    ∙ ap (λ (r : List ℕ). w ++ r) (append-nil vs)
 
 module _ {A : Type 0} (row : A → List ℕ) where
   pub words-append : (xs ys : List A) → wordsOf row (xs ++ ys) ≡ wordsOf row xs ++ wordsOf row ys

@@ -27,10 +27,10 @@ use Rattle.goleuthan.specs.States.{bufferLong, slotAt, slotWords, buffer
 use Rattle.goleuthan.proofs.RowLaws.{length-words, words-rows, rows-words}
 
 -- The sums of an index and a small number, as numbers that a list is read by.
-add-two : (j : ℕ) → j + 2 ≡ suc (suc j)
+pub add-two : (j : ℕ) → j + 2 ≡ suc (suc j)
 add-two j = omega arith
 
-add-three : (j : ℕ) → j + 3 ≡ suc (suc (suc j))
+pub add-three : (j : ℕ) → j + 3 ≡ suc (suc (suc j))
 add-three j = omega arith
 
 -- Words of a slot.

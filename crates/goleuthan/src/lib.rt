@@ -1,9 +1,15 @@
 // The C face: the library's calls on numbers and slices, under plain names. A slice is a pointer and a length in words. Results go into the lent words
 // `out`, as many as fit; include/goleuthan.h says what a caller owes and gets.
 mod results;
+mod states;
 
+ghost use mathlib.Core.Path.{_≡_};
+ghost use Rattle.goleuthan.specs.StateCalls.{back, kept, checkCall, flushAllCall, flushDomainCall, flushRegionCall};
 ghost use Rattle.goleuthan.specs.Calls.{shapeOf, FreshCall, LookupCall, ChangeCall, TidyCall, ListCall};
 use table::Shape;
+
+// A lent state is of the wrong length.
+const WRONG_LENGTH: u32 = 101;
 
 // Makes a pool fresh.
 #[no_mangle]
@@ -110,4 +116,84 @@ pub extern "C" fn gol_list(
     let first = from as usize;
     let listed = listing::list_runs(pool, shape, first, runs);
     results::give_listed(listed, out)
+}
+
+// The check of an access, through a lookaside buffer. A hit writes nothing to the buffer, and a miss one slot and the pointer.
+#[no_mangle]
+pub extern "C" fn gol_check(
+    pool: &[u32],
+    d: u32,
+    m: u32,
+    l: u32,
+    buffer: &mut [u32],
+    domain: u32,
+    kind: u32,
+    size: u32,
+    address: u32,
+    out: &mut [u32],
+) -> u32
+    ensures { λ r. ⌜ back r (now (buffer .exit)) (now (out .exit)) ≡ checkCall (now (pool .entry)) (shapeOf d m l) (now (buffer .entry)) domain kind size address (now (out .entry)) ⌝ }
+{
+    if buffer.len() != states::BUFFER_WORDS {
+        results::two(out, 0, 0);
+        return WRONG_LENGTH;
+    }
+    let shape = Shape {
+        domains: d,
+        middles: m,
+        leaves: l,
+    };
+    let at = words::byte_addr(address);
+    let held = states::read_buffer(buffer);
+    let checked = lookaside::check(pool, shape, held, domain, kind, size, at);
+    let after = checked.buffer;
+    states::write_filled(buffer, after);
+    let verdict = checked.verdict;
+    results::give_verdict(verdict, out)
+}
+
+// Empties every slot of a buffer.
+#[no_mangle]
+pub extern "C" fn gol_flush_all(buffer: &mut [u32]) -> u32
+    ensures { λ r. ⌜ kept r (now (buffer .exit)) ≡ flushAllCall (now (buffer .entry)) ⌝ }
+{
+    if buffer.len() != states::BUFFER_WORDS {
+        return WRONG_LENGTH;
+    }
+    let held = states::read_buffer(buffer);
+    let flushed = lookaside::flush_all(held);
+    let after = flushed.buffer;
+    states::write_buffer(buffer, after);
+    flushed.refusal
+}
+
+// Empties the slots of a domain.
+#[no_mangle]
+pub extern "C" fn gol_flush_domain(buffer: &mut [u32], domain: u32) -> u32
+    ensures { λ r. ⌜ kept r (now (buffer .exit)) ≡ flushDomainCall (now (buffer .entry)) domain ⌝ }
+{
+    if buffer.len() != states::BUFFER_WORDS {
+        return WRONG_LENGTH;
+    }
+    let held = states::read_buffer(buffer);
+    let flushed = lookaside::flush_domain(held, domain);
+    let after = flushed.buffer;
+    states::write_buffer(buffer, after);
+    flushed.refusal
+}
+
+// Empties the slots of a domain whose block meets a region.
+#[no_mangle]
+pub extern "C" fn gol_flush_region(buffer: &mut [u32], domain: u32, start: u32, length: u32) -> u32
+    ensures { λ r. ⌜ kept r (now (buffer .exit)) ≡ flushRegionCall (now (buffer .entry)) domain start length ⌝ }
+{
+    if buffer.len() != states::BUFFER_WORDS {
+        return WRONG_LENGTH;
+    }
+    let held = states::read_buffer(buffer);
+    let first = words::byte_addr(start);
+    let flushed = lookaside::flush_region(held, domain, first, length);
+    let after = flushed.buffer;
+    states::write_buffer(buffer, after);
+    flushed.refusal
 }

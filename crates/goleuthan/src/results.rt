@@ -4,11 +4,14 @@ ghost use mathlib.Core.List.{[], _∷_};
 ghost use lib.ListN.{set};
 ghost use Rattle.table.specs.Fresh.{madeNumber};
 ghost use Rattle.table.specs.Lookup.{numbers as foundNumbers};
+ghost use Rattle.lookaside.specs.Check.{numbers as verdictNumbers};
+ghost use Rattle.goleuthan.specs.StateCalls.{verdictResults};
 ghost use Rattle.listing.specs.Listing.{numbers as listedNumbers};
 ghost use Rattle.goleuthan.specs.Out.{outWith, inOneWord};
 ghost use Rattle.goleuthan.specs.Calls.{answerNumber, foundResults, answerResults, listedResults};
 use change::Answer;
 use listing::Listed;
+use lookaside::Verdict;
 use table::Found;
 use table::Made;
 
@@ -113,6 +116,25 @@ pub fn give_listed(listed: Listed, out: &mut [u32]) -> u32
         }
         Listed::Refused(n) => {
             one(out, 0);
+            n
+        }
+    }
+}
+
+pub fn give_verdict(verdict: Verdict, out: &mut [u32]) -> u32
+    ensures { λ r. ⌜ (r ≡ verdictNumbers verdict .refusal) × (now (out .exit) ≡ outWith (verdictResults verdict) (now (out .entry))) ⌝ }
+{
+    match verdict {
+        Verdict::Pass(loads) => {
+            two(out, 1, loads);
+            0
+        }
+        Verdict::Deny(loads) => {
+            two(out, 0, loads);
+            0
+        }
+        Verdict::Refused(n) => {
+            two(out, 0, 0);
             n
         }
     }

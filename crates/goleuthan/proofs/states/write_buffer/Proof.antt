@@ -1,0 +1,104 @@
+-- `goleuthan::states::write_buffer` meets its contract. The invariant: the first `i` slots are written, the words after them are as they came. Assumes nothing.
+use Rattle.goleuthan.specs.States.{slotWords}
+use Rattle.goleuthan.specs.Rows.{wordsOf}
+use lib.ListN.{length, getD, take, drop, set, length-set}
+use lib.Seq.{sets, length-sets, take-all}
+use Rattle.lookaside.specs.Slots.{emptySlot}
+use Rattle.lookaside.proofs.BufferLaws.{unmapped}
+use Rattle.goleuthan.proofs.RowLaws.{length-words, words-turn, sets-end}
+use mathlib.Core.List.{List, [], _∷_, _++_}
+use Prim.Native.Nat.{ℕ, _*_, _-_, _≤_}
+use borrow.Author.Needs.{needs}
+use mathlib.Core.Path.{_≡_, refl, sym, ap, _∙_}
+use native.Mathlib.Omega.{arith}
+use Rattle.goleuthan.proofs.states.write_buffer.Statement.{statement}
+use Rattle.goleuthan.proofs.states.write_buffer.Tie as tie
+use Rattle.goleuthan.proofs.states.write_buffer.Reads as reads
+use Rattle.goleuthan.proofs.states.write_buffer.Lts as lts
+use Rattle.goleuthan.proofs.states.put_slot.Reads as put-slot-reads
+
+abbrev Inv-loop : tie.InvT-loop
+Inv-loop ws₀ b i₀ ws i = (i ≤ 64) × (ws ≡ wordsOf slotWords (take i (b .slots)) ++ drop (4 * i) ws₀) × (length ws ≡ 257)
+
+abbrev μ-loop : tie.MeasureT-loop
+μ-loop ws₀ b i₀ ws i = 64 - i
+
+-- src/states.rt:60:5
+loop-holds : tie.Need-loop-holds Inv-loop μ-loop
+unfolding wordsOf
+loop-holds c = (omega arith, refl, c .before .pre)
+
+-- src/states.rt:61:17
+mul-s : tie.Need-mul-s Inv-loop μ-loop
+mul-s c = search needs
+
+-- src/states.rt:61:17
+element-copy-out-s : tie.Need-element-copy-out-s Inv-loop μ-loop
+element-copy-out-s c = search needs
+
+-- src/states.rt:62:22
+mul-put-slot : tie.Need-mul-put-slot Inv-loop μ-loop
+mul-put-slot c = search needs
+
+-- src/states.rt:62:9
+put-slot-requires : tie.Need-put-slot-requires Inv-loop μ-loop
+put-slot-requires c κs = let n = c .before .before .before .loop .inv .2 in omega arith
+
+-- src/states.rt:63:9
+add-i : tie.Need-add-i Inv-loop μ-loop
+add-i c = omega arith
+
+-- src/states.rt:60:5
+loop-less : tie.Need-loop-less Inv-loop μ-loop
+loop-less c = omega arith
+
+-- src/states.rt:60:5
+loop-again : tie.Need-loop-again Inv-loop μ-loop
+loop-again c =
+    let l = c .before .before .before .before .before .before .loop in
+    let a = c .before .before .before .before .before .before .before .before .args in
+    let n : length (a .t2 .slots) ≡ 64 = search (needs, unmapped) in
+    let p = c .before .before .before .before .before .before .before .before .pre in
+    let s = getD (a .t2 .slots) (l .i) emptySlot in (
+      omega arith,
+      c .before .before .put-slot .ensures ∙ ap (λ (r : List ℕ). sets r (4 * l .i) (slotWords s)) (l .inv .1) ∙ words-turn slotWords 4 (λ x. refl) (a .t2 .slots) (a .ws .now) (l .i) emptySlot (omega arith) (omega arith),
+      ap length (c .before .before .put-slot .ensures) ∙ length-sets (l .ws) (4 * l .i) (slotWords s) ∙ l .inv .2,
+    )
+
+-- src/states.rt:65:5
+slice-write-ws : tie.Need-slice-write-ws Inv-loop μ-loop
+slice-write-ws c = omega (arith, c .before .loop .inv .2)
+
+-- src/states.rt:55:1
+same-length : tie.Need-same-length Inv-loop μ-loop
+same-length c = let n = c .before .loop .inv .2 in let p = c .before .before .before .pre in length-set (c .before .loop .ws) 256 (c .before .before .before .args .t2 .next) ∙ n ∙ sym p
+
+-- src/states.rt:55:1
+returns : tie.Need-returns Inv-loop μ-loop
+returns c =
+    let l = c .before .loop in
+    let a = c .before .before .before .args in
+    let n : length (a .t2 .slots) ≡ 64 = search (needs, unmapped) in
+    let w = wordsOf slotWords (a .t2 .slots) in
+    let m = length-words slotWords 4 (λ x. refl) (a .t2 .slots) in
+    let k : l .i ≡ 64 = omega arith in
+    let e : l .ws ≡ w ++ drop 256 (a .ws .now) = rw (k, take-all 64 (a .t2 .slots) (omega arith)) at (l .inv .1) in
+    ap (λ (r : List ℕ). set r 256 (a .t2 .next)) e ∙ sets-end w (a .ws .now) (a .t2 .next ∷ []) 256 (omega arith) (c .before .before .before .pre)
+
+pub write-buffer-spec : {M : Type 1} → statement M
+write-buffer-spec =
+    tie.close
+    (tie.spec
+    Inv-loop
+    μ-loop
+    loop-holds
+    mul-s
+    element-copy-out-s
+    mul-put-slot
+    put-slot-requires
+    add-i
+    loop-less
+    loop-again
+    slice-write-ws
+    same-length
+    returns)
