@@ -83,14 +83,17 @@ module _ {A : Type 0} (row : A → List ℕ) where
         ap (λ (l : List A). wordsOf row l ++ t) (split-at xs i d h) ∙ words-split (take i xs) (drop (suc i) xs) (getD xs i d) t
 
     -- One turn of a loop that writes rows: the first `i` are written, and row `i` is stored.
-    pub words-turn : (xs : List A) (ws : List ℕ) (i : ℕ) (d : A) → i < length xs → k * length xs ≤ length ws
-        → sets (wordsOf row (take i xs) ++ drop (k * i) ws) (k * i) (row (getD xs i d)) ≡ wordsOf row (take (i + 1) xs) ++ drop (k * (i + 1)) ws
-    words-turn xs ws i d h room =
+    pub words-turn : (xs : List A) (ws old new : List ℕ) (i : ℕ) (d : A) → i < length xs → k * length xs ≤ length ws
+        → old ≡ wordsOf row (take i xs) ++ drop (k * i) ws → new ≡ sets old (k * i) (row (getD xs i d))
+        → new ≡ wordsOf row (take (i + 1) xs) ++ drop (k * (i + 1)) ws
+    words-turn xs ws old new i d h room first e =
         let m = mul-suc k i in
         let n = mul-le-mul-left k h in
         let l = length-drop (k * i) ws in
         let u = drop (k * i) ws in
-        ap (λ (r : List ℕ). sets (wordsOf row (take i xs) ++ r) (k * i) (row (getD xs i d))) (sym (take-append-drop k u))
+        e
+        ∙ ap (λ (r : List ℕ). sets r (k * i) (row (getD xs i d))) first
+        ∙ ap (λ (r : List ℕ). sets (wordsOf row (take i xs) ++ r) (k * i) (row (getD xs i d))) (sym (take-append-drop k u))
         ∙ sets-seam (wordsOf row (take i xs)) (take k u) (drop k u) (row (getD xs i d)) (k * i) (length-first xs i (le-of-lt h))
         (length-take-le k u (omega arith) ∙ sym (long (getD xs i d)))
         ∙ rw (add-one i, take-suc xs i d h, words-last (take i xs) (getD xs i d), m, drop-drop k (k * i) ws)

@@ -1,11 +1,10 @@
 -- What each call on a lent state gives back: the library's answer for the state that the words say, as words; 101 before all else where the words are
 -- not as many as the layout has.
 use Prim.Native.Nat.{ℕ}
-use mathlib.Core.Bool.{Bool, cond, _&&_}
+use mathlib.Core.Bool.{cond, _&&_}
 use mathlib.Core.List.{List, [], _∷_}
 use lib.Dec.{eqb}
 use lib.ListN.{length}
-use Rattle.words.specs.declared.ByteAddr.{ByteAddr}
 use Rattle.table.specs.declared.Shape.{Shape}
 use Rattle.lookaside.specs.declared.Buffer.{Buffer}
 use Rattle.lookaside.specs.declared.Checked.{Checked}
@@ -13,7 +12,7 @@ use Rattle.lookaside.specs.declared.Flushed.{Flushed}
 use Rattle.lookaside.specs.declared.Verdict.{Verdict}
 use Rattle.lookaside.specs.Check.{checkOf, numbers as verdictNumbers}
 use Rattle.lookaside.specs.Flushes.{flushedWhole, flushedDomain, flushedRegion}
-use Rattle.gates.specs.declared.Gate.{Gate}
+use Rattle.gates.specs.declared.Gates.{Gates}
 use Rattle.gates.specs.declared.Gate.the-variants.{Switch, Return}
 use Rattle.gates.specs.declared.GatesSet.{GatesSet}
 use Rattle.gates.specs.declared.Step.{Step}
@@ -73,3 +72,38 @@ flushDomainCall ws d = flushCall (λ b. flushedDomain b d) ws
 -- What gol_flush_region gives back.
 abbrev pub flushRegionCall : List ℕ → ℕ → ℕ → ℕ → Kept
 flushRegionCall ws d start len = flushCall (λ b. flushedRegion b d start len) ws
+
+-- A gate set or removed, as words.
+abbrev pub gatesKept : GatesSet → Kept
+gatesKept r = kept (r .refusal) (gatesWords (r .gates))
+
+-- What setting or removing a gate gives back, of the set's words `ws`, by what it leaves of a set.
+unfoldable pub gatesCall : (Gates → GatesSet) → List ℕ → Kept
+gatesCall f ws = cond (eqb (length ws) gatesLong) (gatesKept (f (gatesOf ws))) (kept wrongLength ws)
+
+-- What gol_set_switch_gate gives back.
+abbrev pub setSwitchCall : ℕ → List ℕ → ℕ → ℕ → ℕ → Kept
+setSwitchCall D ws d a e = gatesCall (λ G. setOf D G d (record { 0 = a }) (Switch e)) ws
+
+-- What gol_set_return_gate gives back.
+abbrev pub setReturnCall : ℕ → List ℕ → ℕ → ℕ → Kept
+setReturnCall D ws d a = gatesCall (λ G. setOf D G d (record { 0 = a }) Return) ws
+
+-- What gol_remove_gate gives back.
+abbrev pub removeCall : ℕ → List ℕ → ℕ → ℕ → Kept
+removeCall D ws d a = gatesCall (λ G. removeOf D G d (record { 0 = a })) ws
+
+-- The result word of a step: the verdict.
+abbrev pub stepResults : Stepped → List ℕ
+stepResults r = stepNumbers r .pass ∷ []
+
+-- A step that was made, as words.
+abbrev pub steppedBack : Step → List ℕ → Back
+steppedBack r out = back (stepNumbers (r .answer) .refusal) (stackWords (r .stack)) (outWith (stepResults (r .answer)) out)
+
+-- What gol_step gives back, of the gate set's words `gs` and the stack's `ws`, either of which may be of the wrong length.
+unfoldable pub stepCall : List ℕ → Shape → List ℕ → List ℕ → ℕ → ℕ → List ℕ → Back
+stepCall p s gs ws a t out =
+    cond (eqb (length gs) gatesLong && eqb (length ws) stackLong)
+    (steppedBack (stepOf p s (gatesOf gs) (stackOf ws) (record { 0 = a }) (record { 0 = t })) out)
+    (back wrongLength ws (outWith (0 ∷ []) out))

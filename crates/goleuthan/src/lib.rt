@@ -4,8 +4,9 @@ mod results;
 mod states;
 
 ghost use mathlib.Core.Path.{_≡_};
-ghost use Rattle.goleuthan.specs.StateCalls.{back, kept, checkCall, flushAllCall, flushDomainCall, flushRegionCall};
+ghost use Rattle.goleuthan.specs.StateCalls.{back, kept, checkCall, flushAllCall, flushDomainCall, flushRegionCall, setSwitchCall, setReturnCall, removeCall, stepCall};
 ghost use Rattle.goleuthan.specs.Calls.{shapeOf, FreshCall, LookupCall, ChangeCall, TidyCall, ListCall};
+use gates::Gate;
 use table::Shape;
 
 // A lent state is of the wrong length.
@@ -196,4 +197,99 @@ pub extern "C" fn gol_flush_region(buffer: &mut [u32], domain: u32, start: u32, 
     let after = flushed.buffer;
     states::write_buffer(buffer, after);
     flushed.refusal
+}
+
+// Sets a switch gate.
+#[no_mangle]
+pub extern "C" fn gol_set_switch_gate(
+    d: u32,
+    gates: &mut [u32],
+    domain: u32,
+    address: u32,
+    destination: u32,
+) -> u32
+    ensures { λ r. ⌜ kept r (now (gates .exit)) ≡ setSwitchCall d (now (gates .entry)) domain address destination ⌝ }
+{
+    if gates.len() != states::GATES_WORDS {
+        return WRONG_LENGTH;
+    }
+    let set = states::read_gates(gates);
+    let at = words::byte_addr(address);
+    let gate = Gate::Switch(destination);
+    let done = gates::set_gate(d, set, domain, at, gate);
+    let after = done.gates;
+    states::write_gates(gates, after);
+    done.refusal
+}
+
+// Sets a return gate.
+#[no_mangle]
+pub extern "C" fn gol_set_return_gate(d: u32, gates: &mut [u32], domain: u32, address: u32) -> u32
+    ensures { λ r. ⌜ kept r (now (gates .exit)) ≡ setReturnCall d (now (gates .entry)) domain address ⌝ }
+{
+    if gates.len() != states::GATES_WORDS {
+        return WRONG_LENGTH;
+    }
+    let set = states::read_gates(gates);
+    let at = words::byte_addr(address);
+    let gate = Gate::Return;
+    let done = gates::set_gate(d, set, domain, at, gate);
+    let after = done.gates;
+    states::write_gates(gates, after);
+    done.refusal
+}
+
+// Removes a gate.
+#[no_mangle]
+pub extern "C" fn gol_remove_gate(d: u32, gates: &mut [u32], domain: u32, address: u32) -> u32
+    ensures { λ r. ⌜ kept r (now (gates .exit)) ≡ removeCall d (now (gates .entry)) domain address ⌝ }
+{
+    if gates.len() != states::GATES_WORDS {
+        return WRONG_LENGTH;
+    }
+    let set = states::read_gates(gates);
+    let at = words::byte_addr(address);
+    let done = gates::remove_gate(d, set, domain, at);
+    let after = done.gates;
+    states::write_gates(gates, after);
+    done.refusal
+}
+
+// One fetch step, by the gates and the call stack.
+#[no_mangle]
+pub extern "C" fn gol_step(
+    pool: &[u32],
+    d: u32,
+    m: u32,
+    l: u32,
+    gates: &[u32],
+    stack: &mut [u32],
+    address: u32,
+    target: u32,
+    out: &mut [u32],
+) -> u32
+    ensures { λ r. ⌜ back r (now (stack .exit)) (now (out .exit)) ≡ stepCall (now (pool .entry)) (shapeOf d m l) (now (gates .entry)) (now (stack .entry)) address target (now (out .entry)) ⌝ }
+{
+    if gates.len() != states::GATES_WORDS {
+        results::one(out, 0);
+        return WRONG_LENGTH;
+    }
+    if stack.len() != states::STACK_WORDS {
+        results::one(out, 0);
+        return WRONG_LENGTH;
+    }
+    let shape = Shape {
+        domains: d,
+        middles: m,
+        leaves: l,
+    };
+    let at = words::byte_addr(address);
+    let to = words::byte_addr(target);
+    let set = states::read_gates(gates);
+    let calls = states::read_stack(stack);
+    let step = gates::fetch_step(pool, shape, set, calls, at, to);
+    let after = step.stack;
+    states::write_stack(stack, after);
+    let answer = step.answer;
+    results::give_step(answer, out)
 }

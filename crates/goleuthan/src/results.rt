@@ -4,12 +4,14 @@ ghost use mathlib.Core.List.{[], _∷_};
 ghost use lib.ListN.{set};
 ghost use Rattle.table.specs.Fresh.{madeNumber};
 ghost use Rattle.table.specs.Lookup.{numbers as foundNumbers};
+ghost use Rattle.gates.specs.Steps.{numbers as stepNumbers};
 ghost use Rattle.lookaside.specs.Check.{numbers as verdictNumbers};
-ghost use Rattle.goleuthan.specs.StateCalls.{verdictResults};
+ghost use Rattle.goleuthan.specs.StateCalls.{verdictResults, stepResults};
 ghost use Rattle.listing.specs.Listing.{numbers as listedNumbers};
 ghost use Rattle.goleuthan.specs.Out.{outWith, inOneWord};
 ghost use Rattle.goleuthan.specs.Calls.{answerNumber, foundResults, answerResults, listedResults};
 use change::Answer;
+use gates::Stepped;
 use listing::Listed;
 use lookaside::Verdict;
 use table::Found;
@@ -135,6 +137,25 @@ pub fn give_verdict(verdict: Verdict, out: &mut [u32]) -> u32
         }
         Verdict::Refused(n) => {
             two(out, 0, 0);
+            n
+        }
+    }
+}
+
+pub fn give_step(answer: Stepped, out: &mut [u32]) -> u32
+    ensures { λ r. ⌜ (r ≡ stepNumbers answer .refusal) × (now (out .exit) ≡ outWith (stepResults answer) (now (out .entry))) ⌝ }
+{
+    match answer {
+        Stepped::Pass => {
+            one(out, 1);
+            0
+        }
+        Stepped::Deny => {
+            one(out, 0);
+            0
+        }
+        Stepped::Refused(n) => {
+            one(out, 0);
             n
         }
     }

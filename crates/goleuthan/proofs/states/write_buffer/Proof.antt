@@ -1,9 +1,8 @@
 -- `goleuthan::states::write_buffer` meets its contract. The invariant: the first `i` slots are written, the words after them are as they came. Assumes nothing.
 use Rattle.goleuthan.specs.States.{slotWords}
 use Rattle.goleuthan.specs.Rows.{wordsOf}
-use lib.ListN.{length, getD, take, drop, set, length-set}
-use lib.Seq.{sets, length-sets, take-all}
-use Rattle.lookaside.specs.Slots.{emptySlot}
+use lib.ListN.{length, take, drop, set, length-set}
+use lib.Seq.{take-all}
 use Rattle.lookaside.proofs.BufferLaws.{unmapped}
 use Rattle.goleuthan.proofs.RowLaws.{length-words, words-turn, sets-end}
 use mathlib.Core.List.{List, [], _∷_, _++_}
@@ -59,10 +58,10 @@ loop-again c =
     let a = c .before .before .before .before .before .before .before .before .args in
     let n : length (a .t2 .slots) ≡ 64 = search (needs, unmapped) in
     let p = c .before .before .before .before .before .before .before .before .pre in
-    let s = getD (a .t2 .slots) (l .i) emptySlot in (
+    let e = c .before .before .put-slot .ensures in (
       omega arith,
-      c .before .before .put-slot .ensures ∙ ap (λ (r : List ℕ). sets r (4 * l .i) (slotWords s)) (l .inv .1) ∙ words-turn slotWords 4 (λ x. refl) (a .t2 .slots) (a .ws .now) (l .i) emptySlot (omega arith) (omega arith),
-      ap length (c .before .before .put-slot .ensures) ∙ length-sets (l .ws) (4 * l .i) (slotWords s) ∙ l .inv .2,
+      words-turn slotWords 4 (λ y. refl) (a .t2 .slots) (a .ws .now) (l .ws) _ (l .i) _ (omega arith) (omega arith) (l .inv .1) e,
+      c .before .before .put-slot .kept .0 ∙ l .inv .2,
     )
 
 -- src/states.rt:65:5
