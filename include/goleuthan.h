@@ -3,8 +3,8 @@
  *
  * A table gives each 32-bit memory word, for each of up to four domains, one right: 0 none, 1 read, 2 read and write,
  * 3 execute and read. It lives in a pool: a memory of 32-bit words that the caller owns and lends for each call. The
- * library keeps nothing between calls, allocates nothing and calls nothing. Every call returns, whatever the numbers and
- * whatever the words hold; no call has a condition on its numbers.
+ * library keeps nothing between calls, allocates nothing and calls nothing. Every call returns, whatever the numbers are
+ * and whatever the words hold.
  *
  * POINTERS. A lent memory is a pointer and a length, counted in words of four bytes. The pointer is not null (also where
  * the length is 0), is a multiple of 4, and its words are the caller's to lend: readable, and for a pointer that is not
@@ -12,15 +12,15 @@
  * other thread writes a lent memory, or reads one that is not const, during the call. This is all that a caller owes.
  *
  * THE POOL holds D roots of 1,024 words, then M middle places of 1,024 words, then L leaf places of 64 words, with D 1 to
- * 4, M 0 to 8 and L 0 to 64. `words` is exactly 1024*D + 1024*M + 64*L. The pool does not hold D, M and L: give each call
- * the same three that it was made fresh with. GOL_POOL_WORDS(d, m, l) is that length.
+ * 4, M 0 to 8 and L 0 to 64. `words` is exactly 1024*D + 1024*M + 64*L, which is GOL_POOL_WORDS(d, m, l). The pool does not
+ * hold D, M and L: give each call the same three that it was made fresh with.
  *
  * RESULTS go into the lent words `out`, in the order given at each call, as many of them as `out_len` has room for. Words
  * of `out` past the results stay as they were. An `out_len` of 0 asks for no result.
  *
- * NUMBERS. Each call returns 0 where it is done, or one of the numbers below. Where several would fit, the call's own list
- * gives the order: the first that fits is returned. On every refusal, that is on every number but 0 and GOL_CUT, the
- * pool and all lent states are as they came, and the result words of `out` are 0, as many of them as fit.
+ * NUMBERS. Each call returns 0 where it is done, or one of the numbers below. Each call names the numbers that it may
+ * return, in their order: where several fit, the first is returned. On every refusal, that is on every number but 0 and
+ * 100, the pool and all lent states are as they came, and the result words of `out` are 0, as many of them as fit.
  *
  *   1   D, M or L out of range, or a pool of another length     10  address or target not a multiple of the access size
  *   2   a domain is D or more                                   11  gate address not a multiple of 4
@@ -31,17 +31,33 @@
  *   7   pool sound, not settled: tidy it first                  16  return gate, stack empty
  *   8   not enough middle or leaf places for these rights       17  return gate, target differs
  *   9   no such access kind or size                             18  gate count above 64, depth above 16, next above 63
- *   100 the allowance of stores ran out before the end (a cut: see RECOVERY; some stores were made)
- *   101 a lent state of the wrong length (looked at before all others)
+ *   100 the allowance of stores ran out before the end: a cut (see RECOVERY)
+ *   101 a lent state of the wrong length; this is looked at before all else
+ *
+ * STATES. A lookaside buffer, a gate set and a call stack are words of the caller too, of these lengths and layouts. Words
+ * of any value may come in; what they mean is decided by the rules below and by the numbers above.
+ *
+ *   Buffer, 257 words. Slot i, 0 to 63, is the four words from 4*i on: domain, level (1 root, 2 middle, 3 leaf), first
+ *   byte of the block, entry. Word 256 is next, the slot that the next miss fills. All words 0 is an empty buffer. A slot
+ *   whose level is not 1 to 3, or whose block is not a multiple of the level's size (4 MB, 4 KB, 64), counts as empty.
+ *
+ *   Gate set, 193 words. Gate i, 0 to 63, is the three words from 3*i on: domain, address, gate. The gate is
+ *   0xFFFFFFFF for a return gate, else the destination of a switch gate. Word 192 is the count: gates from that number on
+ *   are idle and keep their words. All words 0 is an empty set.
+ *
+ *   Call stack, 34 words. Frame i, 0 to 15, is the two words from 2*i on: caller's domain, return address. Word 32 is the
+ *   depth, word 33 the current domain. Frames from the depth on are idle and keep their words. All words 0 but the
+ *   current domain is an empty stack.
  *
  * RECOVERY after a brown-out. A change or a tidying may stop after any of its stores, by its allowance or by a loss of
- * power. The pool is then sound: each word has its old right or, where the change covers it, its new one, and nothing else.
- * After a reset, in this order:
- *   1. empty the lookaside buffers (all 257 words 0): they may hold entries that the pool no longer has;
- *   2. gol_tidy with an allowance that suffices (0xFFFFFFFF always does): it gives no word another right, and after it
- *      the pool is settled, so that no change is refused 7;
- *   3. make the interrupted change again, if it is still wanted, then flush what it covers.
- * Gate sets and call stacks are the caller's memory too: rebuild them, or begin with empty ones.
+ * power. The pool is then sound: each word has its old right or, where the change covers it, its new one, and nothing
+ * else. After a reset, in this order:
+ *   1. empty each lookaside buffer (all words 0): it may hold entries that the pool no longer has;
+ *   2. call gol_tidy with an allowance that suffices (0xFFFFFFFF always does): it gives no word another right, and after
+ *      it the pool is settled, so that no change is refused 7;
+ *   3. make the interrupted change again, if it is still wanted;
+ *   4. rebuild gate sets and call stacks, or begin with empty ones: a call that was writing one may have written a part.
+ * A cut without a reset asks for the same, but for 4: instead of 1, flushing what the change covers is enough.
  * A pool that was being made fresh when the power went must be made fresh again.
  */
 #ifndef GOLEUTHAN_H
@@ -67,6 +83,17 @@ extern "C" {
 #define GOL_READ 1u
 #define GOL_WRITE 2u
 #define GOL_EXECUTE 3u
+
+/* Kinds of access. */
+#define GOL_LOAD 0u
+#define GOL_STORE 1u
+#define GOL_FETCH 2u
+
+/* The lengths of the lent states in words, and the word of a return gate. */
+#define GOL_BUFFER_WORDS 257u
+#define GOL_GATES_WORDS 193u
+#define GOL_STACK_WORDS 34u
+#define GOL_RETURN_GATE 0xFFFFFFFFu
 
 /*
  * Makes the pool fresh: no domain has a right anywhere. Every root word becomes 0x80000000, every other word 0.
@@ -112,6 +139,74 @@ uint32_t gol_lookup(const uint32_t *pool, size_t words, uint32_t d, uint32_t m, 
  */
 uint32_t gol_list(const uint32_t *pool, size_t words, uint32_t d, uint32_t m, uint32_t l, uint32_t from, uint32_t *runs,
                   size_t runs_len, uint32_t *out, size_t out_len);
+
+/*
+ * Checks an access of `domain` through a lookaside buffer: the lowest slot that matches answers with 0 loads; else the pool
+ * is walked, and the entry that decides is kept in slot next, which moves on, whether the access passes or not.
+ * kind: 0 load, 1 store, 2 fetch. size: 1, 2 or 4 bytes, 4 for a fetch. `address` is a multiple of the size.
+ * A load passes on rights 1, 2 and 3, a store on 2, a fetch on 3.
+ * out[0]: the verdict: 1 pass, 0 deny. out[1]: the loads made, 0 where a slot answered, else 1 to 3.
+ * Returns 0, 101, 1, 18, 2, 9, 10, or 6 where no slot matches and the walk meets a bad entry. A deny returns 0.
+ */
+uint32_t gol_check(const uint32_t *pool, size_t words, uint32_t d, uint32_t m, uint32_t l, uint32_t *buffer,
+                   size_t buffer_len, uint32_t domain, uint32_t kind, uint32_t size, uint32_t address, uint32_t *out,
+                   size_t out_len);
+
+/*
+ * Empties every slot of a buffer. An emptied slot is zero in its four words; next stays.
+ * Returns 0, 101, or 18.
+ */
+uint32_t gol_flush_all(uint32_t *buffer, size_t buffer_len);
+
+/*
+ * Empties the slots of `domain`, which may be any number. Slots that count as empty are left as they are.
+ * Returns 0, 101, or 18.
+ */
+uint32_t gol_flush_domain(uint32_t *buffer, size_t buffer_len, uint32_t domain);
+
+/*
+ * Empties the slots of `domain`, which may be any number, whose block meets the region, which is rounded as gol_change
+ * rounds it. After a change in a domain this is the flush to make, with the same three numbers.
+ * Returns 0, 101, 18, 4, or 5.
+ */
+uint32_t gol_flush_region(uint32_t *buffer, size_t buffer_len, uint32_t domain, uint32_t start, uint32_t length);
+
+/*
+ * Sets a switch gate for `domain` at `address`, to the domain `destination`: in the place of the gate that stands there,
+ * else after the last. There is no pool; `d` is the number of domains.
+ * Returns 0, 101, 1, 18, 2 (domain or destination), 11, 14, or 12.
+ */
+uint32_t gol_set_switch_gate(uint32_t d, uint32_t *gates, size_t gates_len, uint32_t domain, uint32_t address,
+                             uint32_t destination);
+
+/*
+ * Sets a return gate for `domain` at `address`, as gol_set_switch_gate does.
+ * Returns 0, 101, 1, 18, 2, 11, or 12.
+ */
+uint32_t gol_set_return_gate(uint32_t d, uint32_t *gates, size_t gates_len, uint32_t domain, uint32_t address);
+
+/*
+ * Removes the gate for `domain` at `address`, the earlier of two. Later gates move down by one; the place that comes free
+ * keeps its words.
+ * Returns 0, 101, 1, 18, 2, 11, or 13.
+ */
+uint32_t gol_remove_gate(uint32_t d, uint32_t *gates, size_t gates_len, uint32_t domain, uint32_t address);
+
+/*
+ * One fetch step at `address`, by the gate that stands there for the current domain. It walks the pool and uses no buffer.
+ *   No gate: the fetch is checked in the current domain. `target` must be a multiple of 4 and is not used.
+ *   Switch gate: the fetch is checked in the destination; on pass the current domain and `target`, the address to return
+ *   to, are pushed, and the destination becomes current.
+ *   Return gate: the fetch is checked in the current domain; on pass `target` must equal the top frame's return address;
+ *   the frame is popped, and its domain becomes current.
+ * A deny leaves the stack as it came.
+ * out[0]: the verdict: 1 pass, 0 deny.
+ * Returns 0, 101, 1, 18, 2 (the current domain, or one in a frame or gate held), 10, then by the gate: 15, then 6 where the
+ * walk meets a bad entry; on pass of a return gate 16, then 17. A deny returns 0.
+ */
+uint32_t gol_step(const uint32_t *pool, size_t words, uint32_t d, uint32_t m, uint32_t l, const uint32_t *gates,
+                  size_t gates_len, uint32_t *stack, size_t stack_len, uint32_t address, uint32_t target, uint32_t *out,
+                  size_t out_len);
 
 #ifdef __cplusplus
 }

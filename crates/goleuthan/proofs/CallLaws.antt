@@ -6,59 +6,65 @@ use borrow.Author.Tests.{eq-eqb, ne-eqb}
 use lib.ListN.{length}
 use Rattle.table.specs.declared.Shape.{Shape}
 use Rattle.lookaside.specs.declared.Buffer.{Buffer}
+use Rattle.lookaside.specs.declared.Checked.{Checked}
 use Rattle.lookaside.specs.declared.Flushed.{Flushed}
-use Rattle.lookaside.specs.Check.{checkOf}
+use Rattle.lookaside.specs.Check.{checkOf, numbers as verdictNumbers}
 use Rattle.gates.specs.declared.Gates.{Gates}
 use Rattle.gates.specs.declared.GatesSet.{GatesSet}
-use Rattle.gates.specs.Steps.{stepOf}
+use Rattle.gates.specs.declared.Step.{Step}
+use Rattle.gates.specs.Steps.{stepOf, numbers as stepNumbers}
 use Rattle.goleuthan.specs.Out.{outWith, wrongLength}
-use Rattle.goleuthan.specs.States.{bufferLong, bufferOf, gatesLong, gatesOf, stackLong, stackOf}
-use Rattle.goleuthan.specs.StateCalls.{kept, back, checkedBack, checkCall, flushedKept, flushCall, gatesKept, gatesCall, steppedBack, stepCall}
+use Rattle.goleuthan.specs.States.{bufferLong, bufferOf, bufferWords, gatesLong, gatesOf, gatesWords, stackLong, stackOf, stackWords}
+use Rattle.goleuthan.specs.StateCalls.{kept, back, verdictResults, checkCall, flushCall, gatesCall, stepResults, stepCall}
 
--- What comes back is made of its parts.
-pub kept-is : {m n : ℕ} {x y : List ℕ} → m ≡ n → x ≡ y → kept m x ≡ kept n y
-kept-is p q = λ i. kept (p i) (q i)
-
-pub back-is : {m n : ℕ} {x y t u : List ℕ} → m ≡ n → x ≡ y → t ≡ u → back m x t ≡ back n y u
-back-is p q r = λ i. back (p i) (q i) (r i)
-
-module _ (p : List ℕ) (s : Shape) (ws : List ℕ) (d kind size a : ℕ) (out : List ℕ) where
-  pub check-wrong : (length ws ≡ bufferLong → ⊥) → checkCall p s ws d kind size a out ≡ back wrongLength ws (outWith (0 ∷ 0 ∷ []) out)
+module _ (p : List ℕ) (s : Shape) (ws : List ℕ) (d kind size a : ℕ) (out res : List ℕ) where
+  pub check-wrong : (length ws ≡ bufferLong → ⊥) → res ≡ outWith (0 ∷ 0 ∷ []) out → back wrongLength ws res ≡ checkCall p s ws d kind size a out
   unfolding checkCall
-  check-wrong h = rw (ne-eqb (length ws) bufferLong h)
+  check-wrong h e = rw (e, ne-eqb (length ws) bufferLong h)
 
-  pub check-made : length ws ≡ bufferLong → checkCall p s ws d kind size a out ≡ checkedBack (checkOf p s (bufferOf ws) d kind size a) out
+  -- By the check that was made and what was written of it.
+  pub check-made : length ws ≡ bufferLong → (c : Checked) → c ≡ checkOf p s (bufferOf ws) d kind size a → (n : ℕ) (new : List ℕ)
+      → n ≡ verdictNumbers (c .verdict) .refusal → new ≡ bufferWords (c .buffer) → res ≡ outWith (verdictResults (c .verdict)) out
+      → back n new res ≡ checkCall p s ws d kind size a out
   unfolding checkCall
-  check-made h = rw (eq-eqb (length ws) bufferLong h)
+  check-made h c e n new en ew er = rw (en, ew, er, e, eq-eqb (length ws) bufferLong h)
 
 module _ (f : Buffer → Flushed) (ws : List ℕ) where
-  pub flush-wrong : (length ws ≡ bufferLong → ⊥) → flushCall f ws ≡ kept wrongLength ws
+  pub flush-wrong : (length ws ≡ bufferLong → ⊥) → kept wrongLength ws ≡ flushCall f ws
   unfolding flushCall
   flush-wrong h = rw (ne-eqb (length ws) bufferLong h)
 
-  pub flush-made : length ws ≡ bufferLong → flushCall f ws ≡ flushedKept (f (bufferOf ws))
+  -- By the flush that was made.
+  pub flush-made : length ws ≡ bufferLong → (r : Flushed) → r ≡ f (bufferOf ws) → (new : List ℕ) → new ≡ bufferWords (r .buffer)
+      → kept (r .refusal) new ≡ flushCall f ws
   unfolding flushCall
-  flush-made h = rw (eq-eqb (length ws) bufferLong h)
+  flush-made h r e new ew = rw (ew, e, eq-eqb (length ws) bufferLong h)
 
 module _ (f : Gates → GatesSet) (ws : List ℕ) where
-  pub gates-wrong : (length ws ≡ gatesLong → ⊥) → gatesCall f ws ≡ kept wrongLength ws
+  pub gates-wrong : (length ws ≡ gatesLong → ⊥) → kept wrongLength ws ≡ gatesCall f ws
   unfolding gatesCall
   gates-wrong h = rw (ne-eqb (length ws) gatesLong h)
 
-  pub gates-made : length ws ≡ gatesLong → gatesCall f ws ≡ gatesKept (f (gatesOf ws))
+  -- By the setting or removal that was made.
+  pub gates-made : length ws ≡ gatesLong → (r : GatesSet) → r ≡ f (gatesOf ws) → (new : List ℕ) → new ≡ gatesWords (r .gates)
+      → kept (r .refusal) new ≡ gatesCall f ws
   unfolding gatesCall
-  gates-made h = rw (eq-eqb (length ws) gatesLong h)
+  gates-made h r e new ew = rw (ew, e, eq-eqb (length ws) gatesLong h)
 
-module _ (p : List ℕ) (s : Shape) (gs ws : List ℕ) (a t : ℕ) (out : List ℕ) where
-  pub step-no-gates : (length gs ≡ gatesLong → ⊥) → stepCall p s gs ws a t out ≡ back wrongLength ws (outWith (0 ∷ []) out)
+module _ (p : List ℕ) (s : Shape) (gs ws : List ℕ) (a t : ℕ) (out res : List ℕ) where
+  pub step-no-gates : (length gs ≡ gatesLong → ⊥) → res ≡ outWith (0 ∷ []) out → back wrongLength ws res ≡ stepCall p s gs ws a t out
   unfolding stepCall
-  step-no-gates h = rw (ne-eqb (length gs) gatesLong h)
+  step-no-gates h e = rw (e, ne-eqb (length gs) gatesLong h)
 
-  pub step-no-stack : length gs ≡ gatesLong → (length ws ≡ stackLong → ⊥) → stepCall p s gs ws a t out ≡ back wrongLength ws (outWith (0 ∷ []) out)
+  pub step-no-stack : length gs ≡ gatesLong → (length ws ≡ stackLong → ⊥) → res ≡ outWith (0 ∷ []) out
+      → back wrongLength ws res ≡ stepCall p s gs ws a t out
   unfolding stepCall
-  step-no-stack g h = rw (eq-eqb (length gs) gatesLong g, ne-eqb (length ws) stackLong h)
+  step-no-stack g h e = rw (e, eq-eqb (length gs) gatesLong g, ne-eqb (length ws) stackLong h)
 
+  -- By the step that was made and what was written of it.
   pub step-made : length gs ≡ gatesLong → length ws ≡ stackLong
-      → stepCall p s gs ws a t out ≡ steppedBack (stepOf p s (gatesOf gs) (stackOf ws) (record { 0 = a }) (record { 0 = t })) out
+      → (r : Step) → r ≡ stepOf p s (gatesOf gs) (stackOf ws) (record { 0 = a }) (record { 0 = t }) → (n : ℕ) (new : List ℕ)
+      → n ≡ stepNumbers (r .answer) .refusal → new ≡ stackWords (r .stack) → res ≡ outWith (stepResults (r .answer)) out
+      → back n new res ≡ stepCall p s gs ws a t out
   unfolding stepCall
-  step-made g h = rw (eq-eqb (length gs) gatesLong g, eq-eqb (length ws) stackLong h)
+  step-made g h r e n new en ew er = rw (en, ew, er, e, eq-eqb (length gs) gatesLong g, eq-eqb (length ws) stackLong h)

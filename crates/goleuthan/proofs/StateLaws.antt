@@ -9,7 +9,7 @@ use native.Mathlib.Numerals.{add-one}
 use native.Mathlib.Omega.{arith}
 use borrow.Author.Tests.{eqb-true, ne-eqb}
 use lib.Dec.{eqb}
-use lib.ListN.{length, getD, take, drop, length-append}
+use lib.ListN.{length, getD, take, drop}
 use lib.Seq.{drop-cons, take-suc, take-all, getD-at, getD-append-seam, getD-append-add}
 use Rattle.lookaside.specs.declared.Slot.{Slot}
 use Rattle.lookaside.specs.declared.Buffer.{Buffer}
@@ -22,7 +22,7 @@ use Rattle.gates.specs.declared.Frame.{Frame}
 use Rattle.gates.specs.declared.CallStack.{CallStack}
 use Rattle.gates.specs.Gates.{noGate}
 use Rattle.gates.specs.Steps.{noFrame}
-use Rattle.goleuthan.specs.Rows.{rowsOf, wordsOf}
+use Rattle.goleuthan.specs.Rows.{wordsOf}
 use Rattle.goleuthan.specs.States.{bufferLong, slotAt, slotWords, bufferOf, bufferWords, returnWord, gateIn, gateWord, gateAt, gateWords, gatesOf, gatesWords, frameAt, frameWords, stackOf, stackWords, gatesLong, stackLong}
 use Rattle.goleuthan.proofs.RowLaws.{length-words, words-rows, rows-words}
 

@@ -1,5 +1,4 @@
 -- `goleuthan::results::three` meets its contract. Assumes nothing.
-use mathlib.Core.Path.{_∙_}
 use Rattle.goleuthan.proofs.OutLaws.{over-three}
 use borrow.Author.Needs.{needs}
 use Rattle.goleuthan.proofs.results.three.Statement.{statement}

@@ -1,5 +1,4 @@
 -- `goleuthan::results::two` meets its contract. Assumes nothing.
-use mathlib.Core.Path.{_∙_}
 use Rattle.goleuthan.proofs.OutLaws.{over-two}
 use borrow.Author.Needs.{needs}
 use Rattle.goleuthan.proofs.results.two.Statement.{statement}

@@ -2,52 +2,37 @@
 use borrow.Author.Needs.{needs}
 use Rattle.goleuthan.proofs.states.gate_at.Statement.{statement}
 use Rattle.goleuthan.proofs.states.gate_at.Tie as tie
-use Rattle.goleuthan.proofs.states.gate_at.Reads as reads
-use Rattle.goleuthan.proofs.states.gate_at.Lts as lts
-use Rattle.goleuthan.proofs.states.gate_in.Reads as gate-in-reads
-use Rattle.words.proofs.byte_addr.Reads as byte-addr-reads
 
--- src/states.rt:122:18
 mul-domain : tie.Need-mul-domain
 mul-domain c = search needs
 
--- src/states.rt:122:18
 shared-slice-read-domain : tie.Need-shared-slice-read-domain
 shared-slice-read-domain c = search needs
 
--- src/states.rt:123:20
 add-place : tie.Need-add-place
 add-place c = search needs
 
--- src/states.rt:123:17
 mul-place : tie.Need-mul-place
 mul-place c = search needs
 
--- src/states.rt:123:17
 shared-slice-read-place : tie.Need-shared-slice-read-place
 shared-slice-read-place c = search needs
 
--- src/states.rt:124:19
 add-what : tie.Need-add-what
 add-what c = search needs
 
--- src/states.rt:124:16
 mul-what : tie.Need-mul-what
 mul-what c = search needs
 
--- src/states.rt:124:16
 shared-slice-read-what : tie.Need-shared-slice-read-what
 shared-slice-read-what c = search needs
 
--- src/states.rt:125:9
 byte-addr-requires : tie.Need-byte-addr-requires
 byte-addr-requires c κs = search needs
 
--- src/states.rt:126:9
 gate-in-requires : tie.Need-gate-in-requires
 gate-in-requires c κs = search needs
 
--- src/states.rt:118:1
 returns : tie.Need-returns
 returns c = rw (c .before .byte-addr .ensures, c .gate-in .ensures)
 

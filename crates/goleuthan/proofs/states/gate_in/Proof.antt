@@ -2,14 +2,10 @@
 use borrow.Author.Tests.{eq-eqb, ne-eqb}
 use Rattle.goleuthan.proofs.states.gate_in.Statement.{statement}
 use Rattle.goleuthan.proofs.states.gate_in.Tie as tie
-use Rattle.goleuthan.proofs.states.gate_in.Reads as reads
-use Rattle.goleuthan.proofs.states.gate_in.Lts as lts
 
--- src/states.rt:104:9
 returns : tie.Need-returns
 returns c = simp (eq-eqb _ _ (c .if1 .taken))
 
--- src/states.rt:100:1
 returns-2 : tie.Need-returns-2
 returns-2 c = simp (ne-eqb _ _ (c .if1 .left))
 

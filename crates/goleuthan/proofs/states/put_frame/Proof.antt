@@ -5,39 +5,28 @@ use native.Mathlib.Omega.{arith}
 use borrow.Author.Needs.{needs}
 use Rattle.goleuthan.proofs.states.put_frame.Statement.{statement}
 use Rattle.goleuthan.proofs.states.put_frame.Tie as tie
-use Rattle.goleuthan.proofs.states.put_frame.Reads as reads
-use Rattle.goleuthan.proofs.states.put_frame.Lts as lts
-use Rattle.words.proofs.addr_number.Reads as addr-number-reads
 
--- src/states.rt:206:9
 addr-number-requires : tie.Need-addr-number-requires
 addr-number-requires c κs = search needs
 
--- src/states.rt:207:5
 mul-ws : tie.Need-mul-ws
 mul-ws c = search needs
 
--- src/states.rt:207:5
 slice-write-ws : tie.Need-slice-write-ws
 slice-write-ws c = search needs
 
--- src/states.rt:208:8
 add-ws : tie.Need-add-ws
 add-ws c = search needs
 
--- src/states.rt:208:5
 mul-ws-2 : tie.Need-mul-ws-2
 mul-ws-2 c = search needs
 
--- src/states.rt:208:5
 slice-write-ws-2 : tie.Need-slice-write-ws-2
 slice-write-ws-2 c = simp length-set (omega arith)
 
--- src/states.rt:201:1
 same-length : tie.Need-same-length
 same-length c = search needs
 
--- src/states.rt:201:1
 returns : tie.Need-returns
 returns c = rw (add-one, c .addr-number .ensures)
 

@@ -6,14 +6,10 @@ use Rattle.lookaside.specs.Slots.{emptySlot, emptyBuffer}
 use lib.ListN.{length, getD, take, length-set, length-replicate}
 use Prim.Native.Nat.{_*_, _-_, _≤_}
 use borrow.Author.Needs.{needs}
-use mathlib.Core.Path.{_≡_, refl, sym, _∙_}
+use mathlib.Core.Path.{_≡_, refl, _∙_}
 use native.Mathlib.Omega.{arith}
 use Rattle.goleuthan.proofs.states.read_buffer.Statement.{statement}
 use Rattle.goleuthan.proofs.states.read_buffer.Tie as tie
-use Rattle.goleuthan.proofs.states.read_buffer.Reads as reads
-use Rattle.goleuthan.proofs.states.read_buffer.Lts as lts
-use Rattle.goleuthan.proofs.states.slot_at.Reads as slot-at-reads
-use Rattle.lookaside.proofs.emptied.Reads as emptied-reads
 
 abbrev Inv-loop : tie.InvT-loop
 Inv-loop ws b₀ i₀ b i = (i ≤ 64) × (take i (b .slots) ≡ rowsOf i (λ j. slotAt ws (4 * j))) × (length (b .slots) ≡ 64)
@@ -21,40 +17,31 @@ Inv-loop ws b₀ i₀ b i = (i ≤ 64) × (take i (b .slots) ≡ rowsOf i (λ j.
 abbrev μ-loop : tie.MeasureT-loop
 μ-loop ws b₀ i₀ b i = 64 - i
 
--- src/states.rt:32:17
 emptied-requires : tie.Need-emptied-requires Inv-loop μ-loop
 emptied-requires c κs = search needs
 
--- src/states.rt:34:5
 loop-holds : tie.Need-loop-holds Inv-loop μ-loop
 unfolding rowsOf emptyBuffer
 loop-holds c = (omega arith, refl, rw (c .emptied .ensures) (length-replicate 64 emptySlot))
 
--- src/states.rt:35:29
 mul-slot-at : tie.Need-mul-slot-at Inv-loop μ-loop
 mul-slot-at c = search needs
 
--- src/states.rt:35:13
 slot-at-requires : tie.Need-slot-at-requires Inv-loop μ-loop
 slot-at-requires c κs = omega arith
 
--- src/states.rt:36:9
 mul-s : tie.Need-mul-s Inv-loop μ-loop
 mul-s c = search needs
 
--- src/states.rt:36:9
 element-set-from-s : tie.Need-element-set-from-s Inv-loop μ-loop
 element-set-from-s c = search needs
 
--- src/states.rt:37:9
 add-i : tie.Need-add-i Inv-loop μ-loop
 add-i c = omega arith
 
--- src/states.rt:34:5
 loop-less : tie.Need-loop-less Inv-loop μ-loop
 loop-less c = omega arith
 
--- src/states.rt:34:5
 loop-again : tie.Need-loop-again Inv-loop μ-loop
 loop-again c =
     let l = c .before .before .loop in
@@ -64,11 +51,9 @@ loop-again c =
       length-set (l .b .slots) (l .i) (c .slot-at .result) ∙ l .inv .2,
     )
 
--- src/states.rt:39:14
 shared-slice-read-b : tie.Need-shared-slice-read-b Inv-loop μ-loop
 shared-slice-read-b c = search needs
 
--- src/states.rt:28:1
 returns : tie.Need-returns Inv-loop μ-loop
 returns c =
     let l = c .before .before .loop in

@@ -10,10 +10,6 @@ use mathlib.Core.Path.{_≡_, refl, _∙_}
 use native.Mathlib.Omega.{arith}
 use Rattle.goleuthan.proofs.states.read_gates.Statement.{statement}
 use Rattle.goleuthan.proofs.states.read_gates.Tie as tie
-use Rattle.goleuthan.proofs.states.read_gates.Reads as reads
-use Rattle.goleuthan.proofs.states.read_gates.Lts as lts
-use Rattle.gates.proofs.no_gates.Reads as no-gates-reads
-use Rattle.goleuthan.proofs.states.gate_at.Reads as gate-at-reads
 
 abbrev Inv-loop : tie.InvT-loop
 Inv-loop ws set₀ i₀ set i = (i ≤ 64) × (take i (set .places) ≡ rowsOf i (λ j. gateAt ws (3 * j))) × (length (set .places) ≡ 64)
@@ -21,40 +17,31 @@ Inv-loop ws set₀ i₀ set i = (i ≤ 64) × (take i (set .places) ≡ rowsOf i
 abbrev μ-loop : tie.MeasureT-loop
 μ-loop ws set₀ i₀ set i = 64 - i
 
--- src/states.rt:138:19
 no-gates-requires : tie.Need-no-gates-requires Inv-loop μ-loop
 no-gates-requires c κs = search needs
 
--- src/states.rt:140:5
 loop-holds : tie.Need-loop-holds Inv-loop μ-loop
 unfolding rowsOf
 loop-holds c = (omega arith, refl, rw (c .no-gates .ensures) (length-replicate 64 noGate))
 
--- src/states.rt:141:29
 mul-gate-at : tie.Need-mul-gate-at Inv-loop μ-loop
 mul-gate-at c = search needs
 
--- src/states.rt:141:13
 gate-at-requires : tie.Need-gate-at-requires Inv-loop μ-loop
 gate-at-requires c κs = omega arith
 
--- src/states.rt:142:9
 mul-g : tie.Need-mul-g Inv-loop μ-loop
 mul-g c = search needs
 
--- src/states.rt:142:9
 element-set-from-g : tie.Need-element-set-from-g Inv-loop μ-loop
 element-set-from-g c = search needs
 
--- src/states.rt:143:9
 add-i : tie.Need-add-i Inv-loop μ-loop
 add-i c = omega arith
 
--- src/states.rt:140:5
 loop-less : tie.Need-loop-less Inv-loop μ-loop
 loop-less c = omega arith
 
--- src/states.rt:140:5
 loop-again : tie.Need-loop-again Inv-loop μ-loop
 loop-again c =
     let l = c .before .before .loop in
@@ -64,11 +51,9 @@ loop-again c =
       length-set (l .set .places) (l .i) (c .gate-at .result) ∙ l .inv .2,
     )
 
--- src/states.rt:145:17
 shared-slice-read-set : tie.Need-shared-slice-read-set Inv-loop μ-loop
 shared-slice-read-set c = search needs
 
--- src/states.rt:134:1
 returns : tie.Need-returns Inv-loop μ-loop
 returns c =
     let l = c .before .before .loop in

@@ -10,10 +10,6 @@ use mathlib.Core.Path.{_≡_, refl, _∙_}
 use native.Mathlib.Omega.{arith}
 use Rattle.goleuthan.proofs.states.read_stack.Statement.{statement}
 use Rattle.goleuthan.proofs.states.read_stack.Tie as tie
-use Rattle.goleuthan.proofs.states.read_stack.Reads as reads
-use Rattle.goleuthan.proofs.states.read_stack.Lts as lts
-use Rattle.gates.proofs.call_stack.Reads as call-stack-reads
-use Rattle.goleuthan.proofs.states.frame_at.Reads as frame-at-reads
 
 abbrev Inv-loop : tie.InvT-loop
 Inv-loop ws stack₀ i₀ stack i = (i ≤ 16) × (take i (stack .frames) ≡ rowsOf i (λ j. frameAt ws (2 * j))) × (length (stack .frames) ≡ 16)
@@ -21,40 +17,31 @@ Inv-loop ws stack₀ i₀ stack i = (i ≤ 16) × (take i (stack .frames) ≡ ro
 abbrev μ-loop : tie.MeasureT-loop
 μ-loop ws stack₀ i₀ stack i = 16 - i
 
--- src/states.rt:189:21
 call-stack-requires : tie.Need-call-stack-requires Inv-loop μ-loop
 call-stack-requires c κs = search needs
 
--- src/states.rt:191:5
 loop-holds : tie.Need-loop-holds Inv-loop μ-loop
 unfolding rowsOf
 loop-holds c = (omega arith, refl, rw (c .call-stack .ensures) (length-replicate 16 noFrame))
 
--- src/states.rt:192:30
 mul-frame-at : tie.Need-mul-frame-at Inv-loop μ-loop
 mul-frame-at c = search needs
 
--- src/states.rt:192:13
 frame-at-requires : tie.Need-frame-at-requires Inv-loop μ-loop
 frame-at-requires c κs = omega arith
 
--- src/states.rt:193:9
 mul-f : tie.Need-mul-f Inv-loop μ-loop
 mul-f c = search needs
 
--- src/states.rt:193:9
 element-set-from-f : tie.Need-element-set-from-f Inv-loop μ-loop
 element-set-from-f c = search needs
 
--- src/states.rt:194:9
 add-i : tie.Need-add-i Inv-loop μ-loop
 add-i c = omega arith
 
--- src/states.rt:191:5
 loop-less : tie.Need-loop-less Inv-loop μ-loop
 loop-less c = omega arith
 
--- src/states.rt:191:5
 loop-again : tie.Need-loop-again Inv-loop μ-loop
 loop-again c =
     let l = c .before .before .loop in
@@ -64,15 +51,12 @@ loop-again c =
       length-set (l .stack .frames) (l .i) (c .frame-at .result) ∙ l .inv .2,
     )
 
--- src/states.rt:196:19
 shared-slice-read-stack : tie.Need-shared-slice-read-stack Inv-loop μ-loop
 shared-slice-read-stack c = search needs
 
--- src/states.rt:197:21
 shared-slice-read-stack-2 : tie.Need-shared-slice-read-stack-2 Inv-loop μ-loop
 shared-slice-read-stack-2 c = search needs
 
--- src/states.rt:185:1
 returns : tie.Need-returns Inv-loop μ-loop
 returns c =
     let l = c .before .before .before .loop in

@@ -2,59 +2,43 @@
 use borrow.Author.Needs.{needs}
 use Rattle.goleuthan.proofs.states.slot_at.Statement.{statement}
 use Rattle.goleuthan.proofs.states.slot_at.Tie as tie
-use Rattle.goleuthan.proofs.states.slot_at.Reads as reads
-use Rattle.goleuthan.proofs.states.slot_at.Lts as lts
-use Rattle.words.proofs.byte_addr.Reads as byte-addr-reads
 
--- src/states.rt:18:18
 mul-domain : tie.Need-mul-domain
 mul-domain c = search needs
 
--- src/states.rt:18:18
 shared-slice-read-domain : tie.Need-shared-slice-read-domain
 shared-slice-read-domain c = search needs
 
--- src/states.rt:19:20
 add-level : tie.Need-add-level
 add-level c = search needs
 
--- src/states.rt:19:17
 mul-level : tie.Need-mul-level
 mul-level c = search needs
 
--- src/states.rt:19:17
 shared-slice-read-level : tie.Need-shared-slice-read-level
 shared-slice-read-level c = search needs
 
--- src/states.rt:20:20
 add-first : tie.Need-add-first
 add-first c = search needs
 
--- src/states.rt:20:17
 mul-first : tie.Need-mul-first
 mul-first c = search needs
 
--- src/states.rt:20:17
 shared-slice-read-first : tie.Need-shared-slice-read-first
 shared-slice-read-first c = search needs
 
--- src/states.rt:21:20
 add-entry : tie.Need-add-entry
 add-entry c = search needs
 
--- src/states.rt:21:17
 mul-entry : tie.Need-mul-entry
 mul-entry c = search needs
 
--- src/states.rt:21:17
 shared-slice-read-entry : tie.Need-shared-slice-read-entry
 shared-slice-read-entry c = search needs
 
--- src/states.rt:22:9
 byte-addr-requires : tie.Need-byte-addr-requires
 byte-addr-requires c κs = search needs
 
--- src/states.rt:14:1
 returns : tie.Need-returns
 returns c = rw (c .byte-addr .ensures)
 

@@ -12,9 +12,6 @@ use mathlib.Core.Path.{_≡_, refl, sym, ap, _∙_}
 use native.Mathlib.Omega.{arith}
 use Rattle.goleuthan.proofs.states.write_buffer.Statement.{statement}
 use Rattle.goleuthan.proofs.states.write_buffer.Tie as tie
-use Rattle.goleuthan.proofs.states.write_buffer.Reads as reads
-use Rattle.goleuthan.proofs.states.write_buffer.Lts as lts
-use Rattle.goleuthan.proofs.states.put_slot.Reads as put-slot-reads
 
 abbrev Inv-loop : tie.InvT-loop
 Inv-loop ws₀ b i₀ ws i = (i ≤ 64) × (ws ≡ wordsOf slotWords (take i (b .slots)) ++ drop (4 * i) ws₀) × (length ws ≡ 257)
@@ -22,36 +19,28 @@ Inv-loop ws₀ b i₀ ws i = (i ≤ 64) × (ws ≡ wordsOf slotWords (take i (b 
 abbrev μ-loop : tie.MeasureT-loop
 μ-loop ws₀ b i₀ ws i = 64 - i
 
--- src/states.rt:60:5
 loop-holds : tie.Need-loop-holds Inv-loop μ-loop
 unfolding wordsOf
 loop-holds c = (omega arith, refl, c .before .pre)
 
--- src/states.rt:61:17
 mul-s : tie.Need-mul-s Inv-loop μ-loop
 mul-s c = search needs
 
--- src/states.rt:61:17
 element-copy-out-s : tie.Need-element-copy-out-s Inv-loop μ-loop
 element-copy-out-s c = search needs
 
--- src/states.rt:62:22
 mul-put-slot : tie.Need-mul-put-slot Inv-loop μ-loop
 mul-put-slot c = search needs
 
--- src/states.rt:62:9
 put-slot-requires : tie.Need-put-slot-requires Inv-loop μ-loop
 put-slot-requires c κs = let n = c .before .before .before .loop .inv .2 in omega arith
 
--- src/states.rt:63:9
 add-i : tie.Need-add-i Inv-loop μ-loop
 add-i c = omega arith
 
--- src/states.rt:60:5
 loop-less : tie.Need-loop-less Inv-loop μ-loop
 loop-less c = omega arith
 
--- src/states.rt:60:5
 loop-again : tie.Need-loop-again Inv-loop μ-loop
 loop-again c =
     let l = c .before .before .before .before .before .before .loop in
@@ -64,15 +53,12 @@ loop-again c =
       c .before .before .put-slot .kept .0 ∙ l .inv .2,
     )
 
--- src/states.rt:65:5
 slice-write-ws : tie.Need-slice-write-ws Inv-loop μ-loop
 slice-write-ws c = omega (arith, c .before .loop .inv .2)
 
--- src/states.rt:55:1
 same-length : tie.Need-same-length Inv-loop μ-loop
 same-length c = let n = c .before .loop .inv .2 in let p = c .before .before .before .pre in length-set (c .before .loop .ws) 256 (c .before .before .before .args .t2 .next) ∙ n ∙ sym p
 
--- src/states.rt:55:1
 returns : tie.Need-returns Inv-loop μ-loop
 returns c =
     let l = c .before .loop in

@@ -1,63 +1,45 @@
 -- `goleuthan::states::write_filled` meets its contract. Assumes nothing.
 use Rattle.goleuthan.proofs.FillLaws.{moved, stayed, moved-words}
 use Rattle.goleuthan.proofs.StateLaws.{buffer-words}
-use Rattle.goleuthan.proofs.RowLaws.{length-rows}
-use Rattle.goleuthan.specs.States.{slotAt, bufferOf}
-use Rattle.lookaside.specs.Slots.{emptySlot, filled}
-use Rattle.lookaside.specs.declared.Slot.{Slot}
-use lib.ListN.{length, getD, set}
-use mathlib.Core.List.{List}
-use Prim.Native.Nat.{ℕ, _*_, _<_}
-use mathlib.Core.Path.{_≡_, sym, ap, _∙_}
+use Rattle.goleuthan.specs.States.{bufferOf}
+use Prim.Native.Nat.{_<_}
+use mathlib.Core.Path.{sym}
 use native.Mathlib.Omega.{arith}
 use borrow.Author.Needs.{needs}
 use Rattle.goleuthan.proofs.states.write_filled.Statement.{statement}
 use Rattle.goleuthan.proofs.states.write_filled.Tie as tie
-use Rattle.goleuthan.proofs.states.write_filled.Reads as reads
-use Rattle.goleuthan.proofs.states.write_filled.Lts as lts
-use Rattle.goleuthan.proofs.states.put_slot.Reads as put-slot-reads
 
 -- Where the pointer moved, it was that of a slot.
 went : (c : tie.Then1) → bufferOf (c .before .before .before .args .ws .now) .next < 64
 went c = moved (c .before .before .before .pre .1) (c .if1 .taken)
 
--- src/states.rt:73:15
 slice-read-old : tie.Need-slice-read-old
 slice-read-old c = search needs
 
--- src/states.rt:76:18
 cast-at : tie.Need-cast-at
 cast-at c = let m = went c in omega arith
 
--- src/states.rt:77:17
 mul-s : tie.Need-mul-s
 mul-s c = let m = went c in omega arith
 
--- src/states.rt:77:17
 element-copy-out-s : tie.Need-element-copy-out-s
 element-copy-out-s c = went c
 
--- src/states.rt:78:22
 mul-put-slot : tie.Need-mul-put-slot
 mul-put-slot c = let m = went (c .before .before) in omega arith
 
--- src/states.rt:78:9
 put-slot-requires : tie.Need-put-slot-requires
 put-slot-requires c κs = let m = went (c .before .before) in let p = c .before .before .before .before .before .pre .0 in omega arith
 
--- src/states.rt:79:9
 slice-write-ws : tie.Need-slice-write-ws
 slice-write-ws c = search needs
 
--- src/states.rt:69:1
 same-length : tie.Need-same-length
 same-length c = search needs
 
--- src/states.rt:69:1
 returns : tie.Need-returns
 returns c = let a = c .before .before .before .before .before .before .before .before .args in moved-words (a .ws .now) (c .before .before .put-slot .last .0) (a .t2) (c .before .before .before .before .before .before .before .before .pre .0) (c .before .before .before .before .before .before .before .before .pre .1) (c .before .before .before .before .before .if1 .taken) (c .before .before .put-slot .ensures)
 
--- src/states.rt:69:1
 returns-2 : tie.Need-returns-2
 returns-2 c = rw (stayed (c .before .before .before .pre .1) (c .if1 .left)) (sym (buffer-words (c .before .before .before .args .ws .now) (c .before .before .before .pre .0)))
 

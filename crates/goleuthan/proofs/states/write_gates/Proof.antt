@@ -12,9 +12,6 @@ use mathlib.Core.Path.{_≡_, refl, sym, ap, _∙_}
 use native.Mathlib.Omega.{arith}
 use Rattle.goleuthan.proofs.states.write_gates.Statement.{statement}
 use Rattle.goleuthan.proofs.states.write_gates.Tie as tie
-use Rattle.goleuthan.proofs.states.write_gates.Reads as reads
-use Rattle.goleuthan.proofs.states.write_gates.Lts as lts
-use Rattle.goleuthan.proofs.states.put_gate.Reads as put-gate-reads
 
 abbrev Inv-loop : tie.InvT-loop
 Inv-loop ws₀ set i₀ ws i = (i ≤ 64) × (ws ≡ wordsOf gateWords (take i (set .places)) ++ drop (3 * i) ws₀) × (length ws ≡ 193)
@@ -22,36 +19,28 @@ Inv-loop ws₀ set i₀ ws i = (i ≤ 64) × (ws ≡ wordsOf gateWords (take i (
 abbrev μ-loop : tie.MeasureT-loop
 μ-loop ws₀ set i₀ ws i = 64 - i
 
--- src/states.rt:167:5
 loop-holds : tie.Need-loop-holds Inv-loop μ-loop
 unfolding wordsOf
 loop-holds c = (omega arith, refl, c .before .pre)
 
--- src/states.rt:168:17
 mul-g : tie.Need-mul-g Inv-loop μ-loop
 mul-g c = search needs
 
--- src/states.rt:168:17
 element-copy-out-g : tie.Need-element-copy-out-g Inv-loop μ-loop
 element-copy-out-g c = search needs
 
--- src/states.rt:169:22
 mul-put-gate : tie.Need-mul-put-gate Inv-loop μ-loop
 mul-put-gate c = search needs
 
--- src/states.rt:169:9
 put-gate-requires : tie.Need-put-gate-requires Inv-loop μ-loop
 put-gate-requires c κs = let n = c .before .before .before .loop .inv .2 in omega arith
 
--- src/states.rt:170:9
 add-i : tie.Need-add-i Inv-loop μ-loop
 add-i c = omega arith
 
--- src/states.rt:167:5
 loop-less : tie.Need-loop-less Inv-loop μ-loop
 loop-less c = omega arith
 
--- src/states.rt:167:5
 loop-again : tie.Need-loop-again Inv-loop μ-loop
 loop-again c =
     let l = c .before .before .before .before .before .before .loop in
@@ -64,15 +53,12 @@ loop-again c =
       c .before .before .put-gate .kept .0 ∙ l .inv .2,
     )
 
--- src/states.rt:172:5
 slice-write-ws : tie.Need-slice-write-ws Inv-loop μ-loop
 slice-write-ws c = omega (arith, c .before .loop .inv .2)
 
--- src/states.rt:162:1
 same-length : tie.Need-same-length Inv-loop μ-loop
 same-length c = length-set (c .before .loop .ws) 192 (c .before .before .before .args .t2 .count) ∙ c .before .loop .inv .2 ∙ sym (c .before .before .before .pre)
 
--- src/states.rt:162:1
 returns : tie.Need-returns Inv-loop μ-loop
 returns c =
     let l = c .before .loop in

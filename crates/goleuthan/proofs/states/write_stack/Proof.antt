@@ -12,9 +12,6 @@ use mathlib.Core.Path.{_≡_, refl, sym, ap, _∙_}
 use native.Mathlib.Omega.{arith}
 use Rattle.goleuthan.proofs.states.write_stack.Statement.{statement}
 use Rattle.goleuthan.proofs.states.write_stack.Tie as tie
-use Rattle.goleuthan.proofs.states.write_stack.Reads as reads
-use Rattle.goleuthan.proofs.states.write_stack.Lts as lts
-use Rattle.goleuthan.proofs.states.put_frame.Reads as put-frame-reads
 
 abbrev Inv-loop : tie.InvT-loop
 Inv-loop ws₀ stack i₀ ws i = (i ≤ 16) × (ws ≡ wordsOf frameWords (take i (stack .frames)) ++ drop (2 * i) ws₀) × (length ws ≡ 34)
@@ -22,36 +19,28 @@ Inv-loop ws₀ stack i₀ ws i = (i ≤ 16) × (ws ≡ wordsOf frameWords (take 
 abbrev μ-loop : tie.MeasureT-loop
 μ-loop ws₀ stack i₀ ws i = 16 - i
 
--- src/states.rt:216:5
 loop-holds : tie.Need-loop-holds Inv-loop μ-loop
 unfolding wordsOf
 loop-holds c = (omega arith, refl, c .before .pre)
 
--- src/states.rt:217:17
 mul-f : tie.Need-mul-f Inv-loop μ-loop
 mul-f c = search needs
 
--- src/states.rt:217:17
 element-copy-out-f : tie.Need-element-copy-out-f Inv-loop μ-loop
 element-copy-out-f c = search needs
 
--- src/states.rt:218:23
 mul-put-frame : tie.Need-mul-put-frame Inv-loop μ-loop
 mul-put-frame c = search needs
 
--- src/states.rt:218:9
 put-frame-requires : tie.Need-put-frame-requires Inv-loop μ-loop
 put-frame-requires c κs = let n = c .before .before .before .loop .inv .2 in omega arith
 
--- src/states.rt:219:9
 add-i : tie.Need-add-i Inv-loop μ-loop
 add-i c = omega arith
 
--- src/states.rt:216:5
 loop-less : tie.Need-loop-less Inv-loop μ-loop
 loop-less c = omega arith
 
--- src/states.rt:216:5
 loop-again : tie.Need-loop-again Inv-loop μ-loop
 loop-again c =
     let l = c .before .before .before .before .before .before .loop in
@@ -64,19 +53,15 @@ loop-again c =
       c .before .before .put-frame .kept .0 ∙ l .inv .2,
     )
 
--- src/states.rt:221:5
 slice-write-ws : tie.Need-slice-write-ws Inv-loop μ-loop
 slice-write-ws c = omega (arith, c .before .loop .inv .2)
 
--- src/states.rt:222:5
 slice-write-ws-2 : tie.Need-slice-write-ws-2 Inv-loop μ-loop
 slice-write-ws-2 c = let n = c .before .loop .inv .2 in simp length-set (omega arith)
 
--- src/states.rt:211:1
 same-length : tie.Need-same-length Inv-loop μ-loop
 same-length c = length-sets (c .before .loop .ws) 32 (c .before .before .before .args .t2 .depth ∷ c .before .before .before .args .t2 .current ∷ []) ∙ c .before .loop .inv .2 ∙ sym (c .before .before .before .pre)
 
--- src/states.rt:211:1
 returns : tie.Need-returns Inv-loop μ-loop
 returns c =
     let l = c .before .loop in
