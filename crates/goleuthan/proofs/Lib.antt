@@ -5,3 +5,7 @@ pub mod StateLaws
 pub mod FillLaws
 pub mod CallLaws
 pub mod UniqueLaws
+pub mod RefusalLaws
+pub mod SaysLaws
+pub mod GateSaysLaws
+pub mod StateRefusalLaws

@@ -16,6 +16,7 @@ use Rattle.listing.specs.Listing.{numbers as listedNumbers}
 use Rattle.listing.proofs.ListingLaws.{one-listing}
 use Rattle.goleuthan.specs.Out.{outWith}
 use Rattle.goleuthan.specs.Calls.{answerNumber, foundResults, answerResults, listedResults, FreshCall, LookupCall, ChangeCall, TidyCall, ListCall}
+use Rattle.goleuthan.specs.StateCalls.{Back, Kept, back, kept}
 
 module _ {p : List ℕ} {s : Shape} where
   pub one-fresh-call : {m n : ℕ} {q r : List ℕ} → FreshCall p s m q → FreshCall p s n r → (m ≡ n) × (q ≡ r)
@@ -55,3 +56,11 @@ module _ {p : List ℕ} {s : Shape} where
         e .1,
         x .results ∙ ap (λ (l : Listed). outWith (listedResults l) out) (e .0) ∙ sym (y .results),
       )
+
+-- A check or a step, of which the contract says what comes back whole.
+pub one-back : {c : Back} {m n : ℕ} {q r t u : List ℕ} → back m q t ≡ c → back n r u ≡ c → (m ≡ n) × (q ≡ r) × (t ≡ u)
+one-back x y = let e = x ∙ sym y in (ap (λ b. b .number) e, ap (λ b. b .state) e, ap (λ b. b .out) e)
+
+-- A flush, or the setting or removing of a gate.
+pub one-kept : {c : Kept} {m n : ℕ} {q r : List ℕ} → kept m q ≡ c → kept n r ≡ c → (m ≡ n) × (q ≡ r)
+one-kept x y = let e = x ∙ sym y in (ap (λ b. b .number) e, ap (λ b. b .state) e)

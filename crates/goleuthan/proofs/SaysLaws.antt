@@ -1,0 +1,89 @@
+-- A series of calls on one state is the library's series: the words that a call leaves say the state that the library's call leaves. Assumes nothing.
+use Prim.Native.Nat.{ℕ, _*_}
+use mathlib.Core.Path.{_≡_, refl, _∙_}
+use mathlib.Core.Bool.{Bool, true, false, cond}
+use mathlib.Core.List.{List}
+use lib.Dec.{ltb}
+use lib.ListN.{length, length-set, length-map}
+use Rattle.words.specs.declared.Rounded.{Rounded}
+use Rattle.words.specs.declared.Rounded.the-variants.{Covers, Refused as NoRegion}
+use Rattle.words.specs.declared.ByteAddr.{ByteAddr}
+use Rattle.words.specs.Region.{regionOf}
+use Rattle.table.specs.declared.Shape.{Shape}
+use Rattle.lookaside.specs.declared.Buffer.{Buffer}
+use Rattle.lookaside.specs.declared.Flushed.{Flushed}
+use Rattle.lookaside.specs.declared.Flushing.{Flushing}
+use Rattle.lookaside.specs.Check.{checkOf}
+use Rattle.lookaside.specs.Flushes.{flushedSlot, flushedBuffer, done, refused, pointed, flushedRounded, flushedWhole, flushedDomain, flushedRegion}
+use Rattle.gates.specs.declared.CallStack.{CallStack}
+use Rattle.gates.specs.declared.Gates.{Gates}
+use Rattle.gates.specs.declared.Step.{Step}
+use Rattle.gates.specs.Moves.{Moves, stays, calls, returns}
+use Rattle.gates.specs.Steps.{stepOf}
+use Rattle.gates.proofs.StepLaws.{step-moves}
+use Rattle.goleuthan.specs.States.{slotAt, bufferOf, bufferWords, frameAt, stackOf, stackWords}
+use Rattle.goleuthan.specs.Fills.{AfterCheck, same, fill}
+use Rattle.goleuthan.proofs.RowLaws.{length-rows}
+use Rattle.goleuthan.proofs.StateLaws.{buffer-again, stack-again}
+use Rattle.goleuthan.proofs.FillLaws.{after-check}
+
+-- A buffer that words say has 64 slots, and a stack 16 frames.
+slots-said : (ws : List ℕ) → length (bufferOf ws .slots) ≡ 64
+slots-said ws = length-rows 64 (λ i. slotAt ws (4 * i))
+
+frames-said : (ws : List ℕ) → length (stackOf ws .frames) ≡ 16
+frames-said ws = length-rows 16 (λ i. frameAt ws (2 * i))
+
+-- A check keeps the number of slots.
+after-slots : {b c : Buffer} → AfterCheck b c → length (c .slots) ≡ length (b .slots)
+after-slots same = refl
+after-slots {b} (fill s l) = length-set (b .slots) (b .next) s
+
+pub check-says : (p : List ℕ) (s : Shape) (ws : List ℕ) (d kind size a : ℕ)
+    → let b = checkOf p s (bufferOf ws) d kind size a .buffer in bufferOf (bufferWords b) ≡ b
+check-says p s ws d kind size a =
+    buffer-again (checkOf p s (bufferOf ws) d kind size a .buffer) (after-slots (after-check p s (bufferOf ws) d kind size a) ∙ slots-said ws)
+
+-- A flush is refused and keeps the buffer, or empties some slots of it.
+pub data Flushes (b : Buffer) : Flushed → Type 0 where
+  refuses : (n : ℕ) → Flushes b (refused n b)
+  empties : (f : Flushing) → Flushes b (done f b)
+
+pointed-flushes : (b : Buffer) {r : Flushed} → Flushes b r → Flushes b (pointed b r)
+unfolding pointed
+pointed-flushes b {r} x = go (ltb (b .next) 64)
+  where
+    go : (t : Bool) → Flushes b (cond t r (refused 18 b))
+    go true = x
+    go false = refuses 18
+
+rounded-flushes : (b : Buffer) (d : ℕ) (r : Rounded) → Flushes b (flushedRounded r b d)
+rounded-flushes b d (Covers g) = empties _
+rounded-flushes b d (NoRegion n) = refuses n
+
+pub all-flushes : (b : Buffer) → Flushes b (flushedWhole b)
+all-flushes b = pointed-flushes b (empties _)
+
+pub domain-flushes : (b : Buffer) (d : ℕ) → Flushes b (flushedDomain b d)
+domain-flushes b d = pointed-flushes b (empties _)
+
+pub region-flushes : (b : Buffer) (d start len : ℕ) → Flushes b (flushedRegion b d start len)
+region-flushes b d start len = pointed-flushes b (rounded-flushes b d (regionOf start len))
+
+flushed-slots : {b : Buffer} {r : Flushed} → Flushes b r → length (r .buffer .slots) ≡ length (b .slots)
+unfolding flushedBuffer
+flushed-slots (refuses n) = refl
+flushed-slots {b} (empties f) = length-map (b .slots) (flushedSlot f)
+
+pub flush-says : (ws : List ℕ) {r : Flushed} → Flushes (bufferOf ws) r → bufferOf (bufferWords (r .buffer)) ≡ r .buffer
+flush-says ws {r} x = buffer-again (r .buffer) (flushed-slots x ∙ slots-said ws)
+
+-- A step keeps the number of frames.
+moved-frames : {t : ByteAddr} {k : CallStack} {r : Step} → Moves t k r → length (r .stack .frames) ≡ length (k .frames)
+moved-frames (stays r) = refl
+moved-frames {k = k} (calls e l) = length-set (k .frames) (k .depth) _
+moved-frames (returns l b) = refl
+
+pub step-says : (p : List ℕ) (s : Shape) (G : Gates) (ws : List ℕ) (a t : ByteAddr)
+    → let k = stepOf p s G (stackOf ws) a t .stack in stackOf (stackWords k) ≡ k
+step-says p s G ws a t = stack-again (stepOf p s G (stackOf ws) a t .stack) (moved-frames (step-moves p s G (stackOf ws) a t) ∙ frames-said ws)
