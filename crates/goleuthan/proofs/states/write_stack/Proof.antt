@@ -60,7 +60,7 @@ slice-write-ws-2 : tie.Need-slice-write-ws-2 Inv-loop μ-loop
 slice-write-ws-2 c = let n = c .before .loop .inv .2 in simp length-set (omega arith)
 
 same-length : tie.Need-same-length Inv-loop μ-loop
-same-length c = length-sets (c .before .loop .ws) 32 (c .before .before .before .args .t2 .depth ∷ c .before .before .before .args .t2 .current ∷ []) ∙ c .before .loop .inv .2 ∙ sym (c .before .before .before .pre)
+same-length c = simp length-set (c .before .loop .inv .2 ∙ sym (c .before .before .before .pre))
 
 returns : tie.Need-returns Inv-loop μ-loop
 returns c =
