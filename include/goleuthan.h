@@ -3,8 +3,10 @@
  *
  * A table gives each 32-bit memory word, for each of up to four domains, one right: 0 none, 1 read, 2 read and write,
  * 3 execute and read. It lives in a pool: a memory of 32-bit words that the caller owns and lends for each call. The
- * library keeps nothing between calls, allocates nothing and calls nothing. Every call returns, whatever the numbers are
- * and whatever the words hold.
+ * library keeps nothing between calls, allocates nothing, and calls nothing but memcpy and memset. Every call returns,
+ * whatever the numbers are and whatever the words hold. Each is proved to do what is said here.
+ *
+ * BUILDING. `rt staticlib goleuthan` proves the library and writes target/staticlib/libgoleuthan.a, for x86-64 programs.
  *
  * POINTERS. A lent memory is a pointer and a length, counted in words of four bytes. The pointer is not null (also where
  * the length is 0), is a multiple of 4, and its words are the caller's to lend: readable, and for a pointer that is not

@@ -9,3 +9,4 @@ pub mod RefusalLaws
 pub mod SaysLaws
 pub mod GateSaysLaws
 pub mod StateRefusalLaws
+pub mod Examples

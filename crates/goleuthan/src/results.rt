@@ -29,6 +29,7 @@ fn put(out: &mut [u32], at: usize, v: u32)
     }
 }
 
+// The results of a call that has one, two or three of them.
 pub fn one(out: &mut [u32], a: u32)
     ensures { λ _. ⌜ now (out .exit) ≡ outWith (a ∷ []) (now (out .entry)) ⌝ }
 {
@@ -69,6 +70,7 @@ pub fn made_number(made: Made) -> u32
     }
 }
 
+// Each of these writes the results of an answer and returns its number.
 pub fn give_found(found: Found, out: &mut [u32]) -> u32
     ensures { λ r. ⌜ (r ≡ foundNumbers found .refusal) × (now (out .exit) ≡ outWith (foundResults found) (now (out .entry))) ⌝ }
 {
