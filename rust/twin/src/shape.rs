@@ -1,0 +1,61 @@
+//! The shape of a pool, and its places.
+
+pub const TABLE: usize = 1024;
+pub const LEAF: usize = 64;
+
+#[derive(Clone, Copy)]
+pub struct Shape {
+    pub d: u32,
+    pub m: u32,
+    pub l: u32,
+}
+
+impl Shape {
+    /// The shape, if it is in range and the pool has its length; refusal 1.
+    pub fn fitting(pool: &[u32], d: u32, m: u32, l: u32) -> Result<Shape, u32> {
+        let in_range = (1..=4).contains(&d) && m <= 8 && l <= 64;
+        if in_range && pool.len() == (1024 * (d + m) + 64 * l) as usize {
+            Ok(Shape { d, m, l })
+        } else {
+            Err(1)
+        }
+    }
+
+    pub fn first_middle(self) -> usize {
+        TABLE * self.d as usize
+    }
+
+    pub fn middle(self, place: u32) -> u32 {
+        1024 * (self.d + place)
+    }
+
+    pub fn leaf(self, place: u32) -> u32 {
+        1024 * (self.d + self.m) + 64 * place
+    }
+
+    /// The number of the middle place that a pointer names.
+    #[inline]
+    pub fn middle_place(self, pointer: u32) -> Option<u32> {
+        let place = (pointer / 1024).wrapping_sub(self.d);
+        (pointer.is_multiple_of(1024) && place < self.m).then_some(place)
+    }
+
+    /// The number of the leaf place that a pointer names.
+    #[inline]
+    pub fn leaf_place(self, pointer: u32) -> Option<u32> {
+        let place = (pointer / 64).wrapping_sub(16 * (self.d + self.m));
+        (pointer.is_multiple_of(64) && place < self.l).then_some(place)
+    }
+}
+
+/// The table that begins at a pool word.
+#[inline]
+pub fn table(pool: &[u32], at: u32) -> &[u32] {
+    &pool[at as usize..at as usize + TABLE]
+}
+
+/// The leaf that begins at a pool word.
+#[inline]
+pub fn leaf(pool: &[u32], at: u32) -> &[u32] {
+    &pool[at as usize..at as usize + LEAF]
+}
