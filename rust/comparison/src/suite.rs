@@ -1,0 +1,215 @@
+//! The comparisons with their seeds, their sizes and the kinds of cases that each must meet.
+
+use crate::compare::{cuts, gates, listings, pools, rows, series, slots, Run};
+use crate::given::shapes;
+use crate::subject::Subject;
+use crate::tally::{answers, Tally};
+use crate::Difference;
+use model::shape::Shape;
+
+/// How a comparison ended.
+pub struct Outcome {
+    pub tally: Tally,
+    pub difference: Option<Difference>,
+    pub missing: Vec<String>,
+}
+
+impl Outcome {
+    /// Prints what was met, and fails on a difference or on a kind that was never met.
+    pub fn accept(self) {
+        println!("{}", self.tally);
+        if let Some(Difference(told)) = self.difference {
+            panic!("{told}");
+        }
+        assert!(self.missing.is_empty(), "never met: {:?}", self.missing);
+    }
+}
+
+type Body = fn(&mut Run) -> Result<(), Difference>;
+
+/// A comparison: what it does, from which seed, and what it must meet.
+pub struct Comparison {
+    pub name: &'static str,
+    seed: u64,
+    body: Body,
+    answers: &'static [(&'static str, &'static [u32])],
+    kinds: &'static [&'static str],
+}
+
+impl Comparison {
+    pub fn run(&self, subject: &dyn Subject) -> Outcome {
+        let mut run = Run::new(subject, self.seed);
+        let difference = (self.body)(&mut run).err();
+        let mut kinds: Vec<String> = self.kinds.iter().map(|kind| kind.to_string()).collect();
+        for (call, numbers) in self.answers {
+            kinds.extend(answers(call, numbers));
+        }
+        Outcome { missing: run.tally.missing(&kinds), tally: run.tally, difference }
+    }
+}
+
+/// The comparison of a name in [`ALL`].
+pub fn named(name: &str) -> &'static Comparison {
+    ALL.iter().find(|comparison| comparison.name == name).expect("a comparison of that name")
+}
+
+const SERIES_KINDS: &[&str] = &[
+    "series: a pool of roots alone",
+    "series: a pool with middle tables alone",
+    "series: a pool with leaves",
+    "series: a full pool",
+    "lookup in 1 load",
+    "lookup in 2 loads",
+    "lookup in 3 loads",
+];
+
+const CUT_KINDS: &[&str] =
+    &["cut: old rights", "cut: new rights", "cut: some words old, some new", "cut, tidied and made again"];
+
+const UNSETTLED: &[&str] = &[
+    "cut: old rights",
+    "cut: new rights",
+    "cut: some words old, some new",
+    "cut: not settled",
+    "cut, tidied and made again",
+];
+
+const LISTING_KINDS: &[&str] = &[
+    "listing: no run",
+    "listing: fewer than 1,000 runs",
+    "listing: 1,000 runs or more",
+    "listing: 20,000 runs or more",
+    "listing: not all fit",
+    "listing: room for part of a run",
+    "listing: from past the last",
+    "listing: a run to the last byte",
+    "listing: one right at a domain's end and the next one's start",
+];
+
+const SLOT_KINDS: &[&str] = &[
+    "check passes with 0 loads",
+    "check passes with 1 loads",
+    "check passes with 2 loads",
+    "check passes with 3 loads",
+    "check is denied with 0 loads",
+    "check is denied with 1 loads",
+    "check is denied with 2 loads",
+    "check is denied with 3 loads",
+    "flush empties several slots",
+    "flush meets slots out of order",
+];
+
+const STEP_KINDS: &[&str] =
+    &["step is refused", "step is denied", "step switches", "step returns", "step passes without a gate"];
+
+pub const ALL: &[Comparison] = &[
+    Comparison { name: "rows", seed: 1, body: rows::rows, answers: &[], kinds: &["row of the paper"] },
+    Comparison {
+        name: "short series",
+        seed: 2,
+        body: |run| series::series(run, 150, 8),
+        answers: &[("fresh", &[0]), ("change", &[0, 2, 3, 4, 5, 8])],
+        kinds: SERIES_KINDS,
+    },
+    Comparison {
+        name: "long series",
+        seed: 3,
+        body: |run| series::series(run, 28, 150),
+        answers: &[("fresh", &[0]), ("change", &[0, 2, 3, 4, 5, 8])],
+        kinds: SERIES_KINDS,
+    },
+    Comparison {
+        name: "cuts of any changes",
+        seed: 4,
+        body: far_cuts,
+        answers: &[("change with an allowance", &[0, 100])],
+        kinds: CUT_KINDS,
+    },
+    Comparison {
+        name: "cuts of changes near each other",
+        seed: 5,
+        body: near_cuts,
+        answers: &[("change with an allowance", &[0, 100]), ("tidying with an allowance", &[0, 100])],
+        kinds: CUT_KINDS,
+    },
+    Comparison {
+        name: "cuts that leave a table unwanted",
+        seed: 6,
+        body: cuts::unwanted,
+        answers: &[("change with an allowance", &[0, 100]), ("tidying with an allowance", &[0, 100])],
+        kinds: UNSETTLED,
+    },
+    Comparison {
+        name: "pools",
+        seed: 7,
+        body: |run| pools::pools(run, 600),
+        answers: &[
+            ("fresh", &[1]),
+            ("change of any pool", &[0, 1, 2, 3, 4, 5, 6, 7, 8, 100]),
+            ("tidying of any pool", &[0, 1, 6, 100]),
+            ("lookup in any pool", &[0, 1, 2, 6]),
+        ],
+        kinds: &["pool of another length", "pool that fits one shape", "pool that fits several shapes"],
+    },
+    Comparison {
+        name: "tidyings",
+        seed: 8,
+        body: |run| pools::tidyings(run, 120),
+        answers: &[("tidying with an allowance", &[0, 100])],
+        kinds: &["sound pool, settled", "sound pool, not settled"],
+    },
+    Comparison {
+        name: "listings",
+        seed: 9,
+        body: |run| listings::listings(run, 300),
+        answers: &[("listing", &[0, 1, 6])],
+        kinds: LISTING_KINDS,
+    },
+    Comparison {
+        name: "slots",
+        seed: 10,
+        body: |run| slots::slots(run, 300),
+        answers: &[
+            ("check", &[0, 1, 2, 6, 9, 10, 18, 101]),
+            ("flush of all", &[0, 18, 101]),
+            ("flush of a domain", &[0, 18, 101]),
+            ("flush of a region", &[0, 4, 5, 18, 101]),
+        ],
+        kinds: SLOT_KINDS,
+    },
+    Comparison {
+        name: "gates",
+        seed: 11,
+        body: |run| gates::settings(run, 400),
+        answers: &[
+            ("setting a switch gate", &[0, 1, 2, 11, 12, 14, 18, 101]),
+            ("setting a return gate", &[0, 1, 2, 11, 12, 18, 101]),
+            ("removing a gate", &[0, 1, 2, 11, 13, 18, 101]),
+        ],
+        kinds: &["setting replaces a gate", "setting adds a gate"],
+    },
+    Comparison {
+        name: "steps",
+        seed: 12,
+        body: |run| gates::steps(run, 600),
+        answers: &[("step", &[0, 1, 2, 6, 10, 15, 16, 17, 18, 101])],
+        kinds: STEP_KINDS,
+    },
+];
+
+/// Every cut in series on a few shapes, the full one among them.
+fn far_cuts(run: &mut Run) -> Result<(), Difference> {
+    for _ in 0..4 {
+        let shape = shapes::small(&mut run.rng);
+        cuts::far(run, shape, 12)?;
+    }
+    cuts::far(run, Shape::new(1, 1, 1), 12)?;
+    cuts::far(run, Shape::new(2, 2, 3), 12)?;
+    cuts::far(run, Shape::new(4, 8, 64), 4)
+}
+
+fn near_cuts(run: &mut Run) -> Result<(), Difference> {
+    cuts::near(run, Shape::new(1, 1, 4), 60)?;
+    cuts::near(run, Shape::new(2, 2, 4), 60)?;
+    cuts::near(run, Shape::new(3, 3, 8), 30)
+}

@@ -1,0 +1,20 @@
+//! Links the proved static library, which the Rattle toolchain writes. It is for x86-64; on a machine of another kind the
+//! crate `emulated` takes its place.
+
+use std::path::Path;
+
+fn main() {
+    println!("cargo:rustc-check-cfg=cfg(linked)");
+    let folder = Path::new(env!("CARGO_MANIFEST_DIR")).join("../../target/staticlib");
+    let library = folder.join("libgoleuthan.a");
+    println!("cargo:rerun-if-changed={}", library.display());
+    if !library.exists() {
+        eprintln!("The proved library {} is missing: run `rt staticlib goleuthan` first.", library.display());
+        std::process::exit(1);
+    }
+    if std::env::var("CARGO_CFG_TARGET_ARCH").is_ok_and(|arch| arch == "x86_64") {
+        println!("cargo:rustc-cfg=linked");
+        println!("cargo:rustc-link-search=native={}", folder.display());
+        println!("cargo:rustc-link-lib=static=goleuthan");
+    }
+}

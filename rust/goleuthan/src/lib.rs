@@ -1,0 +1,32 @@
+//! A safe face of Goleuthan, the proved table of word-level rights, for Rust.
+//!
+//! The pool is the caller's memory, borrowed as a slice of words for as long as a [`Table`] lives. Nothing else is
+//! allocated or kept.
+//!
+//! ```
+//! use goleuthan::{Outcome, Request, Right, Shape, Table};
+//!
+//! let shape = Shape { domains: 1, middles: 1, leaves: 1 };
+//! let mut pool = vec![0; shape.pool_words()];
+//! let mut table = Table::fresh(&mut pool, shape)?;
+//! let request = Request { domain: 0, start: 0x1000, length: 64, right: Right::ReadWrite };
+//! assert_eq!(table.change(request, u32::MAX)?, Outcome::Done { stores: 1026 });
+//! let found = table.lookup(0, 0x103F)?;
+//! assert_eq!((found.right, found.loads), (Right::ReadWrite, 3));
+//! # Ok::<(), goleuthan::Refusal>(())
+//! ```
+#![deny(unsafe_op_in_unsafe_fn)]
+
+mod refusal;
+mod states;
+mod table;
+
+#[cfg(linked)]
+pub mod words;
+/// The same functions on a machine that cannot link the library, which is for x86-64.
+#[cfg(not(linked))]
+pub use emulated as words;
+
+pub use refusal::Refusal;
+pub use states::{CallStack, Gates, LookasideBuffer};
+pub use table::{Access, Found, Outcome, Request, Right, Run, Shape, Table, Verdict};
