@@ -17,10 +17,14 @@ fail() {
     echo "outside: $1"
 }
 
-# The static library is made from the proved crates; without it there is nothing to test.
+# The static library, made from the proved crates if it is not there or older than their code; without it there is nothing to test.
 library() {
-    [ -f target/staticlib/libgoleuthan.a ] || rt staticlib goleuthan > "$log" 2>&1
-    if [ -f target/staticlib/libgoleuthan.a ]; then
+    local made=target/staticlib/libgoleuthan.a
+    if [ ! -f "$made" ] || [ -n "$(find crates -name '*.rt' -newer "$made")" ]; then
+        rm -f "$made"
+        rt staticlib goleuthan > "$log" 2>&1
+    fi
+    if [ -f "$made" ]; then
         pass
     else
         fail "'rt staticlib goleuthan' made no library"
@@ -47,7 +51,7 @@ example() {
 # The tests of the workspace; cargo says how many passed and failed for each of its test programs.
 workspace() {
     local line status
-    (cd rust && CARGO_TARGET_DIR=../target/cargo cargo test --release --offline --locked --no-fail-fast) 2>&1 | tee "$log"
+    (cd rust && CARGO_TARGET_DIR=../target/cargo cargo test --release --offline --locked --no-fail-fast -- --show-output) 2>&1 | tee "$log"
     status=${PIPESTATUS[0]}
     local before=$failed
     while read -r line; do

@@ -27,6 +27,9 @@ pub mod words;
 #[cfg(not(linked))]
 pub use emulated as words;
 
+/// Whether calls go straight into the library; where they do not, their times say nothing.
+pub const LINKED: bool = cfg!(linked);
+
 pub use refusal::Refusal;
 pub use states::{CallStack, Gates, LookasideBuffer};
 pub use table::{Access, Found, Outcome, Request, Right, Run, Shape, Table, Verdict};

@@ -1,7 +1,8 @@
 //! The library's functions written in plain Rust, as a competent programmer would: the same checks in the same order,
 //! on the words in place, and stores in the same three phases. The benchmark runs it beside the proved library.
 //!
-//! The functions here have the C interface's parameters and numbers, with slices for pointers and lengths.
+//! The functions here have the C interface's parameters and numbers, with slices for pointers and lengths. None is
+//! inlined into its caller, since none of the library is.
 
 mod buffer;
 mod change;
@@ -35,6 +36,7 @@ fn deliver<const N: usize>(out: &mut [u32], answer: Result<[u32; N], u32>) -> u3
     answer.err().unwrap_or(0)
 }
 
+#[inline(never)]
 pub fn fresh(pool: &mut [u32], d: u32, m: u32, l: u32) -> u32 {
     match Shape::fitting(pool, d, m, l) {
         Ok(shape) => {
@@ -47,6 +49,7 @@ pub fn fresh(pool: &mut [u32], d: u32, m: u32, l: u32) -> u32 {
     }
 }
 
+#[inline(never)]
 #[allow(clippy::too_many_arguments)]
 pub fn change(
     pool: &mut [u32],
@@ -65,6 +68,7 @@ pub fn change(
 
 /// [`change`] with its phases in any order, so that tests can see what an unsafe order does. With enough allowance it
 /// ends in the same pool.
+#[inline(never)]
 #[allow(clippy::too_many_arguments)]
 pub fn change_ordered(
     pool: &mut [u32],
@@ -86,16 +90,19 @@ pub fn change_ordered(
     deliver(out, answer)
 }
 
+#[inline(never)]
 pub fn tidy(pool: &mut [u32], d: u32, m: u32, l: u32, allowance: u32, out: &mut [u32]) -> u32 {
     let answer = Shape::fitting(pool, d, m, l).and_then(|shape| tidy::tidy(pool, shape, allowance));
     deliver(out, answer.map(|stores| [stores]))
 }
 
+#[inline(never)]
 pub fn lookup(pool: &[u32], d: u32, m: u32, l: u32, domain: u32, address: u32, out: &mut [u32]) -> u32 {
     let answer = Shape::fitting(pool, d, m, l).and_then(|shape| lookup::lookup(pool, shape, domain, address));
     deliver(out, answer.map(|found| [found.right, found.entry, found.loads]))
 }
 
+#[inline(never)]
 #[allow(clippy::too_many_arguments)]
 pub fn check(
     pool: &[u32],
@@ -117,11 +124,13 @@ pub fn check(
     deliver(out, answer.map(|(pass, loads)| [u32::from(pass), loads]))
 }
 
+#[inline(never)]
 pub fn list(pool: &[u32], d: u32, m: u32, l: u32, from: u32, runs: &mut [u32], out: &mut [u32]) -> u32 {
     let answer = Shape::fitting(pool, d, m, l).and_then(|shape| listing::list(pool, shape, from, runs));
     deliver(out, answer.map(|count| [count]))
 }
 
+#[inline(never)]
 #[allow(clippy::too_many_arguments)]
 pub fn step(
     pool: &[u32],
@@ -143,26 +152,32 @@ pub fn step(
     deliver(out, answer.map(|pass| [u32::from(pass)]))
 }
 
+#[inline(never)]
 pub fn flush_all(buffer: &mut [u32]) -> u32 {
     buffer.try_into().map_or(LENGTH, |buffer| buffer::flush(buffer, |_| true))
 }
 
+#[inline(never)]
 pub fn flush_domain(buffer: &mut [u32], domain: u32) -> u32 {
     buffer.try_into().map_or(LENGTH, |buffer| buffer::flush_domain(buffer, domain))
 }
 
+#[inline(never)]
 pub fn flush_region(buffer: &mut [u32], domain: u32, start: u32, length: u32) -> u32 {
     buffer.try_into().map_or(LENGTH, |buffer| buffer::flush_region(buffer, domain, start, length))
 }
 
+#[inline(never)]
 pub fn set_switch_gate(d: u32, gates: &mut [u32], domain: u32, address: u32, destination: u32) -> u32 {
     gates.try_into().map_or(LENGTH, |gates| gates::set(d, gates, domain, address, Some(destination)))
 }
 
+#[inline(never)]
 pub fn set_return_gate(d: u32, gates: &mut [u32], domain: u32, address: u32) -> u32 {
     gates.try_into().map_or(LENGTH, |gates| gates::set(d, gates, domain, address, None))
 }
 
+#[inline(never)]
 pub fn remove_gate(d: u32, gates: &mut [u32], domain: u32, address: u32) -> u32 {
     gates.try_into().map_or(LENGTH, |gates| gates::remove(d, gates, domain, address))
 }

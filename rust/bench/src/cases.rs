@@ -1,0 +1,242 @@
+//! The cases: each makes its pool once and gives a body that runs it a number of times.
+
+use comparison::given::pools;
+use comparison::rng::Rng;
+use comparison::subject::{Library, Subject, Twin};
+use model::buffer::{Access, BUFFER_WORDS};
+use model::change::Request;
+use model::shape::Shape;
+use std::hint::black_box;
+
+/// Runs a case this many times.
+pub type Body = Box<dyn FnMut(u64)>;
+
+pub struct Case {
+    pub name: &'static str,
+    pub says: &'static str,
+    pub library: fn(&'static Library) -> Body,
+    pub twin: fn(&'static Twin) -> Body,
+}
+
+/// A case, for both subjects.
+macro_rules! case {
+    ($name:ident, $says:literal) => {
+        Case { name: stringify!($name), says: $says, library: $name, twin: $name }
+    };
+}
+
+pub const CASES: &[Case] = &[
+    case!(lookup_root, "lookup, decided in the root"),
+    case!(lookup_middle, "lookup, decided in a middle table"),
+    case!(lookup_leaf, "lookup, decided in a leaf"),
+    case!(check_first, "check, hit in slot 0"),
+    case!(check_last, "check, hit in slot 63"),
+    case!(check_miss, "check, miss of 64 slots, decided in the root"),
+    case!(change_word_small, "change of one word in a leaf, smallest pool that has one"),
+    case!(change_word, "change of one word in a leaf, pool D 4, M 8, L 64"),
+    case!(change_page, "change of a page in a middle table, pool D 4, M 8, L 64"),
+    case!(change_gigabyte, "change of 1 GB, 256 stores, pool D 4, M 8, L 64"),
+    case!(change_edges, "change that makes two middle tables and two leaves, and its undoing"),
+    case!(change_full, "change that makes the last free leaf of an almost full pool, and its undoing"),
+    case!(change_refused, "change refused 8 on a full pool"),
+    case!(tidy_after_cut, "copy of the pool, and tidying after a cut, pool D 4, M 8, L 64"),
+    case!(sound_full, "tidying of a settled full pool (soundness, and each table looked at; no store)"),
+    case!(list_count, "listing of a full pool of about 37,000 runs, counted alone"),
+    case!(list_write, "listing of a full pool of about 37,000 runs, written"),
+];
+
+const SMALL: Shape = Shape::new(1, 1, 1);
+const FULL: Shape = Shape::new(4, 8, 64);
+const ENOUGH: u32 = u32::MAX;
+
+fn set(subject: &impl Subject, pool: &mut [u32], shape: Shape, request: Request) {
+    let number = subject.change(pool, shape, request, ENOUGH, &mut []);
+    assert_eq!(number, 0, "{request:?}");
+}
+
+fn request(domain: u32, start: u32, length: u32, right: u32) -> Request {
+    Request { domain, start, length, right }
+}
+
+/// Every place but one leaf in use, settled: a word in each of 63 pages, over eight blocks and all domains.
+fn almost_full(subject: &impl Subject) -> Vec<u32> {
+    let mut pool = FULL.fresh();
+    for page in 0..63 {
+        let (block, index) = (page % 8, page / 8);
+        set(subject, &mut pool, FULL, request(block % 4, (block << 22) + (16 * index << 12), 4, 2));
+    }
+    pool
+}
+
+fn lookup<S: Subject>(subject: &'static S, address: u32) -> Body {
+    let mut pool = SMALL.fresh();
+    set(subject, &mut pool, SMALL, request(0, 0x1000, 64, 2));
+    let mut out = [0; 3];
+    Box::new(move |times| {
+        for _ in 0..times {
+            black_box(subject.lookup(black_box(&pool), SMALL, 0, black_box(address), &mut out));
+        }
+    })
+}
+
+fn lookup_root<S: Subject>(subject: &'static S) -> Body {
+    lookup(subject, 0x40_0000)
+}
+
+fn lookup_middle<S: Subject>(subject: &'static S) -> Body {
+    lookup(subject, 0x2000)
+}
+
+fn lookup_leaf<S: Subject>(subject: &'static S) -> Body {
+    lookup(subject, 0x103C)
+}
+
+/// Checks of loads at addresses by turns.
+fn check<S: Subject>(subject: &'static S, mut buffer: Vec<u32>, blocks: u32) -> Body {
+    let pool = SMALL.fresh();
+    let mut out = [0; 2];
+    let mut turn = 0;
+    Box::new(move |times| {
+        for _ in 0..times {
+            turn = (turn + 1) % blocks;
+            let access = Access { domain: 0, kind: 0, size: 4, address: turn << 22 };
+            black_box(subject.check(black_box(&pool), SMALL, &mut buffer, black_box(access), &mut out));
+        }
+    })
+}
+
+/// A buffer whose slots hold other blocks, but for one that holds the first block.
+fn buffer_with(slot: usize) -> Vec<u32> {
+    let mut buffer: Vec<u32> = (0..64).flat_map(|i| [0, 1, (512 + i) << 22, 0x8000_0000]).chain([0]).collect();
+    buffer[4 * slot..4 * slot + 4].copy_from_slice(&[0, 1, 0, 0x8000_5555]);
+    buffer
+}
+
+fn check_first<S: Subject>(subject: &'static S) -> Body {
+    check(subject, buffer_with(0), 1)
+}
+
+fn check_last<S: Subject>(subject: &'static S) -> Body {
+    check(subject, buffer_with(63), 1)
+}
+
+/// More blocks by turns than there are slots: each check misses.
+fn check_miss<S: Subject>(subject: &'static S) -> Body {
+    check(subject, vec![0; BUFFER_WORDS], 128)
+}
+
+/// A change by turns with two rights, or with a change that undoes it.
+fn by_turns<S: Subject>(
+    subject: &'static S,
+    mut pool: Vec<u32>,
+    shape: Shape,
+    mut requests: [Request; 2],
+    calls: u64,
+) -> Body {
+    let mut out = [0];
+    Box::new(move |times| {
+        for _ in 0..times * calls {
+            let number = subject.change(&mut pool, shape, black_box(requests[0]), ENOUGH, &mut out);
+            assert_eq!(number, 0);
+            requests.swap(0, 1);
+        }
+    })
+}
+
+fn two_rights(start: u32, length: u32) -> [Request; 2] {
+    [request(0, start, length, 1), request(0, start, length, 2)]
+}
+
+fn change_word_small<S: Subject>(subject: &'static S) -> Body {
+    let mut pool = SMALL.fresh();
+    set(subject, &mut pool, SMALL, request(0, 0x1000, 64, 3));
+    by_turns(subject, pool, SMALL, two_rights(0x1004, 4), 1)
+}
+
+fn change_word<S: Subject>(subject: &'static S) -> Body {
+    let pool = almost_full(subject);
+    by_turns(subject, pool, FULL, two_rights(0x100, 4), 1)
+}
+
+fn change_page<S: Subject>(subject: &'static S) -> Body {
+    let pool = almost_full(subject);
+    by_turns(subject, pool, FULL, two_rights(0x3000, 4096), 1)
+}
+
+fn change_gigabyte<S: Subject>(subject: &'static S) -> Body {
+    let pool = almost_full(subject);
+    by_turns(subject, pool, FULL, two_rights(1 << 31, 1 << 30), 1)
+}
+
+fn change_edges<S: Subject>(subject: &'static S) -> Body {
+    let make = request(0, 0x3F_F004, 0x80_1000, 2);
+    let undo = request(0, 0, 0x100_0000, 0);
+    by_turns(subject, FULL.fresh(), FULL, [make, undo], 2)
+}
+
+fn change_full<S: Subject>(subject: &'static S) -> Body {
+    let pool = almost_full(subject);
+    let make = request(3, (7 << 22) + 0x20_0004, 4, 2);
+    by_turns(subject, pool, FULL, [make, Request { right: 0, ..make }], 2)
+}
+
+fn change_refused<S: Subject>(subject: &'static S) -> Body {
+    let mut pool = almost_full(subject);
+    set(subject, &mut pool, FULL, request(3, (7 << 22) + 0x20_0004, 4, 2));
+    let more = request(2, (6 << 22) + 0x20_0004, 4, 2);
+    let mut out = [0];
+    Box::new(move |times| {
+        for _ in 0..times {
+            assert_eq!(subject.change(&mut pool, FULL, black_box(more), ENOUGH, &mut out), 8);
+        }
+    })
+}
+
+/// A pool that a cut left with a table that is not wanted.
+fn tidy_after_cut<S: Subject>(subject: &'static S) -> Body {
+    let mut cut = almost_full(subject);
+    let page = 0x3F_0000;
+    set(subject, &mut cut, FULL, request(0, page + 0x100, 0x100, 1));
+    assert_eq!(subject.change(&mut cut, FULL, request(0, page, 0x300, 1), 4, &mut []), 100);
+    let mut pool = cut.clone();
+    let mut out = [0];
+    Box::new(move |times| {
+        for _ in 0..times {
+            pool.copy_from_slice(black_box(&cut));
+            assert_eq!(subject.tidy(&mut pool, FULL, ENOUGH, &mut out), 0);
+            assert_eq!(out[0], 1);
+        }
+    })
+}
+
+fn sound_full<S: Subject>(subject: &'static S) -> Body {
+    let mut pool = almost_full(subject);
+    set(subject, &mut pool, FULL, request(3, (7 << 22) + 0x20_0004, 4, 2));
+    let mut out = [0];
+    Box::new(move |times| {
+        for _ in 0..times {
+            assert_eq!(subject.tidy(&mut pool, FULL, ENOUGH, &mut out), 0);
+            assert_eq!(out[0], 0);
+        }
+    })
+}
+
+fn list<S: Subject>(subject: &'static S, room: usize) -> Body {
+    let pool = pools::crowded(&mut Rng::new(5), FULL);
+    let mut runs = vec![0; 4 * room];
+    let mut out = [0];
+    Box::new(move |times| {
+        for _ in 0..times {
+            assert_eq!(subject.list(black_box(&pool), FULL, 0, &mut runs, &mut out), 0);
+            assert!(out[0] > 30_000);
+        }
+    })
+}
+
+fn list_count<S: Subject>(subject: &'static S) -> Body {
+    list(subject, 0)
+}
+
+fn list_write<S: Subject>(subject: &'static S) -> Body {
+    list(subject, 40_000)
+}
