@@ -36,4 +36,5 @@ chmod +x "$shadow/on/$machine/toolchain/bin/clang"
 "$clang" --target="$machine-unknown-linux-gnu" --no-default-config -ffunction-sections -fdata-sections -fPIC -O3 \
     -c -x ir "$work/module.bc" -o "$work/goleuthan.o" 2>"$work/warnings"
 "$kit/on/$machine/toolchain/bin/llvm-ar" rc "$work/libgoleuthan.a" "$work/goleuthan.o"
+rm -rf "$shadow"
 echo "$work/libgoleuthan.a"

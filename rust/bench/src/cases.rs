@@ -63,7 +63,7 @@ fn almost_full(subject: &impl Subject) -> Vec<u32> {
     let mut pool = FULL.fresh();
     for page in 0..63 {
         let (block, index) = (page % 8, page / 8);
-        set(subject, &mut pool, FULL, request(block % 4, (block << 22) + (16 * index << 12), 4, 2));
+        set(subject, &mut pool, FULL, request(block % 4, (block << 22) + (index << 16), 4, 2));
     }
     pool
 }

@@ -2,6 +2,7 @@
 //!
 //! `bench` measures every case and prints a markdown table. `bench CASE library|twin TIMES` runs one case that many
 //! times and prints nothing, so that an instruction counter can look at it; `bench cases` prints the names.
+#![forbid(unsafe_code)]
 
 mod cases;
 mod measure;

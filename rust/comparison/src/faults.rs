@@ -124,6 +124,9 @@ pub const ALL: &[Fault] = &[
     ("moves the pointer in a flush", "slots", Wrong { flush_all: pointer_moves, ..RIGHT }),
     ("flushes slots that count as empty", "slots", Wrong { flush_domain: flushes_empty, ..RIGHT }),
     ("flushes the slot of the first word alone", "slots", Wrong { flush_region: first_word, ..RIGHT }),
+    ("flushes the slot of the first word alone", "lives", Wrong { flush_region: first_word, ..RIGHT }),
+    ("flushes nothing", "lives", Wrong { flush_region: flushes_nothing, ..RIGHT }),
+    ("links a table before it is filled", "lives", Wrong { change: links_first, ..RIGHT }),
     ("sets an existing gate last", "gates", Wrong { set_return_gate: sets_last, ..RIGHT }),
     ("clears the place that a removal frees", "gates", Wrong { remove_gate: clears_freed, ..RIGHT }),
     ("pushes the address for the target", "steps", Wrong { step: pushes_address, ..RIGHT }),
@@ -344,6 +347,10 @@ fn first_word(buffer: &mut [u32], domain: u32, start: u32, length: u32) -> u32 {
         0 => Twin.flush_region(buffer, domain, start, 4),
         refusal => refusal,
     }
+}
+
+fn flushes_nothing(buffer: &mut [u32], domain: u32, start: u32, length: u32) -> u32 {
+    Twin.flush_region(&mut buffer.to_vec(), domain, start, length)
 }
 
 fn sets_last(d: u32, gates: &mut [u32], domain: u32, address: u32) -> u32 {

@@ -4,6 +4,7 @@
 //! answer against the model. A comparison gives the first difference that it meets, so that the tests can ask for none
 //! of the library and for one of each wrong program. A tally counts the kinds of cases met; a kind that was never met
 //! fails the test.
+#![forbid(unsafe_code)]
 
 pub mod compare;
 pub mod faults;

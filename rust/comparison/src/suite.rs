@@ -1,6 +1,6 @@
 //! The comparisons with their seeds, their sizes and the kinds of cases that each must meet.
 
-use crate::compare::{cuts, gates, listings, pools, rows, series, slots, Run};
+use crate::compare::{cuts, gates, life, listings, pools, rows, series, slots, Run};
 use crate::given::shapes;
 use crate::subject::Subject;
 use crate::tally::{answers, Tally};
@@ -54,6 +54,22 @@ pub fn named(name: &str) -> &'static Comparison {
 }
 
 const SERIES_KINDS: &[&str] = &[
+    "series: D 1",
+    "series: D 2",
+    "series: D 3",
+    "series: D 4",
+    "series: M 0",
+    "series: M 1",
+    "series: M 2",
+    "series: M 3",
+    "series: M 4",
+    "series: M 5",
+    "series: M 6",
+    "series: M 7",
+    "series: M 8",
+    "series: L 0",
+    "series: L 1 to 63",
+    "series: L 64",
     "series: a pool of roots alone",
     "series: a pool with middle tables alone",
     "series: a pool with leaves",
@@ -72,6 +88,17 @@ const UNSETTLED: &[&str] = &[
     "cut: some words old, some new",
     "cut: not settled",
     "cut, tidied and made again",
+];
+
+const LIFE_KINDS: &[&str] = &[
+    "life: changed",
+    "life: a change is cut",
+    "life: refused 7 after a cut",
+    "life: tidied",
+    "life: a tidying is cut",
+    "life: a reset",
+    "life: a slot answers",
+    "life: a miss",
 ];
 
 const LISTING_KINDS: &[&str] = &[
@@ -114,7 +141,7 @@ pub const ALL: &[Comparison] = &[
     Comparison {
         name: "long series",
         seed: 3,
-        body: |run| series::series(run, 28, 150),
+        body: |run| series::series(run, 56, 80),
         answers: &[("fresh", &[0]), ("change", &[0, 2, 3, 4, 5, 8])],
         kinds: SERIES_KINDS,
     },
@@ -139,6 +166,7 @@ pub const ALL: &[Comparison] = &[
         answers: &[("change with an allowance", &[0, 100]), ("tidying with an allowance", &[0, 100])],
         kinds: UNSETTLED,
     },
+    Comparison { name: "lives", seed: 13, body: |run| life::lives(run, 24, 120), answers: &[], kinds: LIFE_KINDS },
     Comparison {
         name: "pools",
         seed: 7,

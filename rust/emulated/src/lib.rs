@@ -2,6 +2,7 @@
 //! under the toolchain's emulator (see `service.c`). For tests; a supervisor links the library.
 //!
 //! The functions are those of `goleuthan::words`.
+#![forbid(unsafe_code)]
 #![allow(clippy::too_many_arguments)]
 
 mod service;

@@ -15,13 +15,14 @@
 //! assert_eq!((found.right, found.loads), (Right::ReadWrite, 3));
 //! # Ok::<(), goleuthan::Refusal>(())
 //! ```
-#![deny(unsafe_op_in_unsafe_fn)]
+#![deny(unsafe_code)]
 
 mod refusal;
 mod states;
 mod table;
 
 #[cfg(linked)]
+#[allow(unsafe_code)]
 pub mod words;
 /// The same functions on a machine that cannot link the library, which is for x86-64.
 #[cfg(not(linked))]

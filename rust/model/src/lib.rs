@@ -4,6 +4,7 @@
 //! and pages want a table, whether there is room, which place each table has, and what every pool word then holds. It
 //! is written from the paper alone and shares no code with the library or with its twin. It is meant to be compared
 //! with the paper by reading, not to be fast.
+#![forbid(unsafe_code)]
 
 pub mod access;
 pub mod buffer;

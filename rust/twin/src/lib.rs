@@ -3,6 +3,7 @@
 //!
 //! The functions here have the C interface's parameters and numbers, with slices for pointers and lengths. None is
 //! inlined into its caller, since none of the library is.
+#![forbid(unsafe_code)]
 
 mod buffer;
 mod change;

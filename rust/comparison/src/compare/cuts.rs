@@ -181,6 +181,7 @@ fn again(run: &mut Run, what: &str, cut: &State, after: &State, request: Request
     let mut pool = cut.words.clone();
     run.subject.tidy(&mut pool, cut.shape, u32::MAX, &mut []);
     same_words(&what, &pool, &tidied.words)?;
+    lookups(run, &pool, cut, request)?;
     let finished = finished_change(run, &mut pool, tidied, request)?;
     hold!(finished.rights == after.rights, "{what}: other rights than without a cut");
     run.tally.met("cut, tidied and made again");

@@ -12,6 +12,7 @@ use model::walk;
 pub fn series(run: &mut Run, count: usize, length: usize) -> Result<(), Difference> {
     for turn in 0..count {
         let shape = shapes::any(&mut run.rng, turn);
+        note_shape(run, shape);
         let mut pool = fresh(run, shape)?;
         let mut state = State::fresh(shape);
         let mut last = None;
@@ -23,6 +24,16 @@ pub fn series(run: &mut Run, count: usize, length: usize) -> Result<(), Differen
         }
     }
     Ok(())
+}
+
+fn note_shape(run: &mut Run, shape: Shape) {
+    run.tally.met(&format!("series: D {}", shape.domains));
+    run.tally.met(&format!("series: M {}", shape.middles));
+    run.tally.met(match shape.leaves {
+        0 => "series: L 0",
+        64 => "series: L 64",
+        _ => "series: L 1 to 63",
+    });
 }
 
 /// A request of a series: any, the last one moved, or sometimes one that clears room.
