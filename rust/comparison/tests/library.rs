@@ -48,7 +48,7 @@ fn cuts_reach_the_words_of_the_fixed_order() {
     let mut rng = Rng::new(31);
     let mut pool = shape.fresh();
     let mut cuts = 0;
-    for _ in 0..40 {
+    for _ in 0..60 {
         let request = requests::near(&mut rng, shape.domains);
         let mut after = pool.clone();
         let mut stores = [0];
