@@ -3,7 +3,7 @@
 use comparison::given::pools;
 use comparison::rng::Rng;
 use comparison::subject::{Library, Subject, Twin};
-use model::buffer::{Access, BUFFER_WORDS};
+use model::buffer::Access;
 use model::change::Request;
 use model::shape::Shape;
 use std::hint::black_box;
@@ -105,9 +105,14 @@ fn check<S: Subject>(subject: &'static S, mut buffer: Vec<u32>, blocks: u32) -> 
     })
 }
 
-/// A buffer whose slots hold other blocks, but for one that holds the first block.
+/// A buffer whose slots hold blocks that no check here asks for.
+fn others() -> Vec<u32> {
+    (0..64).flat_map(|i| [0, 1, (512 + i) << 22, 0x8000_0000]).chain([0]).collect()
+}
+
+/// The same, but for one slot that holds the first block.
 fn buffer_with(slot: usize) -> Vec<u32> {
-    let mut buffer: Vec<u32> = (0..64).flat_map(|i| [0, 1, (512 + i) << 22, 0x8000_0000]).chain([0]).collect();
+    let mut buffer = others();
     buffer[4 * slot..4 * slot + 4].copy_from_slice(&[0, 1, 0, 0x8000_5555]);
     buffer
 }
@@ -122,7 +127,7 @@ fn check_last<S: Subject>(subject: &'static S) -> Body {
 
 /// More blocks by turns than there are slots: each check misses.
 fn check_miss<S: Subject>(subject: &'static S) -> Body {
-    check(subject, vec![0; BUFFER_WORDS], 128)
+    check(subject, others(), 128)
 }
 
 /// A change by turns with two rights, or with a change that undoes it.

@@ -51,8 +51,7 @@ fn table() {
 }
 
 fn row(case: &Case) {
-    let (library, twin) = compare((case.library)(&Library), (case.twin)(&Twin));
-    let ratio = library.median / twin.median;
+    let (library, twin, ratio) = compare((case.library)(&Library), (case.twin)(&Twin));
     println!(
         "| {} | {} | {} | {ratio:.2} | {} | {} |",
         case.says,

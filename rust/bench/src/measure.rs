@@ -13,15 +13,16 @@ pub struct Measured {
 const REPETITIONS: usize = 41;
 const BATCH: Duration = Duration::from_millis(8);
 
-/// Measures two bodies by turns, so that both meet the same disturbances.
-pub fn compare(mut one: Body, mut other: Body) -> (Measured, Measured) {
+/// Measures two bodies by turns, so that both meet the same disturbances; the ratio is the median of the turns' ratios.
+pub fn compare(mut one: Body, mut other: Body) -> (Measured, Measured, f64) {
     let (one_times, other_times) = (fitting(&mut one), fitting(&mut other));
     let (mut ones, mut others) = (Vec::new(), Vec::new());
     for _ in 0..REPETITIONS {
         ones.push(batch(&mut one, one_times));
         others.push(batch(&mut other, other_times));
     }
-    (measured(ones), measured(others))
+    let ratios = ones.iter().zip(&others).map(|(one, other)| one / other).collect();
+    (measured(ones), measured(others), measured(ratios).median)
 }
 
 /// How many runs make a batch.
