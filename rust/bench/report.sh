@@ -15,7 +15,7 @@ bench=$CARGO_TARGET_DIR/release/bench
 echo "- Machine: $(uname -m), $(lscpu | sed -n 's/^Model name: *//p' | head -n 1), $(nproc) processors."
 echo "- Compilers: $(rustc --version); library $(if [ "$(uname -m)" = x86_64 ]; then echo 'as shipped'; else echo 'compiled for this machine from the module that the shipped one is made of'; fi)."
 echo "- Load of the machine before the run (1, 5 and 15 minutes): $(cut -d ' ' -f 1-3 /proc/loadavg)."
-echo "- A time is the median of 41 repetitions of at least 8 ms, library and twin by turns; the ratio is the median of the turns' ratios; a spread is from the first to the third quartile."
+echo "- A time is the median of 301 repetitions of about half a millisecond or more, library and twin by turns; the ratio is the median of the turns' ratios; a spread is from the first to the third quartile."
 echo
 "$bench"
 echo

@@ -10,8 +10,9 @@ pub struct Measured {
     pub high: f64,
 }
 
-const REPETITIONS: usize = 41;
-const BATCH: Duration = Duration::from_millis(8);
+/// Many short batches: on a machine that others use, most are then not interrupted, and the median is of those.
+const REPETITIONS: usize = 301;
+const BATCH: Duration = Duration::from_micros(500);
 
 /// Measures two bodies by turns, so that both meet the same disturbances; the ratio is the median of the turns' ratios.
 pub fn compare(mut one: Body, mut other: Body) -> (Measured, Measured, f64) {
