@@ -37,8 +37,14 @@ pub struct Comparison {
 }
 
 impl Comparison {
+    /// Runs the comparison on its own cases.
     pub fn run(&self, subject: &dyn Subject) -> Outcome {
-        let mut run = Run::new(subject, self.seed);
+        self.run_from(subject, self.seed)
+    }
+
+    /// Runs the comparison on the cases of another seed.
+    pub fn run_from(&self, subject: &dyn Subject, seed: u64) -> Outcome {
+        let mut run = Run::new(subject, seed);
         let difference = (self.body)(&mut run).err();
         let mut kinds: Vec<String> = self.kinds.iter().map(|kind| kind.to_string()).collect();
         for (call, numbers) in self.answers {
@@ -99,6 +105,14 @@ const LIFE_KINDS: &[&str] = &[
     "life: a reset",
     "life: a slot answers",
     "life: a miss",
+];
+
+const POOL_KINDS: &[&str] = &[
+    "pool of another length",
+    "pool that fits one shape",
+    "pool that fits several shapes",
+    "pool sound in another shape",
+    "pool not sound in another shape",
 ];
 
 const LISTING_KINDS: &[&str] = &[
@@ -170,14 +184,14 @@ pub const ALL: &[Comparison] = &[
     Comparison {
         name: "pools",
         seed: 7,
-        body: |run| pools::pools(run, 600),
+        body: |run| pools::pools(run, 800),
         answers: &[
             ("fresh", &[1]),
             ("change of any pool", &[0, 1, 2, 3, 4, 5, 6, 7, 8, 100]),
             ("tidying of any pool", &[0, 1, 6, 100]),
             ("lookup in any pool", &[0, 1, 2, 6]),
         ],
-        kinds: &["pool of another length", "pool that fits one shape", "pool that fits several shapes"],
+        kinds: POOL_KINDS,
     },
     Comparison {
         name: "tidyings",
@@ -196,7 +210,7 @@ pub const ALL: &[Comparison] = &[
     Comparison {
         name: "slots",
         seed: 10,
-        body: |run| slots::slots(run, 300),
+        body: |run| slots::slots(run, 400),
         answers: &[
             ("check", &[0, 1, 2, 6, 9, 10, 18, 101]),
             ("flush of all", &[0, 18, 101]),
@@ -233,7 +247,7 @@ fn far_cuts(run: &mut Run) -> Result<(), Difference> {
     }
     cuts::far(run, Shape::new(1, 1, 1), 12)?;
     cuts::far(run, Shape::new(2, 2, 3), 12)?;
-    cuts::far(run, Shape::new(4, 8, 64), 4)
+    cuts::far(run, Shape::new(4, 8, 64), 8)
 }
 
 fn near_cuts(run: &mut Run) -> Result<(), Difference> {

@@ -40,6 +40,20 @@ library! {
     steps: "steps",
 }
 
+/// All comparisons on the cases of other seeds, by hand: `SEEDS=20 cargo test --release -- --ignored soak`.
+#[test]
+#[ignore = "takes as long as it is told to"]
+fn soak() {
+    let seeds = std::env::var("SEEDS").ok().and_then(|seeds| seeds.parse().ok()).unwrap_or(3);
+    for seed in 1000..1000 + seeds {
+        for comparison in comparison::suite::ALL {
+            if let Some(difference) = comparison.run_from(&Library, seed).difference {
+                panic!("{} from seed {seed}: {}", comparison.name, difference.0);
+            }
+        }
+    }
+}
+
 /// The paper leaves open which words a cut has reached; the library fixes them by its order of stores, which is also the
 /// twin's.
 #[test]

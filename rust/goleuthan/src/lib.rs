@@ -4,13 +4,13 @@
 //! allocated or kept.
 //!
 //! ```
-//! use goleuthan::{Outcome, Request, Right, Shape, Table};
+//! use goleuthan::{Answer, Request, Right, Shape, Table};
 //!
 //! let shape = Shape { domains: 1, middles: 1, leaves: 1 };
 //! let mut pool = vec![0; shape.pool_words()];
 //! let mut table = Table::fresh(&mut pool, shape)?;
 //! let request = Request { domain: 0, start: 0x1000, length: 64, right: Right::ReadWrite };
-//! assert_eq!(table.change(request, u32::MAX)?, Outcome::Done { stores: 1026 });
+//! assert_eq!(table.change(request, u32::MAX)?, Answer::Done { stores: 1026 });
 //! let found = table.lookup(0, 0x103F)?;
 //! assert_eq!((found.right, found.loads), (Right::ReadWrite, 3));
 //! # Ok::<(), goleuthan::Refusal>(())
@@ -33,4 +33,4 @@ pub const LINKED: bool = cfg!(linked);
 
 pub use refusal::Refusal;
 pub use states::{CallStack, Gates, LookasideBuffer};
-pub use table::{Access, Found, Outcome, Request, Right, Run, Shape, Table, Verdict};
+pub use table::{Access, Answer, Found, Request, Right, Run, Shape, Table, Verdict};

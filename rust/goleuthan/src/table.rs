@@ -56,7 +56,7 @@ pub struct Request {
 /// How a change or a tidying ended.
 #[derive(Clone, Copy, Debug, PartialEq, Eq, Hash)]
 #[must_use]
-pub enum Outcome {
+pub enum Answer {
     /// All is done; this many words were written.
     Done { stores: u32 },
     /// The allowance ran out: exactly as many words were written, and the pool is sound.
@@ -129,12 +129,12 @@ pub struct Table<'a> {
 const CUT: u32 = 100;
 const RUNS_AT_ONCE: usize = 64;
 
-fn outcome(number: u32, stores: u32) -> Result<Outcome, Refusal> {
+fn answer(number: u32, stores: u32) -> Result<Answer, Refusal> {
     if number == CUT {
-        return Ok(Outcome::Cut);
+        return Ok(Answer::Cut);
     }
     Refusal::none_or(number)?;
-    Ok(Outcome::Done { stores })
+    Ok(Answer::Done { stores })
 }
 
 impl<'a> Table<'a> {
@@ -160,7 +160,7 @@ impl<'a> Table<'a> {
 
     /// Gives a domain a right on a region, in at most `allowance` single-word stores. Flush the region afterwards in
     /// every buffer that the domain uses, done or cut.
-    pub fn change(&mut self, request: Request, allowance: u32) -> Result<Outcome, Refusal> {
+    pub fn change(&mut self, request: Request, allowance: u32) -> Result<Answer, Refusal> {
         let Shape { domains, middles, leaves } = self.shape;
         let Request { domain, start, length, right } = request;
         let mut out = [0];
@@ -176,15 +176,15 @@ impl<'a> Table<'a> {
             allowance,
             &mut out,
         );
-        outcome(number, out[0])
+        answer(number, out[0])
     }
 
     /// Gives up tables that the rights no longer need. No word's right changes, so nothing needs a flush.
-    pub fn tidy(&mut self, allowance: u32) -> Result<Outcome, Refusal> {
+    pub fn tidy(&mut self, allowance: u32) -> Result<Answer, Refusal> {
         let Shape { domains, middles, leaves } = self.shape;
         let mut out = [0];
         let number = words::tidy(self.pool, domains, middles, leaves, allowance, &mut out);
-        outcome(number, out[0])
+        answer(number, out[0])
     }
 
     /// The right that a domain has on the word at an address.

@@ -1,8 +1,6 @@
 //! The safe face: each type's calls, once each way. What the library answers is compared elsewhere.
 
-use goleuthan::{
-    Access, CallStack, Found, Gates, LookasideBuffer, Outcome, Request, Right, Run, Shape, Table, Verdict,
-};
+use goleuthan::{Access, Answer, CallStack, Found, Gates, LookasideBuffer, Request, Right, Run, Shape, Table, Verdict};
 
 const SHAPE: Shape = Shape { domains: 2, middles: 1, leaves: 1 };
 
@@ -25,10 +23,10 @@ fn a_pool_of_another_length_is_refused() {
 fn changes_lookups_and_runs() {
     let mut pool = vec![0; SHAPE.pool_words()];
     let mut table = Table::fresh(&mut pool, SHAPE).unwrap();
-    assert_eq!(table.change(request(1, 0x1000, 64, Right::ReadWrite), 9), Ok(Outcome::Cut));
-    assert_eq!(table.tidy(u32::MAX), Ok(Outcome::Done { stores: 0 }));
+    assert_eq!(table.change(request(1, 0x1000, 64, Right::ReadWrite), 9), Ok(Answer::Cut));
+    assert_eq!(table.tidy(u32::MAX), Ok(Answer::Done { stores: 0 }));
     let done = table.change(request(1, 0x1000, 64, Right::ReadWrite), u32::MAX);
-    assert!(matches!(done, Ok(Outcome::Done { stores }) if stores <= 1026));
+    assert!(matches!(done, Ok(Answer::Done { stores }) if stores <= 1026));
     assert_eq!(table.lookup(1, 0x103F), Ok(Found { right: Right::ReadWrite, entry: 0xAAAA_AAAA, loads: 3 }));
     assert_eq!(table.lookup(0, 0x103F), Ok(Found { right: Right::None, entry: 0x8000_0000, loads: 1 }));
     assert_eq!(number(table.lookup(2, 0)), 2);

@@ -17,6 +17,10 @@ pub fn pools(run: &mut Run, count: usize) -> Result<(), Difference> {
         let fitting = shapes::fitting(pool.len());
         run.tally.met(if fitting.len() > 1 { "pool that fits several shapes" } else { "pool that fits one shape" });
         let other = run.rng.pick(&fitting);
+        if other != made {
+            let sound = read(&pool, other).is_some();
+            run.tally.met(if sound { "pool sound in another shape" } else { "pool not sound in another shape" });
+        }
         let wrong = shapes::wrong(&mut run.rng, made);
         for shape in [made, other, wrong] {
             calls(run, &pool, shape)?;

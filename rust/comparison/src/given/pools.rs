@@ -39,11 +39,14 @@ fn shuffled(rng: &mut Rng, count: u32) -> Vec<usize> {
     places
 }
 
-/// A sound pool; places out of use hold any words. Half of them have hardly a table that is not wanted.
+/// A sound pool; places out of use hold any words, or rights, which another shape can read. Half of the pools have
+/// hardly a table that is not wanted.
 pub fn sound(rng: &mut Rng, shape: Shape) -> Vec<u32> {
     let wanted = rng.once_in(2);
-    let mut pool: Vec<u32> = (0..shape.length()).map(|_| rng.word()).collect();
+    let readable = rng.once_in(2);
     let usual = rng.below(4);
+    let idle = |rng: &mut Rng| if readable { eight(rng, usual) } else { rng.word() };
+    let mut pool: Vec<u32> = (0..shape.length()).map(|_| idle(rng)).collect();
     for word in &mut pool[..shape.middle(0)] {
         *word = eight(rng, usual);
     }
