@@ -61,23 +61,19 @@ impl State {
     /// Writes every root and every owned place; a place that nobody owns holds what it held.
     fn write_words(&mut self) {
         for domain in 0..self.rights.len() {
-            for number in 0..TABLE {
-                self.words[self.shape.root(domain) + number] = self.root_word(domain, number as u32);
-            }
+            self.write(self.shape.root(domain), TABLE, |state, i| state.root_word(domain, i));
         }
-        for place in 0..self.middles.len() {
-            if let Some(owner) = self.middles[place] {
-                for index in 0..TABLE {
-                    self.words[self.shape.middle(place) + index] = self.middle_word(owner, index as u32);
-                }
-            }
+        for (place, owner) in owned(&self.middles) {
+            self.write(self.shape.middle(place), TABLE, |state, i| state.middle_word(owner, i));
         }
-        for place in 0..self.leaves.len() {
-            if let Some(owner) = self.leaves[place] {
-                for index in 0..LEAF {
-                    self.words[self.shape.leaf(place) + index] = self.leaf_word(owner, index as u32);
-                }
-            }
+        for (place, owner) in owned(&self.leaves) {
+            self.write(self.shape.leaf(place), LEAF, |state, i| state.leaf_word(owner, i));
+        }
+    }
+
+    fn write(&mut self, at: usize, count: usize, word: impl Fn(&State, u32) -> u32) {
+        for i in 0..count {
+            self.words[at + i] = word(self, i as u32);
         }
     }
 
@@ -144,6 +140,11 @@ fn placed(old: &Owners, wanted: &BTreeSet<Owner>) -> Option<Owners> {
         }
     }
     Some(owners)
+}
+
+/// The places in use, with their owners.
+fn owned(owners: &Owners) -> Vec<(usize, Owner)> {
+    owners.iter().enumerate().filter_map(|(place, owner)| owner.map(|owner| (place, owner))).collect()
 }
 
 fn place_of(owners: &Owners, owner: Owner) -> Option<usize> {
