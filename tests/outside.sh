@@ -38,7 +38,7 @@ example() {
     mkdir -p target/outside
     if ! sh rust/emulated/link.sh "examples/$1.c" "$program"; then
         fail "examples/$1.c does not build"
-    elif ! sh rust/emulated/run.sh "$program" > "$program.out"; then
+    elif ! sh scripts/run.sh "$program" > "$program.out"; then
         fail "examples/$1.c ends badly"
         cat "$program.out"
     elif ! diff "examples/$1.expected" "$program.out"; then

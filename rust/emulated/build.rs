@@ -16,5 +16,5 @@ fn main() {
         std::process::exit(1);
     }
     println!("cargo:rustc-env=GOLEUTHAN_SERVICE={}", program.display());
-    println!("cargo:rustc-env=GOLEUTHAN_RUN={}", here.join("run.sh").display());
+    println!("cargo:rustc-env=GOLEUTHAN_RUN={}", here.join("../../scripts/run.sh").display());
 }

@@ -1,6 +1,6 @@
 #!/bin/sh
 # link.sh SOURCE.c PROGRAM: compiles a C program with the header and links it with the proved library, which is for
-# x86-64, and so is PROGRAM: run.sh runs it on any machine.
+# x86-64, and so is PROGRAM: scripts/run.sh runs it on any machine.
 #
 # On a machine of another kind the toolchain that proves the library has a compiler and a C library for x86-64.
 set -eu

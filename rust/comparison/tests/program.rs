@@ -17,7 +17,7 @@ fn printed(input: &[u8]) -> Vec<u8> {
     let program = root().join("target/bin/rights_listing");
     assert!(program.exists(), "{} is missing: run `rt check` first", program.display());
     let mut child = Command::new("sh")
-        .arg(root().join("rust/emulated/run.sh"))
+        .arg(root().join("scripts/run.sh"))
         .arg(program)
         .stdin(Stdio::piped())
         .stdout(Stdio::piped())
