@@ -1,36 +1,51 @@
 -- Words outside the rows that a plan changes stay as they are.
 use Prim.Native.Nat.{ℕ, _+_, _*_, _-_, _<_, _≤_}
 use mathlib.Core.Path.{_≡_, refl, sym, ap, _∙_}
-use mathlib.Core.Logic.{_⊎_, inl, inr, ⊎-elim}
+use mathlib.Core.Logic.{_≢_, _⊎_, inl, inr, ⊎-elim}
 use mathlib.Core.List.{List}
-use mathlib.Core.Bool.{Bool, true, false, cond, _&&_, false≢true}
+use mathlib.Core.Bool.{Bool, true, false, not, cond, _&&_, _||_, false≢true}
 use native.Mathlib.Omega.{arith}
-use native.Mathlib.Decide.{decLt}
+use native.Mathlib.Decide.{ℕ-discrete, decLt}
 use lib.Dec.{eqb, ltb}
-use borrow.Author.Tests.{lt-ltb, le-ltb, ne-eqb}
+use borrow.Author.Tests.{lt-ltb, le-ltb, ne-eqb, eqb-true, eqb-false, not-true, not-false}
 use lib.ListN.{length}
 use Rattle.theory.specs.Pool.{words}
 use Rattle.theory.proofs.RightLaws.{by-cases}
 use Rattle.words.specs.Rights.{rightAt, eightOf}
 use Rattle.table.specs.declared.Shape.{Shape}
 use Rattle.table.specs.Shape.{Fits}
+use Rattle.table.specs.Map.{leads, zone}
 use Rattle.targets.specs.declared.Paint.{Paint}
 use Rattle.plan.specs.declared.Edge.{Edge}
 use Rattle.plan.specs.declared.Plan.{Plan}
-use Rattle.plan.specs.Plan.{isLead, InTable, tableOf, rootAfter, pageAfter, after, PlanFits}
+use Rattle.table.proofs.ShapeLaws.{and-both}
+use Rattle.plan.specs.Plan.{isLead, isNew, InTable, tableOf, rootAfter, pageAfter, after, newWord, PlanFits}
 use Rattle.plan.specs.Goals.{Planned}
-use Rattle.change.specs.Runs.{At}
-use Rattle.change.specs.Ahead.{Ahead, Outside, RootStays, MiddleStays, LeafStays, Stays, PagesBefore}
+use Rattle.change.specs.Runs.{phases, At}
+use Rattle.change.specs.declared.ahead.Span.{Span}
+use Rattle.change.specs.Ahead.{Ahead, Outside, Stays, RootIdle, MiddleIdle, LeafIdle, NotNew, KeptIdle, NewIdle, Idle, PagesBefore}
 use Rattle.change.proofs.TableLaws.{in-within, table-within}
-use Rattle.change.proofs.StateLaws.{at-jump}
+use Rattle.change.proofs.StateLaws.{at-pass}
 
 -- What is passed may be known in other words.
-pub ahead-as : {k best r : ℕ} {A B : ℕ → Type 0} → Ahead k best A r → ((j : ℕ) → A j → B j) → Ahead k best B r
-ahead-as a f = record { from = a .from; upto = a .upto; passed = λ j lo hi. f j (a .passed j lo hi) }
+pub ahead-as : {k : ℕ} {best r : Span} {A B : ℕ → Type 0} → Ahead k best A r → ((j : ℕ) → A j → B j) → Ahead k best B r
+ahead-as a f = record { from = a .from; upto = a .upto; some = a .some; passed = λ j lo hi. f j (a .passed j lo hi) }
 
--- Nothing before `best` is of a table that is not there.
-pub ahead-all : {k best : ℕ} {A : ℕ → Type 0} → k ≤ best → ((j : ℕ) → A j) → Ahead k best A best
-ahead-all h f = record { from = h; upto = omega arith; passed = λ j lo hi. f j }
+-- Nothing is of a table that is not there.
+pub ahead-all : {k : ℕ} {best : Span} {A : ℕ → Type 0} → k ≤ best .from → ((j : ℕ) → A j) → Ahead k best A best
+ahead-all h f = record { from = h; upto = omega arith; some = inr refl; passed = λ j lo hi. f j }
+
+-- One more table was looked at.
+pub ahead-both : {k : ℕ} {best mid r : Span} {A B : ℕ → Type 0} → Ahead k best A mid → Ahead k mid B r → Ahead k best (λ j. A j × B j) r
+ahead-both {best = best} {r = r} a b =
+    let u = a .upto in
+    let v = b .upto in
+    record {
+      from = b .from;
+      upto = omega arith;
+      some = ⊎-elim inl (λ e. ⊎-elim (λ h. inl (rw e h)) (λ f. inr (e ∙ f)) (a .some)) (b .some);
+      passed = λ j lo hi. (a .passed j lo (omega arith), b .passed j lo hi);
+    }
 
 -- Before the first or past the last of a row, neither test of it holds.
 module _ (i f l : ℕ) (fl : f ≤ l) (out : (i < f) ⊎ (l < i)) where
@@ -48,7 +63,7 @@ module _ (i f l : ℕ) (fl : f ≤ l) (out : (i < f) ⊎ (l < i)) where
       none false = refl
 
 pub root-outside : (q : Plan) → PlanFits q → (j : ℕ) → Outside (1024 * q .domain + q .«first_block» .number) (1024 * q .domain + q .«last_block» .number + 1) j
-    → RootStays q j
+    → RootIdle q j
 root-outside q r j o e x =
     let (lo, hi) = in-within (1024 * q .domain) 1024 j e in
     let i = j - 1024 * q .domain in
@@ -70,8 +85,8 @@ table-outside e n j o z = let (lo, hi) = table-within e n j z in o lo hi
 
 pub middle-outside : (q : Plan) → PlanFits q → (e : Edge) (first past j : ℕ) → e .old < 2147483648
     → PagesBefore (1024 * e .number) (q .«first_page» .number) first → PagesBefore (1024 * e .number) (q .«last_page» .number + 1) past
-    → Outside (e .last + first) (e .last + past) j → MiddleStays q e j
-middle-outside q r e first past j h a b o z x =
+    → Outside (e .last + first) (e .last + past) j → MiddleIdle q e j
+middle-outside q r e first past j h a b o y z x =
     let (lo, hi) = table-within e 1024 j z in
     let i = 1024 * e .number + (j - e .last) in
     let out : (i < q .«first_page» .number) ⊎ (q .«last_page» .number < i) = side lo hi in
@@ -87,29 +102,104 @@ middle-outside q r e first past j h a b o z x =
       ]
     ]
 
--- A word that stays in each table of the plan stays.
-pub all-stay : (q : Plan) (j : ℕ) → RootStays q j → MiddleStays q (q .«first_block») j → MiddleStays q (q .«last_block») j
-    → LeafStays (q .«first_page») j → LeafStays (q .«last_page») j → Stays q j
-unfolding after
-all-stay q j a b c d e x = by-cases (InTable (1024 * q .domain) 1024 j)
-    (λ t. rw t (a t x))
-    (λ f. rw f (by-cases (tableOf (q .«first_block») 1024 j)
-    (λ t. rw t (b t x))
-    (λ g. rw g (by-cases (tableOf (q .«last_block») 1024 j)
-    (λ t. rw t (c t x))
-    (λ h. rw h (by-cases (tableOf (q .«first_page») 64 j)
-    (λ t. absurd (d t))
-    (λ k. rw k (by-cases (tableOf (q .«last_page») 64 j) (λ t. absurd (e t)) (λ l. rw l refl)))))))))
+-- One of four is enough.
+first-of : (a b c d : Bool) → a ≡ true → (a || b || c || d) ≡ true
+first-of true b c d e = refl
+first-of false b c d e = absurd (false≢true e)
 
--- A run passes over words that stay.
-pub at-ahead : {s : Shape} {d : ℕ} {paint : Paint} {q : Plan} {old : List ℕ} {Q : ℕ → ℕ} {kept : ℕ → Bool} {n c i best k left : ℕ} {x : List ℕ}
-    → Planned s d paint q old Q kept → Ahead i best (Stays q) k → At s d paint old Q kept n c i x left → At s d paint old Q kept n c k x left
-at-ahead {old = old} {Q = Q} {i = i} {k = k} p h a = at-jump i k (h .from) stays a
+second-of : (a b c d : Bool) → b ≡ true → (a || b || c || d) ≡ true
+second-of true b c d e = refl
+second-of false true c d e = refl
+second-of false false c d e = absurd (false≢true e)
+
+third-of : (a b c d : Bool) → c ≡ true → (a || b || c || d) ≡ true
+third-of true b c d e = refl
+third-of false true c d e = refl
+third-of false false true d e = refl
+third-of false false false d e = absurd (false≢true e)
+
+fourth-of : (a b c d : Bool) → d ≡ true → (a || b || c || d) ≡ true
+fourth-of true b c d e = refl
+fourth-of false true c d e = refl
+fourth-of false false true d e = refl
+fourth-of false false false true e = refl
+fourth-of false false false false e = absurd (false≢true e)
+
+-- An edge's table that is not one that stays is new.
+table-new : (e : Edge) (n j : ℕ) → tableOf e n j ≡ true → isLead (e .old) ≡ false → (isNew e && InTable (e .last) n j) ≡ true
+table-new e n j z f = let (a, b) = and-both (isLead (e .last)) (InTable (e .last) n j) z in rw (a, b, f) refl
+
+-- An edge without a table, one whose table stays, and words outside a new table.
+pub new-none : (e : Edge) (n : ℕ) → 2147483648 ≤ e .last → (j : ℕ) → NotNew e n j
+new-none e n h j = rw (le-ltb (e .last) 2147483648 h) refl
+
+pub new-kept : (e : Edge) (n : ℕ) → e .old < 2147483648 → (j : ℕ) → NotNew e n j
+new-kept e n h j = rw (lt-ltb (e .old) 2147483648 h) (none (isLead (e .last)))
   where
-    stays : (j : ℕ) → i ≤ j → j < k → Q j ≡ words old j
-    stays j lo hi = elim (decLt j (length old)) [
-      | yes e ↦ sym (p .final j e) ∙ h .passed j lo hi (words old j)
-      | no e ↦ p .goal .beyond j (omega arith)
+    none : (b : Bool) → ((b && false) && InTable (e .last) n j) ≡ false
+    none true = refl
+    none false = refl
+
+pub new-outside : (e : Edge) (n j : ℕ) → Outside (e .last) (e .last + n) j → NotNew e n j
+new-outside e n j o = by-cases (isNew e && InTable (e .last) n j)
+    (λ t. absurd (let (a, b) = and-both (isNew e) (InTable (e .last) n j) t in let (lo, hi) = in-within (e .last) n j b in o lo hi))
+    (λ f. f)
+
+module _ (q : Plan) (j : ℕ) where
+  -- A word that is idle in each table that stays is idle among the words that stay in place.
+  pub kept-idle : RootIdle q j → MiddleIdle q (q .«first_block») j → MiddleIdle q (q .«last_block») j → LeafIdle (q .«first_page») j
+      → LeafIdle (q .«last_page») j → KeptIdle q j
+  unfolding after newWord
+  kept-idle a b c d e = by-cases (InTable (1024 * q .domain) 1024 j)
+      (λ t. inl (λ x. rw t (a t x)))
+      (λ f. by-cases (tableOf (q .«first_block») 1024 j)
+      (λ t. by-cases (isLead (q .«first_block» .old))
+      (λ l. inl (λ x. rw (f, t) (b l t x)))
+      (λ n. inr (first-of _ _ _ _ (table-new (q .«first_block») 1024 j t n))))
+      (λ g. by-cases (tableOf (q .«last_block») 1024 j)
+      (λ t. by-cases (isLead (q .«last_block» .old))
+      (λ l. inl (λ x. rw (f, g, t) (c l t x)))
+      (λ n. inr (second-of (isNew (q .«first_block») && InTable (q .«first_block» .last) 1024 j) _ _ _ (table-new (q .«last_block») 1024 j t n))))
+      (λ h. by-cases (tableOf (q .«first_page») 64 j)
+      (λ t. by-cases (isLead (q .«first_page» .old))
+      (λ l. absurd (d l t))
+      (λ n. inr (third-of (isNew (q .«first_block») && InTable (q .«first_block» .last) 1024 j)
+      (isNew (q .«last_block») && InTable (q .«last_block» .last) 1024 j) _ _ (table-new (q .«first_page») 64 j t n))))
+      (λ k. by-cases (tableOf (q .«last_page») 64 j)
+      (λ t. by-cases (isLead (q .«last_page» .old))
+      (λ l. absurd (e l t))
+      (λ n. inr (fourth-of (isNew (q .«first_block») && InTable (q .«first_block» .last) 1024 j)
+      (isNew (q .«last_block») && InTable (q .«last_block» .last) 1024 j) (isNew (q .«first_page») && InTable (q .«first_page» .last) 64 j) _
+      (table-new (q .«last_page») 64 j t n))))
+      (λ l. inl (λ x. rw (f, g, h, k, l) refl))))))
+
+  -- A word that is of none of the four is of no new table.
+  pub new-idle : NotNew (q .«first_block») 1024 j → NotNew (q .«last_block») 1024 j → NotNew (q .«first_page») 64 j → NotNew (q .«last_page») 64 j
+      → NewIdle q j
+  unfolding newWord
+  new-idle a b c d = rw (a, b, c, d) refl
+
+-- A run passes over words that are idle in its phase.
+pub at-ahead : {s : Shape} {d : ℕ} {paint : Paint} {q : Plan} {old : List ℕ} {Q : ℕ → ℕ} {kept : ℕ → Bool} {n c i k left : ℕ} {x : List ℕ}
+    → Planned s d paint q old Q kept → i ≤ k → ((j : ℕ) → i ≤ j → j < k → Idle q c j) → At s d paint old Q kept n c i x left
+    → At s d paint old Q kept n c k x left
+at-ahead {s = s} {q = q} {old = old} {Q = Q} {kept = kept} {c = c} {i = i} {k = k} p h idle a = at-pass i k h passes a
+  where
+    other : (j : ℕ) → newWord q j ≡ not (eqb c 2) → j < length old → Q j ≢ words old j → phases s old kept j ≢ c
+    other j e l m = by-phase (kept j) (sym (p .new j l m) ∙ e)
+      where
+        by-phase : (b : Bool) → not b ≡ not (eqb c 2) → cond b (cond (leads (zone (s .domains) (s .middles) (s .leaves) j) (words old j)) 1 3) 2 ≢ c
+        by-phase true z y = one-or-three (leads (zone (s .domains) (s .middles) (s .leaves) j) (words old j)) (y ∙ eqb-true c 2 (not-false (eqb c 2) (sym z)))
+          where
+            one-or-three : (b : Bool) → _≡_ {A = ℕ} (cond b 1 3) 2 → ⊥
+            one-or-three true w = omega arith
+            one-or-three false w = omega arith
+        by-phase false z y = eqb-false c 2 (not-true (eqb c 2) (sym z)) (sym y)
+
+    passes : (j : ℕ) → i ≤ j → j < k → (Q j ≡ words old j) ⊎ (phases s old kept j ≢ c)
+    passes j lo hi = elim (decLt j (length old)) [
+      | yes e ↦ ⊎-elim (λ z. inl (sym (p .final j e) ∙ z (words old j))) (λ z. elim (ℕ-discrete (Q j) (words old j)) [ yes g ↦ inl g | no g ↦ inr (other j z e g) ]) (idle j lo hi)
+      | no e ↦ inl (p .goal .beyond j (omega arith))
     ]
 
 -- A pool of a shape has few words.

@@ -1,7 +1,7 @@
 -- Where a change begins, how it goes from phase to phase and over words that stay, and where it ends.
 use Prim.Native.Nat.{ℕ, zero, suc, _+_, _-_, _≤_, _<_}
 use mathlib.Core.Path.{_≡_, refl, sym, ap, _∙_, fun-ext}
-use mathlib.Core.Logic.{_≢_, _⊎_, inl, inr}
+use mathlib.Core.Logic.{_≢_, _⊎_, inl, inr, ⊎-elim}
 use mathlib.Core.Bool.{Bool, true, false, cond, _&&_, _||_}
 use mathlib.Core.List.{List}
 use native.Mathlib.Omega.{arith}
@@ -68,23 +68,32 @@ same u v z false true = sym z
 same u v z false false = refl
 
 module _ {s : Shape} {d : ℕ} {paint : Paint} {old : List ℕ} {Q : ℕ → ℕ} {kept : ℕ → Bool} {n : ℕ} {x : List ℕ} {left : ℕ} where
-  -- Words that are to stay are passed over in one step.
-  pub at-jump : {c : ℕ} (i k : ℕ) → i ≤ k → ((j : ℕ) → i ≤ j → j < k → Q j ≡ words old j) → At s d paint old Q kept n c i x left
+  -- Words that are to stay, or are of another phase, are passed over in one step.
+  pub at-pass : {c : ℕ} (i k : ℕ) → i ≤ k → ((j : ℕ) → i ≤ j → j < k → (Q j ≡ words old j) ⊎ (phases s old kept j ≢ c)) → At s d paint old Q kept n c i x left
       → At s d paint old Q kept n c k x left
-  at-jump {c} i k lo stays a = record {
+  at-pass {c} i k lo idle a = record {
     goal = a .goal;
     pool = λ j. a .pool j ∙ elim (decLt j i) [
-      | yes e ↦ ap (λ b. cond (ltb (phases s old kept j) c || (eqb (phases s old kept j) c && b)) (Q j) (words old j)) (lt-ltb j i e ∙ sym (lt-ltb j k (omega arith)))
+      | yes e ↦ ap (test j) (lt-ltb j i e ∙ sym (lt-ltb j k (omega arith)))
       | no e ↦ elim (decLt j k) [
-        | yes f ↦ same (Q j) (words old j) (stays j (omega arith) f) (ltb (phases s old kept j) c || (eqb (phases s old kept j) c && ltb j i))
-            (ltb (phases s old kept j) c || (eqb (phases s old kept j) c && ltb j k))
-        | no f ↦ ap (λ b. cond (ltb (phases s old kept j) c || (eqb (phases s old kept j) c && b)) (Q j) (words old j)) (le-ltb j i (omega arith) ∙ sym (le-ltb j k (omega arith)))
+        | yes f ↦ ⊎-elim
+            (λ z. same (Q j) (words old j) z (ltb (phases s old kept j) c || (eqb (phases s old kept j) c && ltb j i))
+            (ltb (phases s old kept j) c || (eqb (phases s old kept j) c && ltb j k)))
+            (λ z. rw (ne-eqb (phases s old kept j) c z) refl) (idle j (omega arith) f)
+        | no f ↦ ap (test j) (le-ltb j i (omega arith) ∙ sym (le-ltb j k (omega arith)))
       ]
     ];
     done = a .done;
     sum = a .sum;
     cut = a .cut;
   }
+    where
+      test : ℕ → Bool → ℕ
+      test j b = cond (ltb (phases s old kept j) c || (eqb (phases s old kept j) c && b)) (Q j) (words old j)
+
+  pub at-jump : {c : ℕ} (i k : ℕ) → i ≤ k → ((j : ℕ) → i ≤ j → j < k → Q j ≡ words old j) → At s d paint old Q kept n c i x left
+      → At s d paint old Q kept n c k x left
+  at-jump i k lo stays = at-pass i k lo (λ j a b. inl (stays j a b))
 
   -- Past the last word the next phase begins.
   pub at-turn : (c : ℕ) → At s d paint old Q kept n c (length old) x left → At s d paint old Q kept n (c + 1) 0 x left

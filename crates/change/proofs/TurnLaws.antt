@@ -5,6 +5,7 @@ use mathlib.Core.Logic.{_≢_, _⊎_, inl, inr}
 use mathlib.Core.Bool.{Bool, true, false, true≢false, false≢true}
 use mathlib.Core.List.{List}
 use native.Mathlib.Omega.{arith}
+use native.Mathlib.Decide.{ℕ-discrete}
 use lib.ListN.{length, set, length-set}
 use Rattle.theory.specs.Pool.{words}
 use Rattle.table.specs.declared.Shape.{Shape}
@@ -65,6 +66,14 @@ module _ (s : Shape) (q : Plan) (c k : ℕ) (x : List ℕ) (left : ℕ) (h : k <
         stop = λ t. absurd (false≢true t);
         wanted = λ t. absurd (false≢true t);
       }
+
+-- A word of another phase is passed over, whatever it is to hold.
+pub turn-elsewhere : (s : Shape) (q : Plan) (c k : ℕ) (x : List ℕ) (left : ℕ) → k < length x → phaseOf s q k (words x k) ≢ c
+    → TurnIs s q c k x left (record { left = left; cut = false }) x
+turn-elsewhere s q c k x left h n = elim (ℕ-discrete (after q k (words x k)) (words x k)) [
+  | yes e ↦ turn-same s q c k x left h e
+  | no e ↦ turn-other s q c k x left h e n
+]
 
 -- A run that was taken on stands where it was taken.
 pub running-on : {s : Shape} {q : Plan} {c i k : ℕ} {x y : List ℕ} {l m : ℕ} → length y ≡ length x → Running s q c i x l

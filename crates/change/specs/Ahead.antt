@@ -1,36 +1,62 @@
--- Which words a plan leaves as they are. For the inner functions.
+-- Which words have nothing to do in a phase. For the inner functions.
 use Prim.Native.Nat.{ℕ, _+_, _*_, _-_, _<_, _≤_}
 use mathlib.Core.Path.{_≡_}
-use mathlib.Core.Bool.{true}
+use mathlib.Core.Logic.{_⊎_}
+use mathlib.Core.Bool.{true, false, not, cond, _&&_}
+use lib.Dec.{eqb}
 use Rattle.plan.specs.declared.Edge.{Edge}
 use Rattle.plan.specs.declared.Plan.{Plan}
-use Rattle.plan.specs.Plan.{InTable, tableOf, rootAfter, pageAfter, after}
+use Rattle.plan.specs.Plan.{isLead, isNew, InTable, tableOf, rootAfter, pageAfter, after, newWord}
+use Rattle.change.specs.declared.ahead.Row.{Row}
+use Rattle.change.specs.declared.ahead.Span.{Span}
 
--- From word `k` on the next that matters is `r`, at most `best`: all before it are as `Passed` says.
-pub record Ahead (k best : ℕ) (Passed : ℕ → Type 0) (r : ℕ) : Type 0 where
-  pub from : k ≤ r
-  pub upto : r ≤ best
-  pub passed : (j : ℕ) → k ≤ j → j < r → Passed j
+-- From word `k` on the next row is `r`, not after `best`: all words before it are as `Passed` says. It has a word, or is `best`.
+pub record Ahead (k : ℕ) (best : Span) (Passed : ℕ → Type 0) (r : Span) : Type 0 where
+  pub from : k ≤ r .from
+  pub upto : r .from ≤ best .from
+  pub some : (r .from < r .past) ⊎ (r ≡ best)
+  pub passed : (j : ℕ) → k ≤ j → j < r .from → Passed j
 
 -- Word `j` is none of those from `start` up to `past`.
 abbrev pub Outside : ℕ → ℕ → ℕ → Type 0
 Outside start past j = start ≤ j → j < past → ⊥
 
--- The plan leaves word `j` as it is, ..
+-- The plan leaves word `j` as it is.
 abbrev pub Stays : Plan → ℕ → Type 0
 Stays q j = (x : ℕ) → after q j x ≡ x
 
--- .. if it is one of the domain's root, ..
-abbrev pub RootStays : Plan → ℕ → Type 0
-RootStays q j = InTable (1024 * q .domain) 1024 j ≡ true → (x : ℕ) → rootAfter q (j - 1024 * q .domain) x ≡ x
+-- Of the words of the domain's root, of an edge's middle table that stays and of its leaf that stays, `j` is none that the plan alters.
+abbrev pub RootIdle : Plan → ℕ → Type 0
+RootIdle q j = InTable (1024 * q .domain) 1024 j ≡ true → (x : ℕ) → rootAfter q (j - 1024 * q .domain) x ≡ x
 
--- .. of the middle table of an edge, ..
-abbrev pub MiddleStays : Plan → Edge → ℕ → Type 0
-MiddleStays q e j = tableOf e 1024 j ≡ true → (x : ℕ) → pageAfter q e (j - e .last) x ≡ x
+abbrev pub MiddleIdle : Plan → Edge → ℕ → Type 0
+MiddleIdle q e j = isLead (e .old) ≡ true → tableOf e 1024 j ≡ true → (x : ℕ) → pageAfter q e (j - e .last) x ≡ x
 
--- .. or of its leaf, and it is none of these.
-abbrev pub LeafStays : Edge → ℕ → Type 0
-LeafStays e j = tableOf e 64 j ≡ true → ⊥
+abbrev pub LeafIdle : Edge → ℕ → Type 0
+LeafIdle e j = isLead (e .old) ≡ true → tableOf e 64 j ≡ true → ⊥
+
+-- Word `j` is none of the edge's new table.
+abbrev pub NotNew : Edge → ℕ → ℕ → Type 0
+NotNew e n j = (isNew e && InTable (e .last) n j) ≡ false
+
+-- In the phases of words that stay in place: it stays as it is, or is of a new table. In the phase of new tables: it is of none.
+abbrev pub KeptIdle : Plan → ℕ → Type 0
+KeptIdle q j = Stays q j ⊎ (newWord q j ≡ true)
+
+abbrev pub NewIdle : Plan → ℕ → Type 0
+NewIdle q j = newWord q j ≡ false
+
+-- In phase `c` there is nothing to do at word `j`.
+abbrev pub Idle : Plan → ℕ → ℕ → Type 0
+Idle q c j = Stays q j ⊎ (newWord q j ≡ not (eqb c 2))
+
+-- The next row of a phase that has something to do, from word `k` on and before `to`.
+pub record NextRow (q : Plan) (c k to : ℕ) (r : Row) : Type 0 where
+  pub from : k ≤ r .from
+  pub order : r .from ≤ r .past
+  pub upto : r .past ≤ to
+  pub moves : k < r .past
+  pub passed : (j : ℕ) → k ≤ j → j < r .from → Idle q c j
 
 -- Of the 1,024 pages from page `begin` on, `r` come before page `n`.
 pub record PagesBefore (begin n r : ℕ) : Type 0 where

@@ -244,12 +244,12 @@ fn store_turn(pool: &mut [u32], shape: Shape, plan: Plan, c: u32, k: usize, left
 {
     let x = pool[k];
     let n = k as u32;
-    let v = final_word(plan, n, x);
-    if v == x {
-        return Progress { left, cut: false };
-    }
     let turn = phase_of(shape, plan, n, x);
     if turn != c {
+        return Progress { left, cut: false };
+    }
+    let v = final_word(plan, n, x);
+    if v == x {
         return Progress { left, cut: false };
     }
     if left == 0 {
@@ -264,8 +264,8 @@ fn store_turn(pool: &mut [u32], shape: Shape, plan: Plan, c: u32, k: usize, left
     }
 }
 
-// The words from `from` up to `to` in their phase `c`; those that the plan leaves as they are are passed over. A run that was cut stays so.
-fn store_phase(
+// The words from `from` up to `to` in their phase `c`. A run that was cut stays so.
+fn store_row(
     pool: &mut [u32],
     shape: Shape,
     plan: Plan,
@@ -283,7 +283,7 @@ fn store_phase(
         return before;
     }
     let mut left = before.left;
-    let mut k = ahead::next_word(plan, from, to);
+    let mut k = from;
     while k < to {
         let p = store_turn(pool, shape, plan, c, k, left);
         let stop = p.cut;
@@ -291,9 +291,27 @@ fn store_phase(
             return p;
         }
         left = p.left;
-        k = ahead::next_word(plan, k + 1, to);
+        k += 1;
     }
     Progress { left, cut: false }
+}
+
+// Phase `c`, row by row; between the rows there is nothing to do.
+fn store_phase(pool: &mut [u32], shape: Shape, plan: Plan, c: u32, before: Progress) -> Progress
+    requires { ⌜ (before .cut ≡ false → Running shape plan c 0 (now pool) (before .left)) ⌝ }
+    requires { ⌜ PlanFits plan × (length (now pool) < 4294967296) ⌝ }
+    ensures { λ r. ⌜ PhaseIs shape plan c 0 (length (now (pool .entry))) (now (pool .entry)) before r (now (pool .exit)) ⌝ }
+{
+    let n = pool.len();
+    let mut run = before;
+    let mut k: usize = 0;
+    while k < n {
+        let row = ahead::next_row(plan, c, k, n);
+        let past = row.past;
+        run = store_row(pool, shape, plan, c, row.from, past, run);
+        k = past;
+    }
+    run
 }
 
 // All stores of a plan: what leads and is given up, then the new tables, then the rest.
@@ -301,14 +319,13 @@ fn run_stores(pool: &mut [u32], shape: Shape, plan: Plan, allowance: u32) -> Pro
     requires { ⌜ ReadyToRun shape plan (now pool) ⌝ }
     ensures { λ r. ⌜ RunIs shape plan (now (pool .entry)) allowance r (now (pool .exit)) ⌝ }
 {
-    let n = pool.len();
     let start = Progress {
         left: allowance,
         cut: false,
     };
-    let one = store_phase(pool, shape, plan, 1, 0, n, start);
-    let two = store_phase(pool, shape, plan, 2, 0, n, one);
-    store_phase(pool, shape, plan, 3, 0, n, two)
+    let one = store_phase(pool, shape, plan, 1, start);
+    let two = store_phase(pool, shape, plan, 2, one);
+    store_phase(pool, shape, plan, 3, two)
 }
 
 // A change whose request is in order up to refusal 5. All is decided before the first store.

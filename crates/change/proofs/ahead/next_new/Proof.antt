@@ -1,0 +1,32 @@
+-- `ahead::next_new` meets its contract.
+use borrow.Author.Needs.{needs}
+use Rattle.change.proofs.AheadLaws.{ahead-as, ahead-both, new-idle}
+use Rattle.change.proofs.ahead.next_new.Statement.{statement}
+use Rattle.change.proofs.ahead.next_new.Tie as tie
+
+near-new-requires : tie.Need-near-new-requires
+near-new-requires c κs = search needs
+
+near-new-requires-2 : tie.Need-near-new-requires-2
+near-new-requires-2 c κs = search needs
+
+near-new-requires-3 : tie.Need-near-new-requires-3
+near-new-requires-3 c κs = search needs
+
+near-new-requires-4 : tie.Need-near-new-requires-4
+near-new-requires-4 c κs = search needs
+
+returns : tie.Need-returns
+returns c =
+    ahead-as (ahead-both (ahead-both (ahead-both (c .before .before .before .near-new .ensures) (c .before .before .near-new2 .ensures)) (c .before .near-new3 .ensures)) (c .near-new4 .ensures))
+    (λ j z. new-idle (c .before .before .before .before .args .plan) j (z .0 .0 .0) (z .0 .0 .1) (z .0 .1) (z .1))
+
+pub next-new-spec : {M : Type 1} → statement M
+next-new-spec =
+    tie.close
+    (tie.spec
+    near-new-requires
+    near-new-requires-2
+    near-new-requires-3
+    near-new-requires-4
+    returns)
