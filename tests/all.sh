@@ -31,7 +31,10 @@ run() {
 
 run rt ci
 run bash tests/units.sh
+run bash tests/papers.sh
+run bash tests/wrong.sh
 run bash tests/listing.sh
+run bash tests/outside.sh
 
 echo "$passed passed, $failed failed"
 [ "$failed" -eq 0 ] && [ "$passed" -gt 0 ]

@@ -64,6 +64,7 @@ workspace() {
 }
 
 library
+example first_steps
 example brown_out
 workspace
 

@@ -65,6 +65,16 @@ named = set(re.findall(r"`([a-z0-9_]+\*?)`", promises))
 for edit in sorted(EDITS):
     tell(any(edit == n or (n.endswith("*") and edit.startswith(n[:-1])) for n in named), f"the wrong program {edit} is named nowhere in docs/PROMISES.md")
 
+# The README's lines of C are those of an example that tests/outside.sh builds and runs; the program's output is that of a listing test.
+example = open("examples/first_steps.c").read()
+shown = [line.strip() for line in open("README.md") if line.startswith("    ") and ("gol_" in line or "GOL_" in line)]
+tell(shown, "README.md shows no line of C")
+for line in shown:
+    tell(line in example, f"README.md: `{line}` is not in examples/first_steps.c")
+listing = "".join("    " + line for line in open("tests/listing/paper.out"))
+tell(listing in open("README.md").read(), "README.md does not show the listing of examples/rights.txt")
+tell(open("examples/rights.txt").read() == open("tests/listing/paper.in").read(), "examples/rights.txt is not the paper's example")
+
 for line in failed:
     print("papers:", line)
 print(f"papers: {passed} passed, {len(failed)} failed")
