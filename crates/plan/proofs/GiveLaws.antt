@@ -1,7 +1,7 @@
 -- Laws of giving places to the new tables of the two edges of one height: each takes the next free place, or the tables wanted are too many.
 use Prim.Native.Nat.{ℕ, zero, suc, _+_, _*_, _/_, _%_, _≤_, _<_}
 use mathlib.Core.Path.{_≡_, refl, sym, subst, ap, _∙_}
-use mathlib.Core.Logic.{_≢_, _⊎_, ⊎-elim}
+use mathlib.Core.Logic.{_≢_, _⊎_, ⊎-elim, inl}
 use mathlib.Core.Bool.{Bool, true, false, cond, _&&_, not, true≢false}
 use mathlib.Core.List.{List}
 use native.Mathlib.Omega.{arith}
@@ -287,3 +287,8 @@ module _ {s : Shape} {d : ℕ} {paint : Paint} {P : ℕ → ℕ} {h : ℕ} {f : 
 -- The next place is looked for below the last.
 pub taken-low : {f : List Bool} {c m from long : ℕ} {e g : Edge} {x : ℕ} → c ≤ m → TakenIs f c m from long e (At g x) → x ≤ m
 taken-low le k = ⊎-elim (λ y. let z = y .2 in omega arith) (λ y. let z = y .next in let b = y .below in omega arith) k
+
+-- An edge that asks for no place is the same whatever is marked.
+pub taken-plain : {f g : List Bool} {c m from long : ℕ} {e x : Edge} {b : ℕ} → isNew e ≡ false → TakenIs g c m from long e (At x b)
+    → TakenIs f c m from long e (At x b)
+taken-plain z t = ⊎-elim inl (λ k. absurd (true≢false (sym (k .is-new) ∙ z))) t

@@ -111,6 +111,15 @@ module _ (s : Shape) (d : ℕ) (paint : Paint) {P : ℕ → ℕ} (range : InRang
         (λ e. rw e (take (sym (stays-is s d paint q h i hi bi t o) ∙ e)))
         (λ e. rw e (skip (sym (stays-is s d paint q h i hi bi t o) ∙ e))))
 
+  -- Marks that are right there are, whether or not they are made.
+  pub kept-exists : {first last : Edge} → EndsTold s d paint P h first last → (i : ℕ) → i ≤ n → (x : Marks) × State i (x .on)
+  kept-exists t zero b = (record { on = replicate 64 false }, kept-none)
+  kept-exists {first} {last} t (suc i) b =
+      let (x, k) = kept-exists t i (omega arith) in
+      by-cases (old P h i)
+      (λ o. (cond (staysOf d first last (domainOf h i) (i % blocks h)) (marked x (at i)) x, rw (← add-one i) (kept-block i (omega arith) o x k t)))
+      (λ o. (x, kept-over i (suc i) (x .on) (omega arith) (λ j lo hi. let e : j ≡ i = omega arith in ap (old P h) e ∙ o) k))
+
   -- Once all blocks are passed, giving out can start: free are the places that are not marked.
   pub kept-free : {f : List Bool} → State n f
       → (free : ℕ → Bool) × (owner : ℕ → ℕ) × Handing n m (want T h) (old P h) free at 0 0 owner × ((p : ℕ) → p < m → free p ≡ not (getD f p false))

@@ -207,6 +207,14 @@ pub record Giving (s : Shape) (d : ℕ) (paint : Paint) (P : ℕ → ℕ) (h : �
   pub kept : Kept s d paint P h (blocks h * s .domains) f
   pub told : EndsTold s d paint P h first last
 
+-- Neither edge gets a table that it did not have.
+abbrev pub NoneNew : Edge → Edge → Type 0
+NoneNew first last = (isNew first ≡ false) × (isNew last ≡ false)
+
+-- The marks serve to give out places: those of all kept tables are marked, or no place is asked for.
+abbrev pub MarksServe : (s : Shape) (d : ℕ) (paint : Paint) (P : ℕ → ℕ) (h : ℕ) (first last : Edge) (f : List Bool) → Type 0
+MarksServe s d paint P h first last f = NoneNew first last ⊎ Kept s d paint P h (blocks h * s .domains) f
+
 -- Whichever change that is, the places are right for it.
 abbrev pub EndsGiven : List Bool → ℕ → ℕ → ℕ → Edge → Edge → Ends → Type 0
 EndsGiven f m from long first last r =

@@ -9,10 +9,10 @@ ghost use Rattle.theory.specs.Settled.{Settled};
 ghost use Rattle.table.specs.Shape.{Fits};
 ghost use Rattle.table.specs.Map.{formOf};
 ghost use Rattle.plan.specs.Plan.{rootAfter, pageAfter, leafAfter, after, newWord, phaseOf, InTable};
-ghost use Rattle.plan.specs.Plan.{isLead};
+ghost use Rattle.plan.specs.Plan.{isLead, isNew};
 ghost use Rattle.plan.specs.Planning.{Regular};
 ghost use Rattle.plan.specs.Edges.{PlansChange, edgeFor, edgeAt, entryAt, ReadableRoot, RootGives, draftOf, staysOf, marked};
-ghost use Rattle.plan.specs.Edges.{EndsTold, Kept, FirstFree, TakenIs, EndsGiven};
+ghost use Rattle.plan.specs.Edges.{EndsTold, Kept, FirstFree, TakenIs, NoneNew, MarksServe, EndsGiven};
 use table::Shape;
 use targets::Paint;
 use targets::Target;
@@ -208,8 +208,36 @@ fn keep_place(
     m
 }
 
+// Whether the edge gets a table that it did not have.
+fn is_new(edge: Edge) -> bool
+    ensures { λ r. ⌜ r ≡ isNew edge ⌝ }
+{
+    let old = edge.old;
+    let last = edge.last;
+    if last >= 0x8000_0000 {
+        return false;
+    }
+    if old >= 0x8000_0000 {
+        return true;
+    }
+    false
+}
+
+// Whether neither end of the region does.
+fn none_new(first: Edge, last: Edge) -> bool
+    ensures { λ r. ⌜ (r ≡ true → NoneNew first last) ⌝ }
+{
+    if is_new(first) {
+        return false;
+    }
+    if is_new(last) {
+        return false;
+    }
+    true
+}
+
 // The places of the middle tables that are kept, of every domain.
-fn kept_middles(pool: &[u32], shape: Shape, plan: Plan) -> Marks
+fn mark_middles(pool: &[u32], shape: Shape, plan: Plan) -> Marks
     requires { ⌜ Fits shape (length (now pool)) ⌝ }
     requires { ⌜ Settled (formOf shape) (words (now pool)) ⌝ }
     requires { ⌜ EndsTold shape (plan .domain) (plan .paint) (words (now pool)) 1 (plan .«first_block») (plan .«last_block») ⌝ }
@@ -231,6 +259,21 @@ fn kept_middles(pool: &[u32], shape: Shape, plan: Plan) -> Marks
         k += 1;
     }
     kept
+}
+
+// The same; where no new table asks for a place, there is nothing to look for.
+fn kept_middles(pool: &[u32], shape: Shape, plan: Plan) -> Marks
+    requires { ⌜ Fits shape (length (now pool)) ⌝ }
+    requires { ⌜ Settled (formOf shape) (words (now pool)) ⌝ }
+    requires { ⌜ EndsTold shape (plan .domain) (plan .paint) (words (now pool)) 1 (plan .«first_block») (plan .«last_block») ⌝ }
+    ensures { λ r. ⌜ MarksServe shape (plan .domain) (plan .paint) (words (now (pool .entry))) 1 (plan .«first_block») (plan .«last_block») (r .on) ⌝ }
+{
+    let first = plan.first_block;
+    let last = plan.last_block;
+    if none_new(first, last) {
+        return Marks { on: [false; 64] };
+    }
+    mark_middles(pool, shape, plan)
 }
 
 // The same for the leaves of the middle table to which root word `k` leads.
@@ -264,7 +307,7 @@ fn keep_leaves(pool: &[u32], shape: Shape, plan: Plan, k: u32, before: Marks) ->
 }
 
 // The places of the leaves that are kept, of every domain.
-fn kept_leaves(pool: &[u32], shape: Shape, plan: Plan) -> Marks
+fn mark_leaves(pool: &[u32], shape: Shape, plan: Plan) -> Marks
     requires { ⌜ Fits shape (length (now pool)) ⌝ }
     requires { ⌜ Settled (formOf shape) (words (now pool)) ⌝ }
     requires { ⌜ EndsTold shape (plan .domain) (plan .paint) (words (now pool)) 0 (plan .«first_page») (plan .«last_page») ⌝ }
@@ -282,6 +325,21 @@ fn kept_leaves(pool: &[u32], shape: Shape, plan: Plan) -> Marks
         k += 1;
     }
     kept
+}
+
+// The same; where no new leaf asks for a place, there is nothing to look for.
+fn kept_leaves(pool: &[u32], shape: Shape, plan: Plan) -> Marks
+    requires { ⌜ Fits shape (length (now pool)) ⌝ }
+    requires { ⌜ Settled (formOf shape) (words (now pool)) ⌝ }
+    requires { ⌜ EndsTold shape (plan .domain) (plan .paint) (words (now pool)) 0 (plan .«first_page») (plan .«last_page») ⌝ }
+    ensures { λ r. ⌜ MarksServe shape (plan .domain) (plan .paint) (words (now (pool .entry))) 0 (plan .«first_page») (plan .«last_page») (r .on) ⌝ }
+{
+    let first = plan.first_page;
+    let last = plan.last_page;
+    if none_new(first, last) {
+        return Marks { on: [false; 64] };
+    }
+    mark_leaves(pool, shape, plan)
 }
 
 // The first place from `from` on that is not marked, or `to`.
@@ -332,6 +390,7 @@ fn take_place(kept: Marks, from: u32, count: u32, base: u32, long: u32, edge: Ed
 fn place_ends(kept: Marks, count: u32, base: u32, long: u32, first: Edge, last: Edge) -> Ends
     requires { ⌜ (count ≤ 64) × (base ≤ 12288) × (long ≤ 1024) ⌝ }
     ensures { λ r. ⌜ EndsGiven (kept .on) count base long first last r ⌝ }
+    ensures { λ r. ⌜ (NoneNew first last → (f : List Bool) → EndsGiven f count base long first last r) ⌝ }
 {
     let f = first.number;
     let l = last.number;

@@ -1,11 +1,13 @@
 -- `plan::plan_change` meets its contract.
 use mathlib.Core.Path.{_≡_, subst}
+use mathlib.Core.Logic.{⊎-elim}
 use native.Mathlib.Omega.{arith}
 use borrow.Author.Needs.{needs}
 use Rattle.theory.specs.Pool.{words, rightOf}
 use Rattle.table.specs.Map.{formOf}
 use Rattle.plan.specs.Edges.{draftOf, EndsAre}
 use Rattle.plan.proofs.DraftLaws.{pool-root, pool-gives}
+use Rattle.plan.proofs.KeptLaws.{kept-exists}
 use Rattle.plan.proofs.PlanLaws.{told-blocks, told-pages, giving-middles, giving-leaves, plan-ready, full-middles, full-leaves}
 use Rattle.plan.proofs.plan_change.Statement.{statement}
 use Rattle.plan.proofs.plan_change.Tie as tie
@@ -54,9 +56,12 @@ middles c =
     let f = c .before .before .before .before .before .before in
     let s = f .before .before in
     let a = s .args in
-    c .place-ends .ensures (a .shape) (a .domain) (a .paint) (words (a .pool .now)) 1
-    (giving-middles (a .shape) (a .domain) (a .paint) (words (a .pool .now)) (s .pre .1 .1 .1) (draft-is f) (s .pre .0 .range) (s .pre .1 .0)
-    (s .pre .1 .1 .0) _ (c .before .kept-middles .ensures))
+    let told = told-blocks (a .shape) (a .domain) (a .paint) (words (a .pool .now)) (s .pre .1 .1 .1) (draft-is f) in
+    ⊎-elim
+    (λ z. let (x, k) = kept-exists (a .shape) _ _ (s .pre .0 .range) (s .pre .1 .0) 1 (omega arith) told _ (omega arith) in
+    c .place-ends .ensures .1 z (x .on) (a .shape) (a .domain) (a .paint) (words (a .pool .now)) 1 (giving-middles (a .shape) (a .domain) (a .paint) (words (a .pool .now)) (s .pre .1 .1 .1) (draft-is f) (s .pre .0 .range) (s .pre .1 .0) (s .pre .1 .1 .0) _ k))
+    (λ k. c .place-ends .ensures .0 (a .shape) (a .domain) (a .paint) (words (a .pool .now)) 1 (giving-middles (a .shape) (a .domain) (a .paint) (words (a .pool .now)) (s .pre .1 .1 .1) (draft-is f) (s .pre .0 .range) (s .pre .1 .0) (s .pre .1 .1 .0) _ k))
+    (c .before .kept-middles .ensures)
 
 returns : tie.Need-returns
 returns c =
@@ -92,9 +97,12 @@ leaves c =
     let f = c .before .before .before .before .before .before .before .before .before .before .before in
     let s = f .before .before in
     let a = s .args in
-    c .place-ends2 .ensures (a .shape) (a .domain) (a .paint) (words (a .pool .now)) 0
-    (giving-leaves (a .shape) (a .domain) (a .paint) (words (a .pool .now)) (s .pre .1 .1 .1) (draft-is f) (s .pre .0 .range) (s .pre .1 .0)
-    (s .pre .1 .1 .0) _ (c .before .kept-leaves .ensures))
+    let told = told-pages (a .shape) (a .domain) (a .paint) (words (a .pool .now)) (s .pre .1 .1 .1) (draft-is f) in
+    ⊎-elim
+    (λ z. let (x, k) = kept-exists (a .shape) _ _ (s .pre .0 .range) (s .pre .1 .0) 0 (omega arith) told _ (omega arith) in
+    c .place-ends2 .ensures .1 z (x .on) (a .shape) (a .domain) (a .paint) (words (a .pool .now)) 0 (giving-leaves (a .shape) (a .domain) (a .paint) (words (a .pool .now)) (s .pre .1 .1 .1) (draft-is f) (s .pre .0 .range) (s .pre .1 .0) (s .pre .1 .1 .0) _ k))
+    (λ k. c .place-ends2 .ensures .0 (a .shape) (a .domain) (a .paint) (words (a .pool .now)) 0 (giving-leaves (a .shape) (a .domain) (a .paint) (words (a .pool .now)) (s .pre .1 .1 .1) (draft-is f) (s .pre .0 .range) (s .pre .1 .0) (s .pre .1 .1 .0) _ k))
+    (c .before .kept-leaves .ensures)
 
 returns-2 : tie.Need-returns-2
 returns-2 c =
