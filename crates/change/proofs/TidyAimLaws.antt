@@ -12,7 +12,7 @@ use Rattle.table.specs.declared.Shape.{Shape}
 use Rattle.table.specs.Shape.{Fits, firstMiddle, firstLeaf}
 use Rattle.table.specs.Map.{leads, formOf}
 use Rattle.targets.specs.declared.Target.{Target}
-use Rattle.targets.specs.Targets.{painted, targetOf, Gives, ReadablePage, ReadableBlock}
+use Rattle.targets.specs.Targets.{painted, targetOf, Gives, Readable}
 use Rattle.targets.proofs.PoolLaws.{root-gives, middle-gives, root-readable, middle-readable}
 use Rattle.targets.proofs.WantedLaws.{unpainted-target}
 use Rattle.change.specs.declared.Progress.{Progress}
@@ -31,7 +31,7 @@ module _ (s : Shape) (x : List ℕ) (left : ℕ) where
     split : 1024 * (k / 1024) + k % 1024 ≡ k
     split = omega arith
 
-    pub root-reads : Tidying s k x left → ReadableBlock x (words x k)
+    pub root-reads : Tidying s k x left → Readable x 2 (words x k)
     root-reads t = rw split at (root-readable s x (t .fits) (t .at .cut .sound) (k / 1024) (k % 1024) (omega arith) (omega arith))
 
     pub root-aim : (t : Target) → leads 2 (words x k) ≡ true → ReadTarget x 2 (words x k) (k % 1024) 4194304 t → AimedAt s k x left t
@@ -53,7 +53,7 @@ module _ (s : Shape) (x : List ℕ) (left : ℕ) where
     cut-in : 1024 * (o / 1024) + o % 1024 ≡ o
     cut-in = omega arith
 
-    pub page-reads : Tidying s (t + i) x left → ReadablePage x (words x (t + i))
+    pub page-reads : Tidying s (t + i) x left → Readable x 1 (words x (t + i))
     page-reads y =
         let r = rw cut-in at (middle-readable s x (y .fits) (y .at .cut .sound) (o / 1024) (o % 1024) i (let z = w .root in omega arith) (omega arith)
         (rw cut-in (low (y .fits))) bi) in

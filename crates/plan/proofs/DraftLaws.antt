@@ -23,7 +23,7 @@ use Rattle.places.proofs.ChangedLaws.{changed-rights}
 use Rattle.targets.specs.declared.Paint.{Paint}
 use Rattle.targets.specs.declared.Target.{Target}
 use Rattle.targets.specs.declared.Target.the-variants.{Says, Mixed}
-use Rattle.targets.specs.Targets.{region, painted, targetOf, Gives, ReadablePage}
+use Rattle.targets.specs.Targets.{region, painted, targetOf, Gives, Readable}
 use Rattle.targets.proofs.TargetLaws.{wanted-mixed, unwanted-said}
 use Rattle.targets.proofs.PoolLaws.{root-gives, middle-gives, virtual-gives, virtual-readable, root-readable}
 use Rattle.plan.specs.declared.Edge.{Edge}
@@ -51,10 +51,10 @@ module _ (p : List ℕ) (d n : ℕ) (bn : n < 1048576) where
   pub entry-stood : isLead root ≡ false → entryAt (words p) 0 d n ≡ eightOf (rightAt root (n / 128 % 8))
   entry-stood l = ap (λ t. cond t (words p (root + n % 1024)) (eightOf (rightAt root (n / 128 % 8)))) l
 
-  pub entry-readable : ReadableRoot p d → ReadablePage p (entryAt (words p) 0 d n)
+  pub entry-readable : ReadableRoot p d → Readable p 1 (entryAt (words p) 0 d n)
   entry-readable z = by-cases (isLead root)
-      (λ l. subst (ReadablePage p) (sym (entry-led l)) (z (n / 1024) (omega arith) .1 .pages l (n % 1024) (omega arith)))
-      (λ l. subst (ReadablePage p) (sym (entry-stood l)) (virtual-readable p _ (right-small root _)))
+      (λ l. subst (Readable p 1) (sym (entry-led l)) (z (n / 1024) (omega arith) .1 .entries l (n % 1024) (omega arith)))
+      (λ l. subst (Readable p 1) (sym (entry-stood l)) (virtual-readable p _ (right-small root _)))
 
   pub entry-gives : (R : ℕ → ℕ) → RootGives (words p) d R → Gives (words p) 1 (entryAt (words p) 0 d n) n R
   entry-gives R g = by-cases (isLead root)

@@ -20,7 +20,7 @@ use Rattle.places.proofs.Final.{blocks, domainOf, addressOf, want, old, was, pl
 use Rattle.targets.specs.declared.Paint.{Paint}
 use Rattle.targets.specs.declared.Target.{Target}
 use Rattle.targets.specs.declared.Target.the-variants.{Says, Mixed}
-use Rattle.targets.specs.Targets.{painted, targetOf, Gives, ReadableBlock}
+use Rattle.targets.specs.Targets.{painted, targetOf, Gives, Readable}
 use Rattle.plan.specs.declared.Edge.{Edge}
 use Rattle.plan.specs.declared.Plan.{Plan}
 use Rattle.plan.specs.declared.Marks.{Marks}
@@ -98,7 +98,7 @@ edgeAt P d paint R h n = edgeFor n (entryAt P h d n) (targetOf (painted paint R)
 
 -- The root words of domain `d` are in the pool and readable ..
 abbrev pub ReadableRoot : List ℕ → ℕ → Type 0
-ReadableRoot p d = (b : ℕ) → b < 1024 → (1024 * d + b < length p) × ReadableBlock p (words p (1024 * d + b))
+ReadableRoot p d = (b : ℕ) → b < 1024 → (1024 * d + b < length p) × Readable p 2 (words p (1024 * d + b))
 
 -- .. and give the rights `R`.
 abbrev pub RootGives : (ℕ → ℕ) → ℕ → (ℕ → ℕ) → Type 0

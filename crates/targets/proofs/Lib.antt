@@ -4,8 +4,10 @@ pub mod PackLaws
 pub mod PaintLaws
 pub mod PartLaws
 pub mod PieceLaws
+pub mod HeightLaws
 pub mod GivenLaws
 pub mod SearchLaws
+pub mod EntryLaws
 pub mod PoolLaws
 pub mod WantedLaws
 pub mod UniqueLaws

@@ -15,7 +15,7 @@ use Rattle.table.specs.Shape.{Fits}
 use Rattle.table.specs.Map.{block, part, parts, size, index, leads, form, formOf}
 use Rattle.table.proofs.FormLaws.{leads-place, good-eight}
 use Rattle.table.proofs.FormLaws as FormLaws
-use Rattle.targets.specs.Targets.{given, Gives, GivesLeaf, ReadablePage, ReadableBlock}
+use Rattle.targets.specs.Targets.{given, Gives, GivesLeaf, Readable}
 use Rattle.targets.proofs.GivenLaws.{given-leads, given-rights, gives-down, gives-leaf}
 
 module _ (D M L : ℕ) (P : ℕ → ℕ) where
@@ -50,8 +50,10 @@ module _ (P : ℕ → ℕ) (R : ℕ → ℕ) (e n : ℕ) where
   pub leaf-gives : (i : ℕ) → leads 1 e ≡ true → i < 64 → Gives P 1 e n R → GivesLeaf (P (e + i)) (n * 64 + i) R
   leaf-gives i l b g = gives-leaf P R (P (e + i)) (n * 64 + i) (gives-down P R 0 e n i (omega arith) l b g)
 
-pub virtual-readable : (p : List ℕ) (r : ℕ) → r < 4 → ReadablePage p (eightOf r)
-virtual-readable p r b = record { rights = λ l. eight-good r b; table = λ l. absurd (omega (arith, ltb-true (eightOf r) 2147483648 l)) }
+pub virtual-readable : (p : List ℕ) (r : ℕ) → r < 4 → Readable p 1 (eightOf r)
+virtual-readable p r b =
+    let leads-not : leads 1 (eightOf r) ≡ true → ⊥ = λ l. omega (arith, ltb-true (eightOf r) 2147483648 l) in
+    record { rights = λ l. eight-good r b; table = λ l. absurd (leads-not l); entries = λ l. absurd (leads-not l) }
 
 -- In a sound pool, all that is reached is readable.
 module _ (s : Shape) (p : List ℕ) (f : Fits s (length p)) (q : SoundPool (formOf s) (words p)) where
@@ -70,22 +72,17 @@ module _ (s : Shape) (p : List ℕ) (f : Fits s (length p)) (q : SoundPool (form
       inside (suc zero) hi n b e = omega (arith, f .long)
       inside (suc (suc h)) hi n b e = absurd (omega arith)
 
-  pub page-readable : (k : ℕ) → reached 1 k → ReadablePage p (words p k)
-  page-readable k r = record {
-    rights = λ l. good-eight (s .domains) (s .middles) (s .leaves) 0 (words p k) (q .good r) l;
-    table = λ l. table-inside 0 k r l;
+  reached-readable : (h k : ℕ) → reached h k → Readable p h (words p k)
+  reached-readable zero k r = tt
+  reached-readable (suc h) k r = record {
+    rights = λ l. good-eight (s .domains) (s .middles) (s .leaves) h (words p k) (q .good r) l;
+    table = λ l. table-inside h k r l;
+    entries = λ l i b. reached-readable h (words p k + i) (step i r l b);
   }
 
-  pub block-readable : (k : ℕ) → reached 2 k → ReadableBlock p (words p k)
-  block-readable k r = record {
-    rights = λ l. good-eight (s .domains) (s .middles) (s .leaves) 1 (words p k) (q .good r) l;
-    table = λ l. table-inside 1 k r l;
-    pages = λ l i b. page-readable (words p k + i) (step i r l b);
-  }
-
-  pub root-readable : (d b : ℕ) → d < s .domains → b < 1024 → ReadableBlock p (words p (1024 * d + b))
-  root-readable d b bd bb = block-readable (1024 * d + b) (start (d, b, refl, refl, bd, bb))
+  pub root-readable : (d b : ℕ) → d < s .domains → b < 1024 → Readable p 2 (words p (1024 * d + b))
+  root-readable d b bd bb = reached-readable 2 (1024 * d + b) (start (d, b, refl, refl, bd, bb))
 
   pub middle-readable : (d b i : ℕ) → d < s .domains → b < 1024 → leads 2 (words p (1024 * d + b)) ≡ true → i < 1024
-      → ReadablePage p (words p (words p (1024 * d + b) + i))
-  middle-readable d b i bd bb l bi = root-readable d b bd bb .pages l i bi
+      → Readable p 1 (words p (words p (1024 * d + b) + i))
+  middle-readable d b i bd bb l bi = root-readable d b bd bb .entries l i bi

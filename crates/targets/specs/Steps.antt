@@ -1,11 +1,12 @@
 -- The steps by which a target is found, and tables are found to be wanted. Memory word `x` is the four bytes from `4 * x` on.
-use Prim.Native.Nat.{ℕ, _+_, _*_, _<_}
+use Prim.Native.Nat.{ℕ, _+_, _*_, _/_, _<_}
 use mathlib.Core.Path.{_≡_}
 use mathlib.Core.Bool.{Bool, true, false, _&&_, cond}
 use lib.Dec.{leb, ltb}
 use Rattle.words.specs.Rights.{rightAt}
-use Rattle.table.specs.Map.{leads}
-use Rattle.table.specs.Wants.{wantsOf}
+use Rattle.table.specs.Map.{block, leads}
+use Rattle.table.specs.Wants.{wordsIn, wantsOf}
+use Rattle.targets.specs.Targets.{painted, given}
 use Rattle.targets.specs.declared.Paint.{Paint}
 use Rattle.targets.specs.declared.Cover.{Cover}
 use Rattle.targets.specs.declared.Cover.the-variants.{Apart, Partly, Whole}
@@ -45,6 +46,10 @@ Plain R s n u = (j : ℕ) → j < n → R (4 * (s + j)) ≡ u
 abbrev pub OneIs : One → (ℕ → ℕ) → ℕ → ℕ → Type 0
 OneIs (Right u) R s n = Plain R s n u
 OneIs Two R s n = (u : ℕ) → Plain R s n u → ⊥
+
+-- Of the block of height `h` numbered `n`, which has the entry `e` in the pool `P`: sub-block `i` once painted.
+abbrev pub PartIs : (ℕ → ℕ) → Paint → ℕ → ℕ → ℕ → ℕ → One → Type 0
+PartIs P p h e n i o = OneIs o (painted p (given P h e)) (n * (block h / 4) + wordsIn h * i) (wordsIn h)
 
 -- The target is that of a block that wants a table.
 abbrev pub isMixed : Target → Bool

@@ -8,7 +8,7 @@ use Rattle.theory.specs.Pool.{words}
 use Rattle.words.specs.Rights.{rightAt, goodRights}
 use Rattle.words.specs.Region.{covered}
 use Rattle.words.specs.declared.Region.{Region}
-use Rattle.table.specs.Map.{block, part, parts, size, index, leads}
+use Rattle.table.specs.Map.{addresses, block, part, parts, size, index, leads}
 use Rattle.table.specs.Wants.{wantsOf, saidOf}
 use Rattle.targets.specs.declared.Paint.{Paint}
 use Rattle.targets.specs.declared.Target.{Target}
@@ -26,6 +26,10 @@ painted p R a = cond (covered (region p) a) (p .right) (R a)
 abbrev pub targetOf : (ℕ → ℕ) → ℕ → ℕ → Target
 targetOf R h a = cond (wantsOf R h a) Mixed (Says (saidOf R h a))
 
+-- How many blocks of a height there are.
+abbrev pub blocks : ℕ → ℕ
+blocks h = addresses / block h
+
 -- The right that the entry `e` of a height, in the pool `P`, gives to an address.
 unfoldable pub given : (ℕ → ℕ) → ℕ → ℕ → ℕ → ℕ
 given P zero e a = rightAt e (a / part zero % parts zero)
@@ -39,16 +43,16 @@ Gives P h e n R = (a : ℕ) → a / block h ≡ n → R a ≡ given P h e a
 abbrev pub GivesLeaf : ℕ → ℕ → (ℕ → ℕ) → Type 0
 GivesLeaf w n R = (a : ℕ) → a / 64 ≡ n → R a ≡ rightAt w (a / 4 % 16)
 
--- The entry of a page is eight rights, or a leaf in the pool begins where it leads.
-pub record ReadablePage (p : List ℕ) (e : ℕ) : Type 0 where
-  pub rights : leads 1 e ≡ false → goodRights e ≡ true
-  pub table : leads 1 e ≡ true → e + size 0 ≤ length p
+-- The entry `e` of height `h + 1` is eight rights, or leads to a table in the pool whose entries are `Below`.
+pub record ReadableOver (p : List ℕ) (h : ℕ) (Below : ℕ → Type 0) (e : ℕ) : Type 0 where
+  pub rights : leads (suc h) e ≡ false → goodRights e ≡ true
+  pub table : leads (suc h) e ≡ true → e + size h ≤ length p
+  pub entries : leads (suc h) e ≡ true → (i : ℕ) → i < size h → Below (words p (e + i))
 
--- The entry of a block is eight rights, or leads to a table in the pool whose entries are readable.
-pub record ReadableBlock (p : List ℕ) (e : ℕ) : Type 0 where
-  pub rights : leads 2 e ≡ false → goodRights e ≡ true
-  pub table : leads 2 e ≡ true → e + size 1 ≤ length p
-  pub pages : leads 2 e ≡ true → (i : ℕ) → i < size 1 → ReadablePage p (words p (e + i))
+-- The entry `e` of a height is readable: any word of a leaf; above, eight rights, or one that leads to a table of readable entries.
+abbrev pub Readable : List ℕ → ℕ → ℕ → Type 0
+Readable p zero e = Unit {0}
+Readable p (suc h) e = ReadableOver p h (Readable p h) e
 
 -- The test `r` is passed exactly where `A` holds.
 pub record Tells (r : Bool) (A : Type 0) : Type 0 where

@@ -1,12 +1,13 @@
 // Whether a page (4 KB) or a block (4 MB) can be said with eight rights, once a region is painted with a right.
 ghost use mathlib.Core.Path.{_≡_};
-ghost use Prim.Native.Nat.{ℕ, _+_, _*_, _/_, _%_, _<_, _≤_};
+ghost use Prim.Native.Nat.{ℕ, suc, _+_, _*_, _/_, _%_, _<_, _≤_};
 ghost use lib.ListN.{length, getD};
 ghost use Rattle.theory.specs.Pool.{words};
 ghost use Rattle.words.specs.Rights.{rightAt, pack, eightOf};
-ghost use Rattle.table.specs.Wants.{saidOf};
-ghost use Rattle.targets.specs.Targets.{painted, targetOf, given, Gives, GivesLeaf, ReadablePage, ReadableBlock};
-ghost use Rattle.targets.specs.Steps.{CoverIs, rightAfter, Plain, OneIs};
+ghost use Rattle.table.specs.Map.{block, parts, size};
+ghost use Rattle.table.specs.Wants.{wordsIn, above, saidOf};
+ghost use Rattle.targets.specs.Targets.{blocks, painted, targetOf, given, Gives, GivesLeaf, Readable};
+ghost use Rattle.targets.specs.Steps.{CoverIs, rightAfter, Plain, OneIs, PartIs};
 
 mod wanted; // wanted.rt: whether tables are wanted, and a pool settled
 
@@ -142,41 +143,45 @@ fn table_start(e: u32) -> usize
     words::pool_index(table)
 }
 
-// Whether sub-block `i` of a page whose entry leads to a leaf has one right after the painting.
-fn leaf_part(pool: &[u32], paint: Paint, e: u32, page: u32, i: u32) -> One
-    requires { ⌜ (e < 0x80000000) × (e + 64 ≤ length (now pool)) × (page < 1048576) × (i < 8) × (paint .right < 4) ⌝ }
-    ensures { λ r. ⌜ OneIs r (painted paint (given (words (now (pool .entry))) 1 e)) (page * 1024 + 128 * i) 128 ⌝ }
+// How many memory words a sub-block has, where the table that may stand for it has entries of the height `below`.
+fn part_words(below: u32) -> u32
+    ensures { λ r. ⌜ r ≡ wordsIn (suc below) ⌝ }
 {
-    let start = table_start(e);
-    let from = start + 8 * i as usize;
-    let chunk = page * 64 + 8 * i;
-    let w0 = pool[from];
-    let first = paint_word(paint, w0, chunk);
-    let right = words::right_at(first, 0);
-    let same = words::sixteen_of(right);
-    let mut j: u32 = 0;
-    while j < 8 {
-        let w = pool[from + j as usize];
-        let t = paint_word(paint, w, chunk + j);
-        if t != same {
-            return One::Two;
-        }
-        j += 1;
+    if below == 0 {
+        return 128;
     }
-    One::Right(right)
+    131072
 }
 
-// The same of a page with any entry.
-fn page_part(pool: &[u32], paint: Paint, e: u32, page: u32, i: u32) -> One
-    requires { ⌜ ReadablePage (now pool) e ⌝ }
-    requires { ⌜ (page < 1048576) × (i < 8) × (paint .right < 4) ⌝ }
-    ensures { λ r. ⌜ OneIs r (painted paint (given (words (now (pool .entry))) 1 e)) (page * 1024 + 128 * i) 128 ⌝ }
+// How many entries of that table stand for the sub-block.
+fn part_entries(below: u32) -> u32
+    ensures { λ r. ⌜ r ≡ size below / 8 ⌝ }
 {
-    if e < 0x8000_0000 {
-        return leaf_part(pool, paint, e, page, i);
+    if below == 0 {
+        return 8;
     }
+    128
+}
+
+// The entry of a height that says one right for its whole block.
+fn same_entry(height: u32, right: u32) -> u32
+    requires { ⌜ right < 4 ⌝ }
+    ensures { λ r. ⌜ pack (above height) (parts height) (λ i. right) ≡ r ⌝ }
+{
+    if height == 0 {
+        return words::sixteen_of(right);
+    }
+    words::eight_of(right)
+}
+
+// Whether sub-block `i` of a block whose entry is rights has one right after the painting.
+fn rights_part(paint: Paint, below: u32, e: u32, n: u32, i: u32) -> One
+    requires { ⌜ (0x80000000 ≤ e) × (below < 2) × (n < blocks (suc below)) × (i < 8) ⌝ }
+    ensures { λ r. ⌜ ((P : ℕ → ℕ) → PartIs P paint (suc below) e n i r) ⌝ }
+{
     let o = words::right_at(e, i);
-    even_part(paint, o, page * 1024 + 128 * i, 128)
+    let long = part_words(below);
+    even_part(paint, o, (8 * n + i) * long, long)
 }
 
 // Eight rights in one entry.
@@ -194,66 +199,30 @@ fn pack_eight(work: [u32; 8]) -> u32
     acc
 }
 
-// The page's target, sub-block by sub-block.
-fn page_search(pool: &[u32], paint: Paint, e: u32, page: u32) -> Target
-    requires { ⌜ ReadablePage (now pool) e ⌝ }
-    requires { ⌜ (page < 1048576) × (paint .right < 4) ⌝ }
-    ensures { λ r. ⌜ r ≡ targetOf (painted paint (given (words (now (pool .entry))) 1 e)) 1 (page * 4096) ⌝ }
+// The same of a block with any entry: one that leads is searched entry by entry of its table, whose entries have the height `below`.
+fn part(pool: &[u32], paint: Paint, below: u32, e: u32, n: u32, i: u32) -> One
+    requires { ⌜ Readable (now pool) (suc below) e ⌝ }
+    requires { ⌜ (below < 2) × (n < blocks (suc below)) × (i < 8) × (paint .right < 4) ⌝ }
+    ensures { λ r. ⌜ PartIs (words (now (pool .entry))) paint (suc below) e n i r ⌝ }
 {
-    let mut work = [0u32; 8];
-    let mut i: u32 = 0;
-    while i < 8 {
-        let one = page_part(pool, paint, e, page, i);
-        let One::Right(u) = one else {
-            return Target::Mixed;
-        };
-        work[i as usize] = u;
-        i += 1;
-    }
-    Target::Says(pack_eight(work))
-}
-
-// What the entry of a page should be after the painting; `e` is its entry as it stands. A page that is covered whole needs no search, nor
-// does one that is not covered and has no leaf: a block has many of these.
-pub fn page_target(pool: &[u32], paint: Paint, e: u32, page: u32) -> Target
-    requires { ⌜ ReadablePage (now pool) e ⌝ }
-    requires { ⌜ (page < 1048576) × (paint .right < 4) ⌝ }
-    ensures { λ r. ⌜ ((R : ℕ → ℕ) → Gives (words (now (pool .entry))) 1 e page R
-        → r ≡ targetOf (painted paint R) 1 (page * 4096)) ⌝ }
-{
-    let c = meeting(paint, page * 1024, 1024);
-    if let Cover::Whole = c {
-        let right = paint.right;
-        return Target::Says(words::eight_of(right));
-    }
     if e >= 0x8000_0000 {
-        if let Cover::Apart = c {
-            return Target::Says(e);
-        }
+        return rights_part(paint, below, e, n, i);
     }
-    page_search(pool, paint, e, page)
-}
-
-// Whether sub-block `i` of a block whose entry leads to a middle table has one right after the painting.
-fn middle_part(pool: &[u32], paint: Paint, e: u32, block: u32, i: u32) -> One
-    requires { ⌜ ReadableBlock (now pool) e ⌝ }
-    requires { ⌜ (e < 0x80000000) × (block < 1024) × (i < 8) × (paint .right < 4) ⌝ }
-    ensures { λ r. ⌜ OneIs r (painted paint (given (words (now (pool .entry))) 2 e)) (block * 1048576 + 131072 * i) 131072 ⌝ }
-{
+    let count = part_entries(below);
     let start = table_start(e);
-    let from = start + 128 * i as usize;
-    let page = block * 1024 + 128 * i;
+    let from = start + (count * i) as usize;
+    let number = (8 * n + i) * count;
     let e0 = pool[from];
-    let first = page_target(pool, paint, e0, page);
+    let first = entry_target(pool, paint, below, e0, number);
     let Target::Says(x) = first else {
         return One::Two;
     };
     let right = words::right_at(x, 0);
-    let same = words::eight_of(right);
+    let same = same_entry(below, right);
     let mut j: u32 = 0;
-    while j < 128 {
+    while j < count {
         let w = pool[from + j as usize];
-        let t = page_target(pool, paint, w, page + j);
+        let t = entry_target(pool, paint, below, w, number + j);
         let Target::Says(y) = t else {
             return One::Two;
         };
@@ -265,29 +234,16 @@ fn middle_part(pool: &[u32], paint: Paint, e: u32, block: u32, i: u32) -> One
     One::Right(right)
 }
 
-// The same of a block with any entry.
-fn block_part(pool: &[u32], paint: Paint, e: u32, block: u32, i: u32) -> One
-    requires { ⌜ ReadableBlock (now pool) e ⌝ }
-    requires { ⌜ (block < 1024) × (i < 8) × (paint .right < 4) ⌝ }
-    ensures { λ r. ⌜ OneIs r (painted paint (given (words (now (pool .entry))) 2 e)) (block * 1048576 + 131072 * i) 131072 ⌝ }
-{
-    if e < 0x8000_0000 {
-        return middle_part(pool, paint, e, block, i);
-    }
-    let o = words::right_at(e, i);
-    even_part(paint, o, block * 1048576 + 131072 * i, 131072)
-}
-
 // The block's target, sub-block by sub-block.
-fn block_search(pool: &[u32], paint: Paint, e: u32, block: u32) -> Target
-    requires { ⌜ ReadableBlock (now pool) e ⌝ }
-    requires { ⌜ (block < 1024) × (paint .right < 4) ⌝ }
-    ensures { λ r. ⌜ r ≡ targetOf (painted paint (given (words (now (pool .entry))) 2 e)) 2 (block * 4194304) ⌝ }
+fn search(pool: &[u32], paint: Paint, below: u32, e: u32, n: u32) -> Target
+    requires { ⌜ Readable (now pool) (suc below) e ⌝ }
+    requires { ⌜ (below < 2) × (n < blocks (suc below)) × (paint .right < 4) ⌝ }
+    ensures { λ r. ⌜ r ≡ targetOf (painted paint (given (words (now (pool .entry))) (suc below) e)) (suc below) (n * block (suc below)) ⌝ }
 {
     let mut work = [0u32; 8];
     let mut i: u32 = 0;
     while i < 8 {
-        let one = block_part(pool, paint, e, block, i);
+        let one = part(pool, paint, below, e, n, i);
         let One::Right(u) = one else {
             return Target::Mixed;
         };
@@ -297,14 +253,21 @@ fn block_search(pool: &[u32], paint: Paint, e: u32, block: u32) -> Target
     Target::Says(pack_eight(work))
 }
 
-// What the entry of a block should be after the painting; `e` is its entry as it stands.
-pub fn block_target(pool: &[u32], paint: Paint, e: u32, block: u32) -> Target
-    requires { ⌜ ReadableBlock (now pool) e ⌝ }
-    requires { ⌜ (block < 1024) × (paint .right < 4) ⌝ }
-    ensures { λ r. ⌜ ((R : ℕ → ℕ) → Gives (words (now (pool .entry))) 2 e block R
-        → r ≡ targetOf (painted paint R) 2 (block * 4194304)) ⌝ }
+// What the entry of a height should be after the painting, for the block numbered `n`; `e` is its entry as it stands. A block that is
+// covered whole needs no search, nor does one that is not covered and has no table: the sub-blocks searched are mostly made of these.
+fn entry_target(pool: &[u32], paint: Paint, height: u32, e: u32, n: u32) -> Target
+    requires { ⌜ Readable (now pool) height e ⌝ }
+    requires { ⌜ (height ≤ 2) × (n < blocks height) × (paint .right < 4) ⌝ }
+    ensures { λ r. ⌜ ((R : ℕ → ℕ) → Gives (words (now (pool .entry))) height e n R
+        → r ≡ targetOf (painted paint R) height (n * block height)) ⌝ }
 {
-    let c = meeting(paint, block * 1048576, 1048576);
+    if height == 0 {
+        return Target::Says(paint_word(paint, e, n));
+    }
+    let below = height - 1;
+    let long = part_words(below);
+    let whole = 8 * long;
+    let c = meeting(paint, n * whole, whole);
     if let Cover::Whole = c {
         let right = paint.right;
         return Target::Says(words::eight_of(right));
@@ -314,7 +277,27 @@ pub fn block_target(pool: &[u32], paint: Paint, e: u32, block: u32) -> Target
             return Target::Says(e);
         }
     }
-    block_search(pool, paint, e, block)
+    search(pool, paint, below, e, n)
+}
+
+// What the entry of a page should be.
+pub fn page_target(pool: &[u32], paint: Paint, e: u32, page: u32) -> Target
+    requires { ⌜ Readable (now pool) 1 e ⌝ }
+    requires { ⌜ (page < 1048576) × (paint .right < 4) ⌝ }
+    ensures { λ r. ⌜ ((R : ℕ → ℕ) → Gives (words (now (pool .entry))) 1 e page R
+        → r ≡ targetOf (painted paint R) 1 (page * 4096)) ⌝ }
+{
+    entry_target(pool, paint, 1, e, page)
+}
+
+// What the entry of a block of 4 MB should be.
+pub fn block_target(pool: &[u32], paint: Paint, e: u32, block: u32) -> Target
+    requires { ⌜ Readable (now pool) 2 e ⌝ }
+    requires { ⌜ (block < 1024) × (paint .right < 4) ⌝ }
+    ensures { λ r. ⌜ ((R : ℕ → ℕ) → Gives (words (now (pool .entry))) 2 e block R
+        → r ≡ targetOf (painted paint R) 2 (block * 4194304)) ⌝ }
+{
+    entry_target(pool, paint, 2, e, block)
 }
 
 // The entry that a page would have, where its block's entry `e` is eight rights and there is no middle table.

@@ -8,7 +8,7 @@ ghost use Rattle.theory.specs.Settled.{Settled};
 ghost use Rattle.table.specs.Shape.{Fits};
 ghost use Rattle.table.specs.Map.{leads, formOf};
 ghost use Rattle.table.specs.Wants.{any, wantsOf, WordRights};
-ghost use Rattle.targets.specs.Targets.{Gives, ReadablePage, ReadableBlock, Tells};
+ghost use Rattle.targets.specs.Targets.{Gives, Readable, Tells};
 ghost use Rattle.targets.specs.Steps.{isMixed, LeavesWanted, TablesWanted};
 use crate::Target;
 use crate::UNPAINTED;
@@ -45,7 +45,7 @@ fn has_leaf(pool: &[u32], e: u32) -> bool
 
 // Whether a page's entry is rights, or leads to a leaf that is wanted.
 fn leaf_wanted(pool: &[u32], e: u32, page: u32) -> bool
-    requires { ⌜ ReadablePage (now pool) e ⌝ }
+    requires { ⌜ Readable (now pool) 1 e ⌝ }
     requires { ⌜ page < 1048576 ⌝ }
     ensures { λ r. ⌜ ((R : ℕ → ℕ) → Gives (words (now (pool .entry))) 1 e page R
         → Tells r (leads 1 e ≡ true → wantsOf R 1 (page * 4096) ≡ true)) ⌝ }
@@ -59,7 +59,7 @@ fn leaf_wanted(pool: &[u32], e: u32, page: u32) -> bool
 
 // Whether each leaf of the middle table to which the entry `e` of a block leads is wanted.
 fn leaves_wanted(pool: &[u32], e: u32, block: u32) -> bool
-    requires { ⌜ ReadableBlock (now pool) e ⌝ }
+    requires { ⌜ Readable (now pool) 2 e ⌝ }
     requires { ⌜ (e < 0x80000000) × (block < 1024) ⌝ }
     ensures { λ r. ⌜ ((R : ℕ → ℕ) → Gives (words (now (pool .entry))) 2 e block R
         → Tells r (LeavesWanted (words (now (pool .entry))) e block R)) ⌝ }
@@ -80,7 +80,7 @@ fn leaves_wanted(pool: &[u32], e: u32, block: u32) -> bool
 
 // Whether the tables of a block are wanted. A table with a leaf that is wanted is wanted too, so only one without leaves is searched.
 fn tables_wanted(pool: &[u32], e: u32, block: u32) -> bool
-    requires { ⌜ ReadableBlock (now pool) e ⌝ }
+    requires { ⌜ Readable (now pool) 2 e ⌝ }
     requires { ⌜ block < 1024 ⌝ }
     ensures { λ r. ⌜ ((R : ℕ → ℕ) → WordRights R → Gives (words (now (pool .entry))) 2 e block R
         → Tells r (TablesWanted (words (now (pool .entry))) e block R)) ⌝ }

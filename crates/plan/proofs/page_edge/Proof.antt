@@ -3,7 +3,7 @@ use Prim.Native.Nat.{_*_}
 use mathlib.Core.Path.{sym, subst, ap, _∙_}
 use borrow.Author.Needs.{needs}
 use Rattle.theory.specs.Pool.{words}
-use Rattle.targets.specs.Targets.{painted, targetOf, Gives, ReadablePage}
+use Rattle.targets.specs.Targets.{painted, targetOf, Gives, Readable}
 use Rattle.plan.specs.Edges.{edgeFor}
 use Rattle.plan.proofs.DraftLaws.{entry-readable, entry-gives}
 use Rattle.plan.proofs.page_edge.Statement.{statement}
@@ -16,7 +16,7 @@ page-target-requires : tie.Need-page-target-requires
 page-target-requires c κs =
     let s = c .before .before in
     let a = s .args in (
-      subst (ReadablePage (a .pool .now)) (sym (c .page-entry .ensures)) (entry-readable (a .pool .now) (a .domain) (a .n) (s .pre .1 .1) (s .pre .0)),
+      subst (Readable (a .pool .now) 1) (sym (c .page-entry .ensures)) (entry-readable (a .pool .now) (a .domain) (a .n) (s .pre .1 .1) (s .pre .0)),
       (s .pre .1 .1, s .pre .1 .2),
     )
 

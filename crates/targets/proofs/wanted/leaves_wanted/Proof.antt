@@ -52,7 +52,7 @@ leaf-wanted-requires : tie.Need-leaf-wanted-requires Inv-loop μ-loop
 leaf-wanted-requires c κs =
     let b = c .before .before .before in
     let s = b .before .before in
-    (rw (b .table-start .ensures) (s .pre .0 .pages (lt-ltb _ _ (s .pre .1 .0)) (c .before .before .loop .i) (omega arith)), omega arith)
+    (rw (b .table-start .ensures) (s .pre .0 .entries (lt-ltb _ _ (s .pre .1 .0)) (c .before .before .loop .i) (omega arith)), omega arith)
 
 -- What the check of the leaf at which the loop stands tells.
 told : (c : tie.After-leaf-wanted Inv-loop μ-loop) (R : ℕ → ℕ)

@@ -1,0 +1,105 @@
+-- Laws of the target of an entry of any height: told at once, or found from the entries of its table.
+use Prim.Native.Nat.{ℕ, zero, suc, _+_, _*_, _-_, _/_, _≤_, _<_}
+use mathlib.Core.Path.{_≡_, refl, sym, ap, _∙_}
+use mathlib.Core.Bool.{false}
+use mathlib.Core.List.{List}
+use native.Mathlib.Omega.{arith}
+use borrow.Author.Tests.{lt-ltb, le-ltb}
+use Rattle.theory.specs.Pool.{words}
+use Rattle.words.specs.Rights.{rightAt, pack, goodRights}
+use Rattle.table.specs.Map.{block, parts, size}
+use Rattle.table.specs.Wants.{wordsIn, above, saidOf}
+use Rattle.table.proofs.BlockLaws.{first-word}
+use Rattle.targets.specs.declared.Paint.{Paint}
+use Rattle.targets.specs.declared.Cover.the-variants.{Apart, Whole}
+use Rattle.targets.specs.declared.One.{One}
+use Rattle.targets.specs.declared.One.the-variants.{Right, Two}
+use Rattle.targets.specs.declared.Target.{Target}
+use Rattle.targets.specs.declared.Target.the-variants.{Says, Mixed}
+use Rattle.targets.specs.Targets.{painted, given, targetOf, Gives, GivesLeaf, Readable}
+use Rattle.targets.specs.Steps.{CoverIs, Plain, OneIs, PartIs}
+use Rattle.targets.proofs.PackLaws.{eight-packed}
+use Rattle.targets.proofs.TargetLaws.{mixed-not-said}
+use Rattle.targets.proofs.PartLaws.{partWord}
+use Rattle.targets.proofs.PieceLaws.{leaf-target, piece-two, one-moved}
+use Rattle.targets.proofs.HeightLaws.{part-first, entry-in-table, entry-number, entries-first, entries-words, entries-upto, block-long}
+use Rattle.targets.proofs.GivenLaws.{gives-parts, gives-entry, gives-leaf}
+use Rattle.targets.proofs.SearchLaws.{whole-target, apart-target, given-target}
+
+module _ (p : Paint) (P R : ℕ → ℕ) where
+  -- A leaf entry is painted.
+  pub leaf-entry : (h e n t : ℕ) → h ≡ 0 → Gives P h e n R → ((R : ℕ → ℕ) → GivesLeaf e n R → t ≡ saidOf (painted p R) 0 (n * 64))
+      → Says t ≡ targetOf (painted p R) h (n * block h)
+  leaf-entry zero e n t z g f = sym (leaf-target (painted p R) (n * 64) t (f R (gives-leaf P R e n g)))
+  leaf-entry (suc h) e n t z g f = absurd (omega arith)
+
+  module _ (h b e n long : ℕ) (up : h ≡ suc b) (is : long ≡ wordsIn (suc b)) where
+    -- The region covers the block.
+    pub whole-entry : CoverIs Whole p (n * (8 * long)) (8 * long) → Says (pack 32768 8 (λ i. p .right)) ≡ targetOf (painted p R) h (n * block h)
+    whole-entry c =
+        let d : CoverIs Whole p (n * (block (suc b) / 4)) (block (suc b) / 4) = rw (block-long (suc b) b long refl is) at c in
+        rw up (sym (whole-target p R (suc b) n d))
+
+    -- The region lies apart from the block, and its entry is rights.
+    pub apart-entry : (q : List ℕ) → Readable q h e → Gives P h e n R → 2147483648 ≤ e → CoverIs Apart p (n * (8 * long)) (8 * long)
+        → Says e ≡ targetOf (painted p R) h (n * block h)
+    apart-entry q r g l c =
+        let d : CoverIs Apart p (n * (block (suc b) / 4)) (block (suc b) / 4) = rw (block-long (suc b) b long refl is) at c in
+        let s = rw up at r in
+        let f = le-ltb e 2147483648 l in
+        rw up (ap Says (eight-packed e (s .rights f)) ∙ sym (apart-target p R (suc b) n P e (rw up at g) f d))
+
+  -- What a search of its table found.
+  pub found-entry : (h b e n : ℕ) (t : Target) → h ≡ suc b → Gives P h e n R
+      → t ≡ targetOf (painted p (given P (suc b) e)) (suc b) (n * block (suc b)) → t ≡ targetOf (painted p R) h (n * block h)
+  found-entry h b e n t up g f = f ∙ rw up (given-target p R (suc b) n P e (rw up at g))
+
+module _ (p : Paint) (P : ℕ → ℕ) (b e n i : ℕ) where
+  abbrev rights-after : ℕ → ℕ
+  rights-after = painted p (given P (suc b) e)
+
+  -- A sub-block of an entry that is rights.
+  pub rights-found : (o long : ℕ) (r : One) → 2147483648 ≤ e → i < 8 → o ≡ rightAt e i → long ≡ wordsIn (suc b)
+      → (Plain (given P (suc b) e) ((8 * n + i) * long) long o → OneIs r rights-after ((8 * n + i) * long) long) → PartIs P p (suc b) e n i r
+  rights-found o long r l bi says is f =
+      let z : (8 * n + i) * long ≡ partWord (suc b) n i = part-first b n i long is in
+      let g = gives-parts P (given P (suc b) e) (suc b) e n i bi (le-ltb e 2147483648 l) (λ x q. refl) in
+      rw (z, is) at (f (rw (z, is, says) g))
+
+  -- A sub-block of an entry that leads: it has `count` entries of the table.
+  module _ (count : ℕ) (low : b < 2) (is : count ≡ size b / 8) where
+    abbrev number : ℕ
+    number = (8 * n + i) * count
+
+    -- Entry `j` of these is readable ..
+    pub entry-readable : (q : List ℕ) (j x : ℕ) → Readable q (suc b) e → e < 2147483648 → i < 8 → j < count → x ≡ e + (count * i + j)
+        → Readable q b (words q x)
+    entry-readable q j x r l bi bj at = rw at (r .entries (lt-ltb e 2147483648 l) (count * i + j) (entry-in-table b count low is i j bi bj))
+
+    -- .. and, as it was found, is the target of its words.
+    pub entry-found : (j x m : ℕ) (t : Target) → e < 2147483648 → i < 8 → j < count → x ≡ e + (count * i + j) → m ≡ number + j
+        → ((R : ℕ → ℕ) → Gives P b (P x) m R → t ≡ targetOf (painted p R) b (m * block b)) → targetOf rights-after b (m * block b) ≡ t
+    entry-found j x m t l bi bj at to g =
+        sym (g (given P (suc b) e) (gives-entry P b e n (count * i + j) x m low (lt-ltb e 2147483648 l) (entry-in-table b count low is i j bi bj) at
+        (to ∙ entry-number b count low is n i j)))
+
+    -- One that does not say the right `u` of the first word: the sub-block has two.
+    pub entries-two : (u same j : ℕ) → pack (above b) (parts b) (λ k. u) ≡ same → j < count → rights-after (4 * (number * (block b / 4))) ≡ u
+        → (targetOf rights-after b ((number + j) * block b) ≡ Says same → ⊥) → PartIs P p (suc b) e n i Two
+    entries-two u same j says bj first other =
+        one-moved Two rights-after (number * (block b / 4)) (partWord (suc b) n i) (wordsIn (suc b)) (entries-first b count low is n i)
+        (piece-two rights-after b number u same says j (wordsIn (suc b)) (first-word (suc b)) (entries-upto b count low is j bj) first other)
+
+    -- So it has where the first is mixed.
+    pub first-mixed : 0 < count → targetOf rights-after b (number * block b) ≡ Mixed → PartIs P p (suc b) e n i Two
+    first-mixed some f =
+        let z : number + 0 ≡ number = omega arith in
+        entries-two _ _ 0 refl some refl (rw z (λ g. mixed-not-said (sym f ∙ g)))
+
+    -- The entries all say `u`.
+    pub entries-one : (u j : ℕ) → j ≤ count → count ≤ j → Plain rights-after (number * (block b / 4)) (block b / 4 * j) u
+        → PartIs P p (suc b) e n i (Right u)
+    entries-one u j l m f =
+        let z : j ≡ count = omega arith in
+        one-moved (Right u) rights-after (number * (block b / 4)) (partWord (suc b) n i) (wordsIn (suc b)) (entries-first b count low is n i)
+        (rw (z, entries-words b count low is) at f)
