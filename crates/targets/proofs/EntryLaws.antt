@@ -6,8 +6,8 @@ use mathlib.Core.List.{List}
 use native.Mathlib.Omega.{arith}
 use borrow.Author.Tests.{lt-ltb, le-ltb}
 use Rattle.theory.specs.Pool.{words}
-use Rattle.words.specs.Rights.{rightAt, pack, goodRights}
-use Rattle.table.specs.Map.{block, parts, size}
+use Rattle.words.specs.Rights.{rightAt, pack}
+use Rattle.table.specs.Map.{block, parts, size, leads}
 use Rattle.table.specs.Wants.{wordsIn, above, saidOf}
 use Rattle.table.proofs.BlockLaws.{first-word}
 use Rattle.targets.specs.declared.Paint.{Paint}
@@ -17,37 +17,49 @@ use Rattle.targets.specs.declared.One.the-variants.{Right, Two}
 use Rattle.targets.specs.declared.Target.{Target}
 use Rattle.targets.specs.declared.Target.the-variants.{Says, Mixed}
 use Rattle.targets.specs.Targets.{painted, given, targetOf, Gives, GivesLeaf, Readable}
-use Rattle.targets.specs.Steps.{CoverIs, Plain, OneIs, PartIs}
-use Rattle.targets.proofs.PackLaws.{eight-packed}
+use Rattle.targets.specs.Steps.{CoverIs, Plain, OneIs, PartIs, GoodRights}
+use Rattle.targets.proofs.PackLaws.{leaf-packed, eight-packed}
 use Rattle.targets.proofs.TargetLaws.{mixed-not-said}
 use Rattle.targets.proofs.PartLaws.{partWord}
 use Rattle.targets.proofs.PieceLaws.{leaf-target, piece-two, one-moved}
-use Rattle.targets.proofs.HeightLaws.{part-first, entry-in-table, entry-number, entries-first, entries-words, entries-upto, block-long}
+use Rattle.targets.proofs.HeightLaws.{part-first, entry-in-table, entry-number, entries-first, entries-words, entries-upto}
 use Rattle.targets.proofs.GivenLaws.{gives-parts, gives-entry, gives-leaf}
 use Rattle.targets.proofs.SearchLaws.{whole-target, apart-target, given-target}
+
+-- A leaf entry is rights, and so is any whose bit 31 is set.
+pub leads-leaf : (h e : ℕ) → h ≡ 0 → leads h e ≡ false
+leads-leaf h e z = rw z refl
+
+pub leads-high : (h e : ℕ) → 2147483648 ≤ e → leads h e ≡ false
+leads-high zero e l = refl
+leads-high (suc h) e l = le-ltb e 2147483648 l
+
+-- What is readable is good.
+pub readable-good : (q : List ℕ) (h e : ℕ) → Readable q h e → GoodRights h e
+readable-good q zero e r = tt
+readable-good q (suc h) e r = r .rights
+
+-- An entry that is rights is its rights packed.
+entry-packed : (h e : ℕ) → e < 4294967296 → GoodRights h e → leads h e ≡ false → pack (above h) (parts h) (rightAt e) ≡ e
+entry-packed zero e l g f = sym (leaf-packed e l)
+entry-packed (suc h) e l g f = sym (eight-packed e (g f))
+
+module _ (p : Paint) (R : ℕ → ℕ) (h n long : ℕ) (is : long ≡ block h / 4) where
+  -- The region covers the block.
+  pub whole-entry : CoverIs Whole p (n * long) long → targetOf (painted p R) h (n * block h) ≡ Says (pack (above h) (parts h) (λ i. p .right))
+  whole-entry c = whole-target p R h n (rw is at c)
+
+  -- The region lies apart from the block, and its entry is rights.
+  pub apart-entry : (P : ℕ → ℕ) (e : ℕ) → e < 4294967296 → GoodRights h e → Gives P h e n R → leads h e ≡ false → CoverIs Apart p (n * long) long
+      → targetOf (painted p R) h (n * block h) ≡ Says e
+  apart-entry P e b r g l c = apart-target p R h n P e g l (rw is at c) ∙ ap Says (entry-packed h e b r l)
 
 module _ (p : Paint) (P R : ℕ → ℕ) where
   -- A leaf entry is painted.
   pub leaf-entry : (h e n t : ℕ) → h ≡ 0 → Gives P h e n R → ((R : ℕ → ℕ) → GivesLeaf e n R → t ≡ saidOf (painted p R) 0 (n * 64))
-      → Says t ≡ targetOf (painted p R) h (n * block h)
-  leaf-entry zero e n t z g f = sym (leaf-target (painted p R) (n * 64) t (f R (gives-leaf P R e n g)))
+      → targetOf (painted p R) h (n * block h) ≡ Says t
+  leaf-entry zero e n t z g f = leaf-target (painted p R) (n * 64) t (f R (gives-leaf P R e n g))
   leaf-entry (suc h) e n t z g f = absurd (omega arith)
-
-  module _ (h b e n long : ℕ) (up : h ≡ suc b) (is : long ≡ wordsIn (suc b)) where
-    -- The region covers the block.
-    pub whole-entry : CoverIs Whole p (n * (8 * long)) (8 * long) → Says (pack 32768 8 (λ i. p .right)) ≡ targetOf (painted p R) h (n * block h)
-    whole-entry c =
-        let d : CoverIs Whole p (n * (block (suc b) / 4)) (block (suc b) / 4) = rw (block-long (suc b) b long refl is) at c in
-        rw up (sym (whole-target p R (suc b) n d))
-
-    -- The region lies apart from the block, and its entry is rights.
-    pub apart-entry : (q : List ℕ) → Readable q h e → Gives P h e n R → 2147483648 ≤ e → CoverIs Apart p (n * (8 * long)) (8 * long)
-        → Says e ≡ targetOf (painted p R) h (n * block h)
-    apart-entry q r g l c =
-        let d : CoverIs Apart p (n * (block (suc b) / 4)) (block (suc b) / 4) = rw (block-long (suc b) b long refl is) at c in
-        let s = rw up at r in
-        let f = le-ltb e 2147483648 l in
-        rw up (ap Says (eight-packed e (s .rights f)) ∙ sym (apart-target p R (suc b) n P e (rw up at g) f d))
 
   -- What a search of its table found.
   pub found-entry : (h b e n : ℕ) (t : Target) → h ≡ suc b → Gives P h e n R

@@ -7,29 +7,22 @@ use Rattle.table.specs.Wants.{wordsIn}
 use Rattle.targets.specs.Targets.{blocks}
 use Rattle.targets.proofs.PartLaws.{partWord}
 
--- The height of a block whose table has entries of the height below.
-pub above-below : (h : ℕ) → (h ≡ 0 → ⊥) → h ≡ suc (h - 1)
-above-below h z = omega arith
+-- A height above the leaf is one above the height below.
+pub above-below : (h : ℕ) → 0 < h → h ≡ suc (h - 1)
+above-below h l = omega arith
 
 pub few-blocks : (b n : ℕ) → n < blocks (suc b) → n < 1048576
 few-blocks zero n l = omega arith
 few-blocks (suc b) n l = omega arith
 
--- A block of eight sub-blocks of `long` words.
-module _ (h b long : ℕ) (e : h ≡ suc b) (is : long ≡ wordsIn (suc b)) where
-  pub block-long : 8 * long ≡ block h / 4
-  block-long = rw (e, is) (cases b)
-    where
-      cases : (b : ℕ) → 8 * wordsIn (suc b) ≡ block (suc b) / 4
-      cases zero = omega arith
-      cases (suc b) = omega arith
-
-  pub block-room : (n : ℕ) → n < blocks h → n * (8 * long) + 8 * long ≤ 1073741824
-  block-room n l = rw is (cases b n (rw e at l))
-    where
-      cases : (b n : ℕ) → n < blocks (suc b) → n * (8 * wordsIn (suc b)) + 8 * wordsIn (suc b) ≤ 1073741824
-      cases zero n l = omega arith
-      cases (suc b) n l = omega arith
+-- The block numbered `n`, of `long` words, lies in the memory.
+pub block-room : (h long : ℕ) → long ≡ block h / 4 → (n : ℕ) → n < blocks h → n * long + long ≤ 1073741824
+block-room h long is n l = rw is (cases h l)
+  where
+    cases : (h : ℕ) → n < blocks h → n * (block h / 4) + block h / 4 ≤ 1073741824
+    cases zero l = omega arith
+    cases (suc zero) l = omega arith
+    cases (suc (suc h)) l = omega arith
 
 -- Sub-block `i` of the block numbered `n`, of `long` words.
 module _ (b n i long : ℕ) (is : long ≡ wordsIn (suc b)) where

@@ -1,17 +1,19 @@
 -- The steps by which a target is found, and tables are found to be wanted. Memory word `x` is the four bytes from `4 * x` on.
-use Prim.Native.Nat.{ℕ, _+_, _*_, _/_, _<_}
+use Prim.Native.Nat.{ℕ, zero, suc, _+_, _*_, _/_, _<_}
 use mathlib.Core.Path.{_≡_}
 use mathlib.Core.Bool.{Bool, true, false, _&&_, cond}
 use lib.Dec.{leb, ltb}
-use Rattle.words.specs.Rights.{rightAt}
+use Rattle.words.specs.Rights.{rightAt, goodRights}
 use Rattle.table.specs.Map.{block, leads}
 use Rattle.table.specs.Wants.{wordsIn, wantsOf}
-use Rattle.targets.specs.Targets.{painted, given}
+use Rattle.targets.specs.Targets.{painted, given, targetOf, Gives}
 use Rattle.targets.specs.declared.Paint.{Paint}
 use Rattle.targets.specs.declared.Cover.{Cover}
 use Rattle.targets.specs.declared.Cover.the-variants.{Apart, Partly, Whole}
 use Rattle.targets.specs.declared.One.{One}
 use Rattle.targets.specs.declared.One.the-variants.{Right, Two}
+use Rattle.targets.specs.declared.Told.{Told}
+use Rattle.targets.specs.declared.Told.the-variants.{Known, Unknown}
 use Rattle.targets.specs.declared.Target.{Target}
 use Rattle.targets.specs.declared.Target.the-variants.{Says, Mixed}
 
@@ -50,6 +52,20 @@ OneIs Two R s n = (u : ℕ) → Plain R s n u → ⊥
 -- Of the block of height `h` numbered `n`, which has the entry `e` in the pool `P`: sub-block `i` once painted.
 abbrev pub PartIs : (ℕ → ℕ) → Paint → ℕ → ℕ → ℕ → ℕ → One → Type 0
 PartIs P p h e n i o = OneIs o (painted p (given P h e)) (n * (block h / 4) + wordsIn h * i) (wordsIn h)
+
+-- An entry of a height that is rights is eight good ones; of a leaf, any word is good.
+abbrev pub GoodRights : ℕ → ℕ → Type 0
+GoodRights zero e = Unit {0}
+GoodRights (suc h) e = leads (suc h) e ≡ false → goodRights e ≡ true
+
+-- In every pool, the block of height `h` numbered `n` whose entry is `e` should have the entry `w` once painted ..
+abbrev pub SaysIs : Paint → ℕ → ℕ → ℕ → ℕ → Type 0
+SaysIs p h e n w = (P R : ℕ → ℕ) → Gives P h e n R → targetOf (painted p R) h (n * block h) ≡ Says w
+
+-- .. which is known, or needs a search, and so is no leaf entry.
+abbrev pub ToldIs : Told → Paint → ℕ → ℕ → ℕ → Type 0
+ToldIs (Known w) p h e n = SaysIs p h e n w
+ToldIs Unknown p h e n = 0 < h
 
 -- The target is that of a block that wants a table.
 abbrev pub isMixed : Target → Bool

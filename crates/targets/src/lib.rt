@@ -1,5 +1,6 @@
 // Whether a page (4 KB) or a block (4 MB) can be said with eight rights, once a region is painted with a right.
 ghost use mathlib.Core.Path.{_≡_};
+ghost use mathlib.Core.Bool.{true};
 ghost use Prim.Native.Nat.{ℕ, suc, _+_, _*_, _/_, _%_, _<_, _≤_};
 ghost use lib.ListN.{length, getD};
 ghost use Rattle.theory.specs.Pool.{words};
@@ -7,7 +8,7 @@ ghost use Rattle.words.specs.Rights.{rightAt, pack, eightOf};
 ghost use Rattle.table.specs.Map.{block, parts, size};
 ghost use Rattle.table.specs.Wants.{wordsIn, above, saidOf};
 ghost use Rattle.targets.specs.Targets.{blocks, painted, targetOf, given, Gives, GivesLeaf, Readable};
-ghost use Rattle.targets.specs.Steps.{CoverIs, rightAfter, Plain, OneIs, PartIs};
+ghost use Rattle.targets.specs.Steps.{CoverIs, rightAfter, Plain, OneIs, PartIs, GoodRights, SaysIs, ToldIs};
 
 mod wanted; // wanted.rt: whether tables are wanted, and a pool settled
 
@@ -44,6 +45,12 @@ enum Cover {
 enum One {
     Right(u32),
     Two,
+}
+
+// What the entry of a block should be, as far as it is known without a search of its sub-blocks.
+enum Told {
+    Known(u32),
+    Unknown,
 }
 
 // How the region meets the `n` memory words from `s` on. The first test is for an empty region: inside the stretch it would seem to part it.
@@ -174,6 +181,62 @@ fn same_entry(height: u32, right: u32) -> u32
     words::eight_of(right)
 }
 
+// How many memory words the block of an entry has.
+fn block_words(height: u32) -> u32
+    ensures { λ r. ⌜ r ≡ block height / 4 ⌝ }
+{
+    if height == 0 {
+        return 16;
+    }
+    if height == 1 {
+        return 1024;
+    }
+    1048576
+}
+
+// What the entry of the block numbered `n` should be after the painting, where it is `e`. A block that is covered whole needs no search, nor
+// does one that is not covered and has no table, and a leaf entry never does: the sub-blocks that are searched are mostly made of these.
+fn at_once(paint: Paint, height: u32, e: u32, n: u32) -> Told
+    requires { ⌜ GoodRights height e ⌝ }
+    requires { ⌜ (height ≤ 2) × (n < blocks height) × (paint .right < 4) ⌝ }
+    ensures { λ r. ⌜ ToldIs r paint height e n ⌝ }
+{
+    let long = block_words(height);
+    let c = meeting(paint, n * long, long);
+    if let Cover::Whole = c {
+        let right = paint.right;
+        return Told::Known(same_entry(height, right));
+    }
+    if let Cover::Apart = c {
+        if e >= 0x8000_0000 {
+            return Told::Known(e);
+        }
+        if height == 0 {
+            return Told::Known(e);
+        }
+    }
+    if height == 0 {
+        return Told::Known(paint_word(paint, e, n));
+    }
+    Told::Unknown
+}
+
+// Whether it is known to be `same`.
+fn says(paint: Paint, height: u32, e: u32, n: u32, same: u32) -> bool
+    requires { ⌜ GoodRights height e ⌝ }
+    requires { ⌜ (height ≤ 2) × (n < blocks height) × (paint .right < 4) ⌝ }
+    ensures { λ r. ⌜ (r ≡ true → SaysIs paint height e n same) ⌝ }
+{
+    let known = at_once(paint, height, e, n);
+    let Told::Known(w) = known else {
+        return false;
+    };
+    if w == same {
+        return true;
+    }
+    false
+}
+
 // Whether sub-block `i` of a block whose entry is rights has one right after the painting.
 fn rights_part(paint: Paint, below: u32, e: u32, n: u32, i: u32) -> One
     requires { ⌜ (0x80000000 ≤ e) × (below < 2) × (n < blocks (suc below)) × (i < 8) ⌝ }
@@ -222,14 +285,18 @@ fn part(pool: &[u32], paint: Paint, below: u32, e: u32, n: u32, i: u32) -> One
     let mut j: u32 = 0;
     while j < count {
         let w = pool[from + j as usize];
-        let t = entry_target(pool, paint, below, w, number + j);
-        let Target::Says(y) = t else {
-            return One::Two;
-        };
-        if y != same {
-            return One::Two;
-        }
+        let m = number + j;
         j += 1;
+        let known = says(paint, below, w, m, same);
+        if !known {
+            let t = entry_target(pool, paint, below, w, m);
+            let Target::Says(y) = t else {
+                return One::Two;
+            };
+            if y != same {
+                return One::Two;
+            }
+        }
     }
     One::Right(right)
 }
@@ -253,31 +320,18 @@ fn search(pool: &[u32], paint: Paint, below: u32, e: u32, n: u32) -> Target
     Target::Says(pack_eight(work))
 }
 
-// What the entry of a height should be after the painting, for the block numbered `n`; `e` is its entry as it stands. A block that is
-// covered whole needs no search, nor does one that is not covered and has no table: the sub-blocks searched are mostly made of these.
+// What the entry of the block numbered `n` should be after the painting, where it is `e`.
 fn entry_target(pool: &[u32], paint: Paint, height: u32, e: u32, n: u32) -> Target
     requires { ⌜ Readable (now pool) height e ⌝ }
     requires { ⌜ (height ≤ 2) × (n < blocks height) × (paint .right < 4) ⌝ }
     ensures { λ r. ⌜ ((R : ℕ → ℕ) → Gives (words (now (pool .entry))) height e n R
         → r ≡ targetOf (painted paint R) height (n * block height)) ⌝ }
 {
-    if height == 0 {
-        return Target::Says(paint_word(paint, e, n));
+    let known = at_once(paint, height, e, n);
+    if let Told::Known(w) = known {
+        return Target::Says(w);
     }
-    let below = height - 1;
-    let long = part_words(below);
-    let whole = 8 * long;
-    let c = meeting(paint, n * whole, whole);
-    if let Cover::Whole = c {
-        let right = paint.right;
-        return Target::Says(words::eight_of(right));
-    }
-    if e >= 0x8000_0000 {
-        if let Cover::Apart = c {
-            return Target::Says(e);
-        }
-    }
-    search(pool, paint, below, e, n)
+    search(pool, paint, height - 1, e, n)
 }
 
 // What the entry of a page should be.

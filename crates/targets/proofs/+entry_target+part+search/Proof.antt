@@ -5,24 +5,25 @@ use Prim.Native.Nat.{ℕ, suc, _+_, _*_, _-_, _/_, _<_, _≤_}
 use mathlib.Core.Path.{_≡_, refl, sym, ap, subst, _∙_}
 use native.Mathlib.Omega.{arith}
 use borrow.Author.Needs.{needs}
-use borrow.Author.Tests.{lt-ltb}
+use borrow.Author.Tests.{lt-ltb, not-false}
 use borrow.Fn.Kinds.{In}
 use borrow.Fn.PlainCycle.{Measures, is, falls, and}
 use lib.ListN.{length}
 use Rattle.theory.specs.Pool.{words}
-use Rattle.words.proofs.RightsLaws.{right-small, eight-pack}
+use Rattle.words.proofs.RightsLaws.{right-small}
 use Rattle.table.specs.Map.{block}
+use Rattle.targets.specs.declared.Target.{Target}
 use Rattle.targets.specs.declared.Target.the-variants.{Says}
 use Rattle.targets.specs.declared.One.the-variants.{Two}
-use Rattle.targets.specs.Targets.{blocks, painted, given, targetOf, Readable}
+use Rattle.targets.specs.Targets.{blocks, painted, given, targetOf, Gives, Readable}
 use Rattle.targets.specs.Steps.{Plain, PartIs}
 use Rattle.targets.proofs.TargetLaws.{same-said, mixed-not-said}
 use Rattle.targets.proofs.PartLaws.{target-first}
 use Rattle.targets.proofs.PieceLaws.{piece-plain}
-use Rattle.targets.proofs.HeightLaws.{above-below, few-blocks, block-room, few-entries, entries-before, entry-in-table, numbers-few, entry-few}
+use Rattle.targets.proofs.HeightLaws.{above-below, few-blocks, few-entries, entries-before, entry-in-table, numbers-few, entry-few}
 use Rattle.targets.proofs.GivenLaws.{painted-given-small}
 use Rattle.targets.proofs.SearchLaws.{Gathers, gathers-none, gathers-more, gathers-two, gathers-all}
-use Rattle.targets.proofs.EntryLaws.{leaf-entry, whole-entry, apart-entry, found-entry, entry-readable, entry-found, entries-two, first-mixed, entries-one}
+use Rattle.targets.proofs.EntryLaws.{found-entry, readable-good, entry-readable, entry-found, entries-two, first-mixed, entries-one}
 use Rattle.targets.proofs.entry_target.Reads as entry-target
 use Rattle.targets.proofs.entry_target.Kinds as entry-target-kinds
 use Rattle.targets.proofs.+entry_target+part+search.Lts-entry_target as e
@@ -32,15 +33,13 @@ use Rattle.targets.proofs.+entry_target+part+search.Lts-part as p
 use Rattle.targets.proofs.search.Reads as search′
 use Rattle.targets.proofs.search.Kinds as search-kinds
 use Rattle.targets.proofs.+entry_target+part+search.Lts-search as s
-use Rattle.targets.proofs.meeting.Reads as meeting-reads
+use Rattle.targets.proofs.at_once.Reads as at-once-reads
+use Rattle.targets.proofs.says.Reads as says-reads
 use Rattle.targets.proofs.pack_eight.Reads as pack-eight-reads
-use Rattle.targets.proofs.paint_word.Reads as paint-word-reads
 use Rattle.targets.proofs.part_entries.Reads as part-entries-reads
-use Rattle.targets.proofs.part_words.Reads as part-words-reads
 use Rattle.targets.proofs.rights_part.Reads as rights-part-reads
 use Rattle.targets.proofs.same_entry.Reads as same-entry-reads
 use Rattle.targets.proofs.table_start.Reads as table-start-reads
-use Rattle.words.proofs.eight_of.Reads as eight-of-reads
 use Rattle.words.proofs.right_at.Reads as right-at-reads
 use Rattle.targets.proofs.+entry_target+part+search.{statement}
 use Rattle.targets.proofs.+entry_target+part+search.Tie.{close}
@@ -80,14 +79,8 @@ s-at t = and 1 search-kinds.ps (is 1 search-kinds.ps μ-search t) search′.Pre
 
 abbrev e-calls : ℕ → e.Claims
 e-calls t = (
-  paint-word-reads.Asked,
-  paint-word-reads.Learnt,
-  part-words-reads.Asked,
-  part-words-reads.Learnt,
-  meeting-reads.Asked,
-  meeting-reads.Learnt,
-  eight-of-reads.Asked,
-  eight-of-reads.Learnt,
+  at-once-reads.Asked,
+  at-once-reads.Learnt,
   and 1 search-kinds.ps (falls 1 search-kinds.ps _<_ μ-search t) search′.Pre,
   search′.Post,
 )
@@ -106,6 +99,8 @@ p-calls t = (
   right-at-reads.Learnt,
   same-entry-reads.Asked,
   same-entry-reads.Learnt,
+  says-reads.Asked,
+  says-reads.Learnt,
 )
 
 abbrev s-calls : ℕ → s.Claims
@@ -117,71 +112,37 @@ s-calls t = (
 )
 
 module _ (t : ℕ) where
-  paint-word-requires : e.Need-paint-word-requires (e-calls t) (e-at t) entry-target.Post
-  paint-word-requires c κs =
-      let n = c .before .before .args .n in
-      let l : n < blocks 0 = subst (λ h. n < blocks h) (c .if1 .taken) (c .before .before .pre .1 .1 .1) in
-      (omega arith, c .before .before .pre .1 .1 .2)
+  at-once-requires : e.Need-at-once-requires (e-calls t) (e-at t) entry-target.Post
+  at-once-requires c κs =
+      let a = c .before .args in
+      let x = c .before .pre .1 in
+      (readable-good (a .pool .now) (a .height) (a .e) (x .0), (x .1 .0, x .1 .1, x .1 .2))
+
+  enum-known-known : e.Need-enum-known-known (e-calls t) (e-at t) entry-target.Post
+  enum-known-known c = search needs
 
   e-returns : e.Need-returns (e-calls t) (e-at t) entry-target.Post
-  e-returns c = λ R g. leaf-entry _ _ R _ _ _ _ (c .before .if1 .taken) g (c .paint-word .ensures)
-
-  sub-below : e.Need-sub-below (e-calls t) (e-at t) entry-target.Post
-  sub-below c = search needs
-
-  part-words-requires : e.Need-part-words-requires (e-calls t) (e-at t) entry-target.Post
-  part-words-requires c κs = search needs
-
-  -- The words of the block lie in the memory.
-  room : (c : e.After-part-words (e-calls t) (e-at t) entry-target.Post)
-      → let a = c .before .before .before .args in a .n * (8 * c .part-words .result) + 8 * c .part-words .result ≤ 1073741824
-  room c = block-room _ _ _ (above-below _ (c .before .if1 .left)) (c .part-words .ensures) _ (c .before .before .before .pre .1 .1 .1)
-
-  mul-whole : e.Need-mul-whole (e-calls t) (e-at t) entry-target.Post
-  mul-whole c = omega (arith, room c)
-
-  mul-meeting : e.Need-mul-meeting (e-calls t) (e-at t) entry-target.Post
-  mul-meeting c = omega (arith, room c)
-
-  meeting-requires : e.Need-meeting-requires (e-calls t) (e-at t) entry-target.Post
-  meeting-requires c κs = room c
+  e-returns c = λ R g. sym ((rw (c .before .known .given .1) at (c .before .before .before .at-once .ensures)) _ R g)
 
   e-enum-told : e.Need-enum-told (e-calls t) (e-at t) entry-target.Post
   e-enum-told c = search needs
 
-  eight-of-requires : e.Need-eight-of-requires (e-calls t) (e-at t) entry-target.Post
-  eight-of-requires c κs = search needs
+  -- What needs a search is no leaf entry.
+  unknown : (c : e.After-enum-told (e-calls t) (e-at t) entry-target.Post) → 0 < c .before .before .before .before .args .height
+  unknown c = rw (c .enum-told .given .1) at (c .before .before .at-once .ensures)
 
-  e-returns-2 : e.Need-returns-2 (e-calls t) (e-at t) entry-target.Post
-  e-returns-2 c = λ R g.
-      let m = c .before .before .before in
-      let d = m .before in
-      ap Says (c .eight-of .ensures ∙ sym (eight-pack _))
-      ∙ whole-entry _ (words (d .before .before .before .args .pool .now)) R _ _ (d .before .before .before .args .e) _ _ (above-below _ (d .before .if1 .left)) (d .part-words .ensures)
-      (rw (c .before .enum-told .given .1) at (m .meeting .ensures))
-
-  e-enum-told-2 : e.Need-enum-told-2 (e-calls t) (e-at t) entry-target.Post
-  e-enum-told-2 c = search needs
-
-  e-returns-3 : e.Need-returns-3 (e-calls t) (e-at t) entry-target.Post
-  e-returns-3 c = λ R g.
-      let m = c .before .before .before .before in
-      let d = m .before in
-      apart-entry _ _ R _ _ _ _ _ (above-below _ (d .before .if1 .left)) (d .part-words .ensures) _ (d .before .before .before .pre .1 .0) g (c .before .before .if2 .taken)
-      (rw (c .enum-told2 .given .1) at (m .meeting .ensures))
+  sub-search : e.Need-sub-search (e-calls t) (e-at t) entry-target.Post
+  sub-search c = unknown c
 
   search-requires : e.Need-search-requires (e-calls t) (e-at t) entry-target.Post
   search-requires c κs =
-      let d = c .before .before .before in
-      let a = d .before .before .before .args in
-      let x = d .before .before .before .pre .1 in
-      let up = above-below _ (d .before .if1 .left) in
-      (omega arith, (subst (λ h. Readable (a .pool .now) h (a .e)) up (x .0), (omega arith, subst (λ h. a .n < blocks h) up (x .1 .1), x .1 .2)))
+      let a = c .before .before .before .before .args in
+      let x = c .before .before .before .before .pre .1 in
+      let up = above-below (a .height) (unknown c) in
+      (omega (arith, unknown c), (subst (λ h. Readable (a .pool .now) h (a .e)) up (x .0), (omega arith, subst (λ h. a .n < blocks h) up (x .1 .1), x .1 .2)))
 
-  e-returns-4 : e.Need-returns-4 (e-calls t) (e-at t) entry-target.Post
-  e-returns-4 c = λ R g.
-      let d = c .before .before .before .before in
-      found-entry _ _ R _ _ _ _ _ (above-below _ (d .before .if1 .left)) g (c .search .ensures)
+  e-returns-2 : e.Need-returns-2 (e-calls t) (e-at t) entry-target.Post
+  e-returns-2 c = λ R g. found-entry _ _ R _ _ _ _ _ (above-below _ (unknown (c .before))) g (c .search .ensures)
 
   rights-part-requires : p.Need-rights-part-requires (p-calls t) (p-at t) part.Post p-Inv p-μ
   rights-part-requires c κs =
@@ -329,43 +290,60 @@ module _ (t : ℕ) where
       let k = l .before .before .before .before .before .before .before .before .before in
       omega (arith, inside k (l .loop .j) (omega arith))
 
-  add-entry-target : p.Need-add-entry-target (p-calls t) (p-at t) part.Post p-Inv p-μ
-  add-entry-target c =
+  add-m : p.Need-add-m (p-calls t) (p-at t) part.Post p-Inv p-μ
+  add-m c =
       let l = c .before .before in
       let k = l .before .before .before .before .before .before .before .before .before in
       omega (arith, numbers k)
 
+  add-j : p.Need-add-j (p-calls t) (p-at t) part.Post p-Inv p-μ
+  add-j c = search needs
+
+  says-requires : p.Need-says-requires (p-calls t) (p-at t) part.Post p-Inv p-μ
+  says-requires c κs =
+      let l = c .before .before in
+      let d = l .before .before .before .before .before .before .before .before in
+      let k = d .before in
+      let a = k .before .before .before .args in
+      let g = given-entry k (l .loop .j) (d .table-start .result + k .part-entries .result * a .i + l .loop .j) _ (omega arith) (omega arith) refl in
+      (readable-good (a .pool .now) (a .below) _ (g .1 .0), g .1 .1)
+
   entry-target-requires-2 : p.Need-entry-target-requires-2 (p-calls t) (p-at t) part.Post p-Inv p-μ
   entry-target-requires-2 c κs =
-      let l = c .before .before in
+      let l = c .before .before .before .before in
       let d = l .before .before .before .before .before .before .before .before in
       let k = d .before in
       given-entry k (l .loop .j) (d .table-start .result + k .part-entries .result * k .before .before .before .args .i + l .loop .j) _ (omega arith) (omega arith) refl
 
   -- The entry that the loop reads, as it was found.
-  read : (c : p.After-entry-target2 (p-calls t) (p-at t) part.Post p-Inv p-μ) → let l = c .before .before .before in
-      let k = l .before .before .before .before .before .before .before .before .before in
+  read : (c : p.In-loop (p-calls t) (p-at t) part.Post p-Inv p-μ) (x : Target) → let l = c .before in
+      let d = l .before .before .before .before .before .before .before .before in
+      let k = d .before in
       let a = k .before .before .before .args in
-      targetOf (painted (a .paint) (given (words (a .pool .now)) (suc (a .below)) (a .e))) (a .below)
-      (((8 * a .n + a .i) * k .part-entries .result + l .loop .j) * block (a .below)) ≡ c .entry-target2 .result
-  read c =
-      let l = c .before .before .before in
+      let m = (8 * a .n + a .i) * k .part-entries .result + l .loop .j in
+      ((R : ℕ → ℕ)
+      → Gives (words (a .pool .now)) (a .below) (words (a .pool .now) (d .table-start .result + k .part-entries .result * a .i + l .loop .j)) m R
+      → x ≡ targetOf (painted (a .paint) R) (a .below) (m * block (a .below)))
+      → targetOf (painted (a .paint) (given (words (a .pool .now)) (suc (a .below)) (a .e))) (a .below) (m * block (a .below)) ≡ x
+  read c x g =
+      let l = c .before in
       let k = l .before .before .before .before .before .before .before .before .before in
       let a = k .before .before .before .args in
       let y = k .before .before .before .pre .1 .1 in
-      entry-found (a .paint) (words (a .pool .now)) (a .below) (a .e) (a .n) (a .i) _ (y .0) (k .part-entries .ensures) (l .loop .j) _ _ _ (omega arith) (y .2) (omega arith) (omega arith) refl (c .entry-target2 .ensures)
+      entry-found (a .paint) (words (a .pool .now)) (a .below) (a .e) (a .n) (a .i) _ (y .0) (k .part-entries .ensures) (l .loop .j) _ _ _ (omega arith) (y .2)
+      (omega arith) (omega arith) refl g
 
   -- One that is not said by the right of the first word: the sub-block has two.
-  two : (c : p.After-entry-target2 (p-calls t) (p-at t) part.Post p-Inv p-μ) → let l = c .before .before .before in
+  two : (c : p.After-entry-target2 (p-calls t) (p-at t) part.Post p-Inv p-μ) → let l = c .before .before .before .before .before in
       let a = l .before .before .before .before .before .before .before .before .before .before .before .before .args in
       (c .entry-target2 .result ≡ Says (l .before .same-entry .result) → ⊥)
       → PartIs (words (a .pool .now)) (a .paint) (suc (a .below)) (a .e) (a .n) (a .i) Two
   two c d =
-      let l = c .before .before .before in
+      let l = c .before .before .before .before .before in
       let k = l .before .before .before .before .before .before .before .before .before in
       let y = k .before .before .before .pre .1 .1 in
       entries-two _ _ _ _ _ _ _ (y .0) (k .part-entries .ensures) _ _ (l .loop .j) (l .before .same-entry .ensures) (omega arith) (l .loop .inv .1)
-      (λ e. d (sym (read c) ∙ e))
+      (λ e. d (sym (read (c .before .before .before .before) _ (c .entry-target2 .ensures)) ∙ e))
 
   enum-known-t : p.Need-enum-known-t (p-calls t) (p-at t) part.Post p-Inv p-μ
   enum-known-t c = search needs
@@ -377,26 +355,46 @@ module _ (t : ℕ) where
   p-returns-3 c = two (c .before .before) (λ e. mixed-not-said (sym (c .enum-told2 .given .1) ∙ e))
 
   p-returns-4 : p.Need-returns-4 (p-calls t) (p-at t) part.Post p-Inv p-μ
-  p-returns-4 c = two (c .before .before .before .before) (λ e. c .if2 .taken (same-said (sym (c .before .before .t .given .1) ∙ e)))
-
-  add-j : p.Need-add-j (p-calls t) (p-at t) part.Post p-Inv p-μ
-  add-j c = search needs
+  p-returns-4 c = two (c .before .before .before .before) (λ e. c .if3 .taken (same-said (sym (c .before .before .t .given .1) ∙ e)))
 
   p-loop-less : p.Need-loop-less (p-calls t) (p-at t) part.Post p-Inv p-μ
   p-loop-less c = search needs
 
+  -- One entry more that is said by the right of the first word.
+  more : (c : p.In-loop (p-calls t) (p-at t) part.Post p-Inv p-μ) → let l = c .before in
+      let k = l .before .before .before .before .before .before .before .before .before in
+      let a = k .before .before .before .args in
+      let R = painted (a .paint) (given (words (a .pool .now)) (suc (a .below)) (a .e)) in
+      let number = (8 * a .n + a .i) * k .part-entries .result in
+      targetOf R (a .below) ((number + l .loop .j) * block (a .below)) ≡ Says (l .before .same-entry .result)
+      → Plain R (number * (block (a .below) / 4)) (block (a .below) / 4 * (l .loop .j + 1)) (l .before .before .right-at .result)
+  more c says =
+      let l = c .before in
+      let k = l .before .before .before .before .before .before .before .before .before in
+      let a = k .before .before .before .args in
+      piece-plain (painted (a .paint) (given (words (a .pool .now)) (suc (a .below)) (a .e))) (a .below) ((8 * a .n + a .i) * k .part-entries .result)
+      (l .before .before .right-at .result) (l .before .same-entry .result) (l .before .same-entry .ensures) (l .loop .j)
+      (painted-given-small _ (a .paint) _ (a .e) (k .before .before .before .pre .1 .1 .3)) (rw (l .before .before .right-at .ensures) (right-small _ 0))
+      says (l .loop .inv .2)
+
   p-loop-again : p.Need-loop-again (p-calls t) (p-at t) part.Post p-Inv p-μ
   p-loop-again c =
       let r = c .before .before .before .before in
-      let l = r .before .before .before in
-      let k = l .before .before .before .before .before .before .before .before .before in
-      let a = k .before .before .before .args in (
+      let i = r .before .before .before .before in (
         omega arith,
-        l .loop .inv .1,
-        piece-plain (painted (a .paint) (given (words (a .pool .now)) (suc (a .below)) (a .e))) (a .below) ((8 * a .n + a .i) * k .part-entries .result)
-            (l .before .before .right-at .result) (l .before .same-entry .result) (l .before .same-entry .ensures) (l .loop .j)
-            (painted-given-small _ (a .paint) _ (a .e) (k .before .before .before .pre .1 .1 .3)) (rw (l .before .before .right-at .ensures) (right-small _ 0))
-            (read r ∙ c .before .before .t .given .1 ∙ ap Says (c .if2 .left)) (l .loop .inv .2),
+        i .before .loop .inv .1,
+        more i (read i _ (r .entry-target2 .ensures) ∙ c .before .before .t .given .1 ∙ ap Says (c .if3 .left)),
+      )
+
+  p-loop-less-2 : p.Need-loop-less-2 (p-calls t) (p-at t) part.Post p-Inv p-μ
+  p-loop-less-2 c = search needs
+
+  p-loop-again-2 : p.Need-loop-again-2 (p-calls t) (p-at t) part.Post p-Inv p-μ
+  p-loop-again-2 c =
+      let i = c .before .before .before in (
+        omega arith,
+        i .before .loop .inv .1,
+        more i (read i _ (λ R g. sym (c .before .says .ensures (not-false _ (c .if2 .left)) _ R g))),
       )
 
   p-returns-5 : p.Need-returns-5 (p-calls t) (p-at t) part.Post p-Inv p-μ
@@ -464,20 +462,13 @@ pub +entry-target+part+search-spec : {M : Type 1} → statement M
 +entry-target+part+search-spec =
     close μ-entry-target μ-part μ-search
     (λ t. e.spec (e-calls t) (e-at t) entry-target.Post
-    (paint-word-requires t)
+    (at-once-requires t)
+    (enum-known-known t)
     (e-returns t)
-    (sub-below t)
-    (part-words-requires t)
-    (mul-whole t)
-    (mul-meeting t)
-    (meeting-requires t)
     (e-enum-told t)
-    (eight-of-requires t)
-    (e-returns-2 t)
-    (e-enum-told-2 t)
-    (e-returns-3 t)
+    (sub-search t)
     (search-requires t)
-    (e-returns-4 t))
+    (e-returns-2 t))
     (λ t. p.spec (p-calls t) (p-at t) part.Post p-Inv p-μ
     (rights-part-requires t)
     (p-returns t)
@@ -502,15 +493,18 @@ pub +entry-target+part+search-spec : {M : Type 1} → statement M
     (add-w t)
     (mul-w t)
     (shared-slice-read-w t)
-    (add-entry-target t)
+    (add-m t)
+    (add-j t)
+    (says-requires t)
     (entry-target-requires-2 t)
     (enum-known-t t)
     (p-enum-told-2 t)
     (p-returns-3 t)
     (p-returns-4 t)
-    (add-j t)
     (p-loop-less t)
     (p-loop-again t)
+    (p-loop-less-2 t)
+    (p-loop-again-2 t)
     (p-returns-5 t))
     (λ t. s.spec (s-calls t) (s-at t) search′.Post s-Inv s-μ
     (s-loop-holds t)

@@ -1,0 +1,29 @@
+-- `targets::says` meets its contract.
+use mathlib.Core.Path.{sym, ap, _∙_}
+use mathlib.Core.Bool.{true≢false}
+use borrow.Author.Needs.{needs}
+use Rattle.targets.specs.declared.Target.the-variants.{Says}
+use Rattle.targets.proofs.says.Statement.{statement}
+use Rattle.targets.proofs.says.Tie as tie
+
+at-once-requires : tie.Need-at-once-requires
+at-once-requires c κs = search needs
+
+enum-known-known : tie.Need-enum-known-known
+enum-known-known c = search needs
+
+enum-told : tie.Need-enum-told
+enum-told c = search needs
+
+returns : tie.Need-returns
+returns c = λ y. absurd (true≢false (sym y))
+
+returns-2 : tie.Need-returns-2
+returns-2 c = λ y P R g. (rw (c .before .before .known .given .1) at (c .before .before .before .before .at-once .ensures)) P R g ∙ ap Says (c .if1 .taken)
+
+returns-3 : tie.Need-returns-3
+returns-3 c = λ y. absurd (true≢false (sym y))
+
+pub says-spec : {M : Type 1} → statement M
+says-spec =
+    tie.close (tie.spec at-once-requires enum-known-known enum-told returns returns-2 returns-3)
