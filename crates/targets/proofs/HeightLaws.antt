@@ -1,6 +1,6 @@
 -- Laws of the numbers of a height: the words, the entries and the number of a sub-block, by cases of the heights.
 use Prim.Native.Nat.{ℕ, zero, suc, _+_, _*_, _-_, _/_, _≤_, _<_}
-use mathlib.Core.Path.{_≡_, refl, sym, ap, _∙_}
+use mathlib.Core.Path.{_≡_}
 use native.Mathlib.Omega.{arith}
 use Rattle.table.specs.Map.{block, size}
 use Rattle.table.specs.Wants.{wordsIn}

@@ -2,7 +2,7 @@
 ghost use mathlib.Core.Path.{_≡_};
 ghost use mathlib.Core.Bool.{true};
 ghost use Prim.Native.Nat.{ℕ, suc, _+_, _*_, _/_, _%_, _<_, _≤_};
-ghost use lib.ListN.{length, getD};
+ghost use lib.ListN.{getD};
 ghost use Rattle.theory.specs.Pool.{words};
 ghost use Rattle.words.specs.Rights.{rightAt, pack, eightOf};
 ghost use Rattle.table.specs.Map.{block, parts, size};
@@ -150,6 +150,19 @@ fn table_start(e: u32) -> usize
     words::pool_index(table)
 }
 
+// How many memory words the block of an entry has.
+fn block_words(height: u32) -> u32
+    ensures { λ r. ⌜ r ≡ block height / 4 ⌝ }
+{
+    if height == 0 {
+        return 16;
+    }
+    if height == 1 {
+        return 1024;
+    }
+    1048576
+}
+
 // How many memory words a sub-block has, where the table that may stand for it has entries of the height `below`.
 fn part_words(below: u32) -> u32
     ensures { λ r. ⌜ r ≡ wordsIn (suc below) ⌝ }
@@ -179,19 +192,6 @@ fn same_entry(height: u32, right: u32) -> u32
         return words::sixteen_of(right);
     }
     words::eight_of(right)
-}
-
-// How many memory words the block of an entry has.
-fn block_words(height: u32) -> u32
-    ensures { λ r. ⌜ r ≡ block height / 4 ⌝ }
-{
-    if height == 0 {
-        return 16;
-    }
-    if height == 1 {
-        return 1024;
-    }
-    1048576
 }
 
 // What the entry of the block numbered `n` should be after the painting, where it is `e`. A block that is covered whole needs no search, nor
@@ -262,7 +262,8 @@ fn pack_eight(work: [u32; 8]) -> u32
     acc
 }
 
-// The same of a block with any entry: one that leads is searched entry by entry of its table, whose entries have the height `below`.
+// The same of a block with any entry: one that leads is searched entry by entry of its table, whose entries have the height `below`. Most of
+// these are known at once, and so are asked for that first: it is quicker than a call that may come back here.
 fn part(pool: &[u32], paint: Paint, below: u32, e: u32, n: u32, i: u32) -> One
     requires { ⌜ Readable (now pool) (suc below) e ⌝ }
     requires { ⌜ (below < 2) × (n < blocks (suc below)) × (i < 8) × (paint .right < 4) ⌝ }
@@ -320,7 +321,7 @@ fn search(pool: &[u32], paint: Paint, below: u32, e: u32, n: u32) -> Target
     Target::Says(pack_eight(work))
 }
 
-// What the entry of the block numbered `n` should be after the painting, where it is `e`.
+// What the entry of the block numbered `n` should be after the painting, where it is `e`. This, `search` and `part` call each other, the height falling.
 fn entry_target(pool: &[u32], paint: Paint, height: u32, e: u32, n: u32) -> Target
     requires { ⌜ Readable (now pool) height e ⌝ }
     requires { ⌜ (height ≤ 2) × (n < blocks height) × (paint .right < 4) ⌝ }

@@ -1,6 +1,6 @@
 -- `targets::part_entries` meets its contract.
 use Prim.Native.Nat.{ℕ, zero, suc, _/_}
-use mathlib.Core.Path.{_≡_, refl, sym, ap}
+use mathlib.Core.Path.{_≡_, refl}
 use Rattle.table.specs.Map.{size}
 use Rattle.targets.proofs.part_entries.Statement.{statement}
 use Rattle.targets.proofs.part_entries.Tie as tie

@@ -1,7 +1,6 @@
 -- `targets::part_words` meets its contract.
 use Prim.Native.Nat.{ℕ, zero, suc}
-use mathlib.Core.Path.{_≡_, refl, sym, ap}
-use native.Mathlib.Omega.{arith}
+use mathlib.Core.Path.{_≡_, refl}
 use Rattle.table.specs.Wants.{wordsIn}
 use Rattle.targets.proofs.part_words.Statement.{statement}
 use Rattle.targets.proofs.part_words.Tie as tie
