@@ -17,13 +17,14 @@ use Rattle.targets.specs.declared.One.the-variants.{Right, Two}
 use Rattle.targets.specs.declared.Target.{Target}
 use Rattle.targets.specs.declared.Target.the-variants.{Says, Mixed}
 use Rattle.targets.specs.Targets.{painted, given, targetOf, Gives, GivesLeaf, Readable}
-use Rattle.targets.specs.Steps.{CoverIs, Plain, OneIs, PartIs, GoodRights}
+use Rattle.targets.specs.Steps.{CoverIs, Plain, OneIs, PartIs, GoodRights, SaysIs}
 use Rattle.targets.proofs.PackLaws.{leaf-packed, eight-packed}
 use Rattle.targets.proofs.TargetLaws.{mixed-not-said}
 use Rattle.targets.proofs.PartLaws.{partWord}
 use Rattle.targets.proofs.PieceLaws.{leaf-target, piece-two, one-moved}
 use Rattle.targets.proofs.HeightLaws.{part-first, entry-in-table, entry-number, entries-first, entries-words, entries-upto}
 use Rattle.targets.proofs.GivenLaws.{gives-parts, gives-entry, gives-leaf}
+use Rattle.targets.proofs.PaintLaws.{inside-none}
 use Rattle.targets.proofs.SearchLaws.{whole-target, apart-target, given-target}
 
 -- A leaf entry is rights, and so is any whose bit 31 is set.
@@ -115,3 +116,8 @@ module _ (p : Paint) (P : ℕ → ℕ) (b e n i : ℕ) where
         let z : j ≡ count = omega arith in
         one-moved (Right u) rights-after (number * (block b / 4)) (partWord (suc b) n i) (wordsIn (suc b)) (entries-first b count low is n i)
         (rw (z, entries-words b count low is) at f)
+
+-- Where nothing is painted, an entry that is rights stands.
+pub bare-says : (p : Paint) (h e n same : ℕ) → p .hi ≤ p .lo → e ≡ same → e < 4294967296 → GoodRights h e → leads h e ≡ false → SaysIs p h e n same
+bare-says p h e n same le is b r l P R g =
+    apart-entry p R h n (block h / 4) refl P e b r g l (λ j x. inside-none p (n * (block h / 4) + j) le) ∙ ap Says is

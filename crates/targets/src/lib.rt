@@ -221,12 +221,34 @@ fn at_once(paint: Paint, height: u32, e: u32, n: u32) -> Told
     Told::Unknown
 }
 
+// Whether it is `same` because it stands so and nothing is painted: the settled test asks this of nearly every entry.
+fn stands(paint: Paint, height: u32, e: u32, n: u32, same: u32) -> bool
+    requires { ⌜ GoodRights height e ⌝ }
+    ensures { λ r. ⌜ (r ≡ true → SaysIs paint height e n same) ⌝ }
+{
+    let lo = paint.lo;
+    let hi = paint.hi;
+    if lo < hi {
+        return false;
+    }
+    if e != same {
+        return false;
+    }
+    if e >= 0x8000_0000 {
+        return true;
+    }
+    height == 0
+}
+
 // Whether it is known to be `same`.
 fn says(paint: Paint, height: u32, e: u32, n: u32, same: u32) -> bool
     requires { ⌜ GoodRights height e ⌝ }
     requires { ⌜ (height ≤ 2) × (n < blocks height) × (paint .right < 4) ⌝ }
     ensures { λ r. ⌜ (r ≡ true → SaysIs paint height e n same) ⌝ }
 {
+    if stands(paint, height, e, n, same) {
+        return true;
+    }
     let known = at_once(paint, height, e, n);
     let Told::Known(w) = known else {
         return false;
