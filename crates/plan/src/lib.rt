@@ -1,22 +1,21 @@
-// Changes and tidyings: a plan by value, stores that each leave a safe pool, and a cut wherever the allowance ends.
+// The plan of a change, by value: the edges of the region, what they come to, and places for their new tables.
 ghost use mathlib.Core.Path.{_≡_};
 ghost use Prim.Native.Nat.{ℕ, _+_, _*_, _/_, _%_, _<_, _≤_};
 ghost use mathlib.Core.List.{List};
-ghost use mathlib.Core.Bool.{Bool, true, cond};
+ghost use mathlib.Core.Bool.{Bool};
 ghost use lib.ListN.{length};
 ghost use Rattle.theory.specs.Pool.{words};
 ghost use Rattle.theory.specs.Settled.{Settled};
 ghost use Rattle.table.specs.Shape.{Fits};
 ghost use Rattle.table.specs.Map.{formOf};
-ghost use Rattle.plan.specs.Plan.{rootAfter, pageAfter, leafAfter, after, newWord, phaseOf, InTable};
-ghost use Rattle.plan.specs.Plan.{isLead, isNew};
 ghost use Rattle.plan.specs.Planning.{Regular};
-ghost use Rattle.plan.specs.Edges.{PlansChange, edgeFor, edgeAt, entryAt, ReadableRoot, RootGives, draftOf, staysOf, marked};
-ghost use Rattle.plan.specs.Edges.{EndsTold, Kept, FirstFree, TakenIs, NoneNew, MarksServe, EndsGiven};
+ghost use Rattle.plan.specs.Edges.{PlansChange, edgeFor, edgeAt, entryAt, ReadableRoot, RootGives, draftOf};
+ghost use Rattle.plan.specs.Edges.{FirstFree, TakenIs, NoneNew, EndsGiven};
 use table::Shape;
 use targets::Paint;
 use targets::Target;
-use words::PoolWord;
+
+mod keeping; // keeping.rt: the places of tables that stay
 
 // What a pointer holds while the place of its new table is still to be found: it leads, and no pool word has this number.
 pub const PENDING: u32 = 0x7FFF_FFFF;
@@ -162,186 +161,6 @@ fn draft_plan(pool: &[u32], domain: u32, paint: Paint) -> Plan
     }
 }
 
-// Whether block `n` of domain `e`, which has a table, wants it after the change too: only the change's own domain is touched, and there only the
-// blocks from the first edge to the last; those between the two are covered whole.
-fn still_wanted(domain: u32, first: Edge, last: Edge, e: u32, n: u32) -> bool
-    ensures { λ r. ⌜ r ≡ staysOf domain first last e n ⌝ }
-{
-    let f = first.number;
-    let l = last.number;
-    let f_entry = first.last;
-    let l_entry = last.last;
-    if e != domain {
-        return true;
-    }
-    if n == f {
-        return f_entry < 0x8000_0000;
-    }
-    if n == l {
-        return l_entry < 0x8000_0000;
-    }
-    if n < f {
-        return true;
-    }
-    l < n
-}
-
-// The place of a table of block `n` of domain `e` is marked where the table is kept.
-fn keep_place(
-    kept: Marks,
-    domain: u32,
-    first: Edge,
-    last: Edge,
-    e: u32,
-    n: u32,
-    place: u32,
-) -> Marks
-    requires { ⌜ place < 64 ⌝ }
-    ensures { λ r. ⌜ r ≡ cond (staysOf domain first last e n) (marked kept place) kept ⌝ }
-{
-    let mut m = kept;
-    let stays = still_wanted(domain, first, last, e, n);
-    if stays {
-        m.on[place as usize] = true;
-        return m;
-    }
-    m
-}
-
-// Whether the edge gets a table that it did not have.
-fn is_new(edge: Edge) -> bool
-    ensures { λ r. ⌜ r ≡ isNew edge ⌝ }
-{
-    let old = edge.old;
-    let last = edge.last;
-    if last >= 0x8000_0000 {
-        return false;
-    }
-    if old >= 0x8000_0000 {
-        return true;
-    }
-    false
-}
-
-// Whether neither end of the region does.
-fn none_new(first: Edge, last: Edge) -> bool
-    ensures { λ r. ⌜ (r ≡ true → NoneNew first last) ⌝ }
-{
-    if is_new(first) {
-        return false;
-    }
-    if is_new(last) {
-        return false;
-    }
-    true
-}
-
-// The places of the middle tables that are kept, of every domain.
-fn mark_middles(pool: &[u32], shape: Shape, plan: Plan) -> Marks
-    requires { ⌜ Fits shape (length (now pool)) ⌝ }
-    requires { ⌜ Settled (formOf shape) (words (now pool)) ⌝ }
-    requires { ⌜ EndsTold shape (plan .domain) (plan .paint) (words (now pool)) 1 (plan .«first_block») (plan .«last_block») ⌝ }
-    ensures { λ r. ⌜ Kept shape (plan .domain) (plan .paint) (words (now (pool .entry))) 1 (1024 * shape .domains) (r .on) ⌝ }
-{
-    let domains = shape.domains;
-    let domain = plan.domain;
-    let first = plan.first_block;
-    let last = plan.last_block;
-    let roots = 1024 * domains;
-    let mut kept = Marks { on: [false; 64] };
-    let mut k: u32 = 0;
-    while k < roots {
-        let w = pool[k as usize];
-        if w < 0x8000_0000 {
-            let place = (w - roots) / 1024;
-            kept = keep_place(kept, domain, first, last, k / 1024, k % 1024, place);
-        }
-        k += 1;
-    }
-    kept
-}
-
-// The same; where no new table asks for a place, there is nothing to look for.
-fn kept_middles(pool: &[u32], shape: Shape, plan: Plan) -> Marks
-    requires { ⌜ Fits shape (length (now pool)) ⌝ }
-    requires { ⌜ Settled (formOf shape) (words (now pool)) ⌝ }
-    requires { ⌜ EndsTold shape (plan .domain) (plan .paint) (words (now pool)) 1 (plan .«first_block») (plan .«last_block») ⌝ }
-    ensures { λ r. ⌜ MarksServe shape (plan .domain) (plan .paint) (words (now (pool .entry))) 1 (plan .«first_block») (plan .«last_block») (r .on) ⌝ }
-{
-    let first = plan.first_block;
-    let last = plan.last_block;
-    if none_new(first, last) {
-        return Marks { on: [false; 64] };
-    }
-    mark_middles(pool, shape, plan)
-}
-
-// The same for the leaves of the middle table to which root word `k` leads.
-fn keep_leaves(pool: &[u32], shape: Shape, plan: Plan, k: u32, before: Marks) -> Marks
-    requires { ⌜ Fits shape (length (now pool)) ⌝ }
-    requires { ⌜ Settled (formOf shape) (words (now pool)) ⌝ }
-    requires { ⌜ EndsTold shape (plan .domain) (plan .paint) (words (now pool)) 0 (plan .«first_page») (plan .«last_page») ⌝ }
-    requires { ⌜ (k < 1024 * shape .domains) × (isLead (words (now pool) k) ≡ true) ⌝ }
-    requires { ⌜ Kept shape (plan .domain) (plan .paint) (words (now pool)) 0 (1024 * k) (before .on) ⌝ }
-    ensures { λ r. ⌜ Kept shape (plan .domain) (plan .paint) (words (now (pool .entry))) 0 (1024 * (k + 1)) (r .on) ⌝ }
-{
-    let domains = shape.domains;
-    let middles = shape.middles;
-    let domain = plan.domain;
-    let first = plan.first_page;
-    let last = plan.last_page;
-    let from = 1024 * domains + 1024 * middles;
-    let table = pool[k as usize];
-    let mut kept = before;
-    let mut i: u32 = 0;
-    while i < 1024 {
-        let w = pool[(table + i) as usize];
-        if w < 0x8000_0000 {
-            let place = (w - from) / 64;
-            let page = 1024 * (k % 1024) + i;
-            kept = keep_place(kept, domain, first, last, k / 1024, page, place);
-        }
-        i += 1;
-    }
-    kept
-}
-
-// The places of the leaves that are kept, of every domain.
-fn mark_leaves(pool: &[u32], shape: Shape, plan: Plan) -> Marks
-    requires { ⌜ Fits shape (length (now pool)) ⌝ }
-    requires { ⌜ Settled (formOf shape) (words (now pool)) ⌝ }
-    requires { ⌜ EndsTold shape (plan .domain) (plan .paint) (words (now pool)) 0 (plan .«first_page») (plan .«last_page») ⌝ }
-    ensures { λ r. ⌜ Kept shape (plan .domain) (plan .paint) (words (now (pool .entry))) 0 (1048576 * shape .domains) (r .on) ⌝ }
-{
-    let domains = shape.domains;
-    let roots = 1024 * domains;
-    let mut kept = Marks { on: [false; 64] };
-    let mut k: u32 = 0;
-    while k < roots {
-        let w = pool[k as usize];
-        if w < 0x8000_0000 {
-            kept = keep_leaves(pool, shape, plan, k, kept);
-        }
-        k += 1;
-    }
-    kept
-}
-
-// The same; where no new leaf asks for a place, there is nothing to look for.
-fn kept_leaves(pool: &[u32], shape: Shape, plan: Plan) -> Marks
-    requires { ⌜ Fits shape (length (now pool)) ⌝ }
-    requires { ⌜ Settled (formOf shape) (words (now pool)) ⌝ }
-    requires { ⌜ EndsTold shape (plan .domain) (plan .paint) (words (now pool)) 0 (plan .«first_page») (plan .«last_page») ⌝ }
-    ensures { λ r. ⌜ MarksServe shape (plan .domain) (plan .paint) (words (now (pool .entry))) 0 (plan .«first_page») (plan .«last_page») (r .on) ⌝ }
-{
-    let first = plan.first_page;
-    let last = plan.last_page;
-    if none_new(first, last) {
-        return Marks { on: [false; 64] };
-    }
-    mark_leaves(pool, shape, plan)
-}
-
 // The first place from `from` on that is not marked, or `to`.
 fn next_free(kept: Marks, from: u32, to: u32) -> u32
     requires { ⌜ (from ≤ to) × (to ≤ 64) ⌝ }
@@ -427,12 +246,12 @@ pub fn plan_change(pool: &[u32], shape: Shape, domain: u32, paint: Paint) -> Pla
     let last_block = draft.last_block;
     let first_page = draft.first_page;
     let last_page = draft.last_page;
-    let kept = kept_middles(pool, shape, draft);
+    let kept = keeping::kept_middles(pool, shape, draft);
     let at_blocks = place_ends(kept, middles, first_middle, 1024, first_block, last_block);
     let Ends::Both(a, b) = at_blocks else {
         return Planning::NoRoom;
     };
-    let kept_too = kept_leaves(pool, shape, draft);
+    let kept_too = keeping::kept_leaves(pool, shape, draft);
     let at_pages = place_ends(kept_too, leaves, first_leaf, 64, first_page, last_page);
     let Ends::Both(c, e) = at_pages else {
         return Planning::NoRoom;

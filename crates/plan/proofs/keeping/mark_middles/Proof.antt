@@ -1,4 +1,4 @@
--- `plan::mark_middles` meets its contract. The loop's invariant: the places of the kept tables of the blocks passed are marked.
+-- `plan::keeping::mark_middles` meets its contract. The loop's invariant: the places of the kept tables of the blocks passed are marked.
 use Prim.Native.Nat.{_+_, _*_, _-_, _≤_}
 use mathlib.Core.Path.{_≡_, refl, sym, subst, _∙_}
 use mathlib.Core.Logic.{⊎-elim}
@@ -11,8 +11,8 @@ use Rattle.targets.specs.declared.Paint.{Paint}
 use Rattle.plan.specs.declared.Marks.{Marks}
 use Rattle.plan.specs.Edges.{Kept}
 use Rattle.plan.proofs.KeptLaws.{Scene, kept-none, kept-middle, kept-none-middle, middle-in}
-use Rattle.plan.proofs.mark_middles.Statement.{statement}
-use Rattle.plan.proofs.mark_middles.Tie as tie
+use Rattle.plan.proofs.keeping.mark_middles.Statement.{statement}
+use Rattle.plan.proofs.keeping.mark_middles.Tie as tie
 
 abbrev Inv-loop : tie.InvT-loop
 Inv-loop pool domains domain first last roots kept₀ k₀ kept k =

@@ -1,9 +1,9 @@
--- `plan::none_new` meets its contract.
+-- `plan::keeping::none_new` meets its contract.
 use mathlib.Core.Path.{sym, _∙_}
 use mathlib.Core.Bool.{false≢true}
 use borrow.Author.Needs.{needs}
-use Rattle.plan.proofs.none_new.Statement.{statement}
-use Rattle.plan.proofs.none_new.Tie as tie
+use Rattle.plan.proofs.keeping.none_new.Statement.{statement}
+use Rattle.plan.proofs.keeping.none_new.Tie as tie
 
 is-new-requires : tie.Need-is-new-requires
 is-new-requires c κs = search needs

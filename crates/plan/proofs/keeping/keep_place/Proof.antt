@@ -1,10 +1,10 @@
--- `plan::keep_place` meets its contract.
+-- `plan::keeping::keep_place` meets its contract.
 use mathlib.Core.Path.{sym, ap, _∙_}
 use mathlib.Core.Bool.{cond}
 use borrow.Author.Needs.{needs}
 use Rattle.plan.specs.Edges.{marked}
-use Rattle.plan.proofs.keep_place.Statement.{statement}
-use Rattle.plan.proofs.keep_place.Tie as tie
+use Rattle.plan.proofs.keeping.keep_place.Statement.{statement}
+use Rattle.plan.proofs.keeping.keep_place.Tie as tie
 
 still-wanted-requires : tie.Need-still-wanted-requires
 still-wanted-requires c κs = search needs

@@ -1,4 +1,4 @@
--- `plan::mark_leaves` meets its contract. The loop's invariant: the places of the kept leaves of the root words passed are marked.
+-- `plan::keeping::mark_leaves` meets its contract. The loop's invariant: the places of the kept leaves of the root words passed are marked.
 use Prim.Native.Nat.{_+_, _*_, _-_, _≤_}
 use mathlib.Core.Path.{_≡_, sym, subst}
 use mathlib.Core.Logic.{⊎-elim}
@@ -9,8 +9,8 @@ use Rattle.theory.specs.Pool.{words}
 use Rattle.plan.specs.declared.Marks.{Marks}
 use Rattle.plan.specs.Edges.{Kept}
 use Rattle.plan.proofs.KeptLaws.{kept-none, kept-without}
-use Rattle.plan.proofs.mark_leaves.Statement.{statement}
-use Rattle.plan.proofs.mark_leaves.Tie as tie
+use Rattle.plan.proofs.keeping.mark_leaves.Statement.{statement}
+use Rattle.plan.proofs.keeping.mark_leaves.Tie as tie
 
 abbrev Inv-loop : tie.InvT-loop
 Inv-loop pool shape plan domains roots kept₀ k₀ kept k =

@@ -1,4 +1,4 @@
--- `plan::keep_leaves` meets its contract. The loop's invariant: the places of the kept leaves of the pages passed are marked.
+-- `plan::keeping::keep_leaves` meets its contract. The loop's invariant: the places of the kept leaves of the pages passed are marked.
 use Prim.Native.Nat.{ℕ, _+_, _*_, _-_, _/_, _≤_, _<_}
 use mathlib.Core.Path.{_≡_, refl, sym, subst, _∙_}
 use mathlib.Core.Logic.{⊎-elim}
@@ -12,8 +12,8 @@ use Rattle.targets.specs.declared.Paint.{Paint}
 use Rattle.plan.specs.declared.Marks.{Marks}
 use Rattle.plan.specs.Edges.{Kept}
 use Rattle.plan.proofs.KeptLaws.{Scene, kept-leaf, kept-past, middle-in, leaf-in}
-use Rattle.plan.proofs.keep_leaves.Statement.{statement}
-use Rattle.plan.proofs.keep_leaves.Tie as tie
+use Rattle.plan.proofs.keeping.keep_leaves.Statement.{statement}
+use Rattle.plan.proofs.keeping.keep_leaves.Tie as tie
 
 abbrev Inv-loop : tie.InvT-loop
 Inv-loop pool k domains middles domain first last from table kept₀ i₀ kept i =

@@ -1,8 +1,8 @@
--- `plan::is_new` meets its contract.
+-- `plan::keeping::is_new` meets its contract.
 use mathlib.Core.Path.{_≡_, refl}
 use borrow.Author.Tests.{lt-ltb, le-ltb}
-use Rattle.plan.proofs.is_new.Statement.{statement}
-use Rattle.plan.proofs.is_new.Tie as tie
+use Rattle.plan.proofs.keeping.is_new.Statement.{statement}
+use Rattle.plan.proofs.keeping.is_new.Tie as tie
 
 returns : tie.Need-returns
 returns c = let a = c .before .args in rw (le-ltb (a .edge .last) 2147483648 (c .if1 .taken)) refl

@@ -1,7 +1,7 @@
--- `plan::still_wanted` meets its contract.
+-- `plan::keeping::still_wanted` meets its contract.
 use borrow.Author.Tests.{eq-eqb, ne-eqb, lt-ltb, le-ltb}
-use Rattle.plan.proofs.still_wanted.Statement.{statement}
-use Rattle.plan.proofs.still_wanted.Tie as tie
+use Rattle.plan.proofs.keeping.still_wanted.Statement.{statement}
+use Rattle.plan.proofs.keeping.still_wanted.Tie as tie
 
 returns : tie.Need-returns
 returns c = simp (ne-eqb _ _ (c .if1 .taken))
