@@ -7,7 +7,7 @@ use native.Mathlib.Omega.{arith}
 use borrow.Author.Tests.{lt-ltb, le-ltb}
 use Rattle.theory.specs.Pool.{words}
 use Rattle.words.specs.Rights.{rightAt, pack}
-use Rattle.table.specs.Map.{block, parts, size, leads}
+use Rattle.table.specs.Map.{block, parts, leads}
 use Rattle.table.specs.Wants.{wordsIn, above, saidOf}
 use Rattle.table.proofs.BlockLaws.{first-word}
 use Rattle.targets.specs.declared.Paint.{Paint}
@@ -22,7 +22,7 @@ use Rattle.targets.proofs.PackLaws.{leaf-packed, eight-packed}
 use Rattle.targets.proofs.TargetLaws.{mixed-not-said}
 use Rattle.targets.proofs.PartLaws.{partWord}
 use Rattle.targets.proofs.PieceLaws.{leaf-target, piece-two, one-moved}
-use Rattle.targets.proofs.HeightLaws.{part-first, entry-in-table, entry-number, entries-first, entries-words, entries-upto}
+use Rattle.targets.proofs.HeightLaws.{part-first, Entries}
 use Rattle.targets.proofs.GivenLaws.{gives-parts, gives-entry, gives-leaf}
 use Rattle.targets.proofs.PaintLaws.{inside-none}
 use Rattle.targets.proofs.SearchLaws.{whole-target, apart-target, given-target}
@@ -80,42 +80,42 @@ module _ (p : Paint) (P : ℕ → ℕ) (b e n i : ℕ) where
       rw (z, is) at (f (rw (z, is, says) g))
 
   -- A sub-block of an entry that leads: it has `count` entries of the table.
-  module _ (count : ℕ) (low : b < 2) (is : count ≡ size b / 8) where
+  module _ (count : ℕ) (s : Entries b n i count) where
     abbrev number : ℕ
     number = (8 * n + i) * count
 
     -- Entry `j` of these is readable ..
-    pub entry-readable : (q : List ℕ) (j x : ℕ) → Readable q (suc b) e → e < 2147483648 → i < 8 → j < count → x ≡ e + (count * i + j)
+    pub entry-readable : (q : List ℕ) (j x : ℕ) → Readable q (suc b) e → e < 2147483648 → j < count → x ≡ e + (count * i + j)
         → Readable q b (words q x)
-    entry-readable q j x r l bi bj at = rw at (r .entries (lt-ltb e 2147483648 l) (count * i + j) (entry-in-table b count low is i j bi bj))
+    entry-readable q j x r l bj at = rw at (r .entries (lt-ltb e 2147483648 l) (count * i + j) (s .inside j bj))
 
     -- .. and, as it was found, is the target of its words.
-    pub entry-found : (j x m : ℕ) (t : Target) → e < 2147483648 → i < 8 → j < count → x ≡ e + (count * i + j) → m ≡ number + j
+    pub entry-found : (j x m : ℕ) (t : Target) → e < 2147483648 → j < count → x ≡ e + (count * i + j) → m ≡ number + j
         → ((R : ℕ → ℕ) → Gives P b (P x) m R → t ≡ targetOf (painted p R) b (m * block b)) → targetOf rights-after b (m * block b) ≡ t
-    entry-found j x m t l bi bj at to g =
-        sym (g (given P (suc b) e) (gives-entry P b e n (count * i + j) x m low (lt-ltb e 2147483648 l) (entry-in-table b count low is i j bi bj) at
-        (to ∙ entry-number b count low is n i j)))
+    entry-found j x m t l bj at to g =
+        sym (g (given P (suc b) e) (gives-entry P b e n (count * i + j) x m (s .low) (lt-ltb e 2147483648 l) (s .inside j bj) at
+        (to ∙ s .number j)))
 
     -- One that does not say the right `u` of the first word: the sub-block has two.
     pub entries-two : (u same j : ℕ) → pack (above b) (parts b) (λ k. u) ≡ same → j < count → rights-after (4 * (number * (block b / 4))) ≡ u
         → (targetOf rights-after b ((number + j) * block b) ≡ Says same → ⊥) → PartIs P p (suc b) e n i Two
     entries-two u same j says bj first other =
-        one-moved Two rights-after (number * (block b / 4)) (partWord (suc b) n i) (wordsIn (suc b)) (entries-first b count low is n i)
-        (piece-two rights-after b number u same says j (wordsIn (suc b)) (first-word (suc b)) (entries-upto b count low is j bj) first other)
+        one-moved Two rights-after (number * (block b / 4)) (partWord (suc b) n i) (wordsIn (suc b)) (s .first)
+        (piece-two rights-after b number u same says j (wordsIn (suc b)) (first-word (suc b)) (s .upto j bj) first other)
 
     -- So it has where the first is mixed.
-    pub first-mixed : 0 < count → targetOf rights-after b (number * block b) ≡ Mixed → PartIs P p (suc b) e n i Two
-    first-mixed some f =
+    pub first-mixed : targetOf rights-after b (number * block b) ≡ Mixed → PartIs P p (suc b) e n i Two
+    first-mixed f =
         let z : number + 0 ≡ number = omega arith in
-        entries-two _ _ 0 refl some refl (rw z (λ g. mixed-not-said (sym f ∙ g)))
+        entries-two _ _ 0 refl (s .some) refl (rw z (λ g. mixed-not-said (sym f ∙ g)))
 
     -- The entries all say `u`.
     pub entries-one : (u j : ℕ) → j ≤ count → count ≤ j → Plain rights-after (number * (block b / 4)) (block b / 4 * j) u
         → PartIs P p (suc b) e n i (Right u)
     entries-one u j l m f =
         let z : j ≡ count = omega arith in
-        one-moved (Right u) rights-after (number * (block b / 4)) (partWord (suc b) n i) (wordsIn (suc b)) (entries-first b count low is n i)
-        (rw (z, entries-words b count low is) at f)
+        one-moved (Right u) rights-after (number * (block b / 4)) (partWord (suc b) n i) (wordsIn (suc b)) (s .first)
+        (rw (z, s .whole) at f)
 
 -- Where nothing is painted, an entry that is rights stands.
 pub bare-says : (p : Paint) (h e n same : ℕ) → p .hi ≤ p .lo → e ≡ same → e < 4294967296 → GoodRights h e → leads h e ≡ false → SaysIs p h e n same

@@ -40,74 +40,44 @@ module _ (b n i long : ℕ) (is : long ≡ wordsIn (suc b)) where
       cases zero l = omega arith
       cases (suc b) l = omega arith
 
--- Its `count` entries in the table, whose entries have the height `b`.
-module _ (b count : ℕ) (low : b < 2) (is : count ≡ size b / 8) where
-  pub few-entries : (0 < count) × (count ≤ 128)
-  few-entries = rw is (cases b)
-    where
-      cases : (b : ℕ) → (0 < size b / 8) × (size b / 8 ≤ 128)
-      cases zero = (omega arith, omega arith)
-      cases (suc b) = (omega arith, omega arith)
+-- Sub-block `i` has `count` entries of the table, whose entries have the height `b`.
+pub record Entries (b n i count : ℕ) : Type 0 where
+  pub low : b < 2
+  pub some : 0 < count
+  pub end : count * i + count ≤ 1024
+  pub numbers : (8 * n + i) * count + count ≤ 67108864
+  -- Entry `j` of these is in the table, and its block in the memory ..
+  pub inside : (j : ℕ) → j < count → count * i + j < size b
+  pub number : (j : ℕ) → (8 * n + i) * count + j ≡ n * size b + (count * i + j)
+  pub few : (j : ℕ) → j < count → (8 * n + i) * count + j < blocks b
+  -- .. and they stand for the words of the sub-block.
+  pub first : (8 * n + i) * count * (block b / 4) ≡ partWord (suc b) n i
+  pub whole : block b / 4 * count ≡ wordsIn (suc b)
+  pub upto : (j : ℕ) → j < count → block b / 4 * (j + 1) ≤ wordsIn (suc b)
 
-  pub entries-before : (i : ℕ) → i < 8 → count * i + count ≤ 1024
-  entries-before i l = rw is (cases b)
-    where
-      cases : (b : ℕ) → size b / 8 * i + size b / 8 ≤ 1024
-      cases zero = omega arith
-      cases (suc b) = omega arith
-
-  pub entry-in-table : (i j : ℕ) → i < 8 → j < count → count * i + j < size b
-  entry-in-table i j l m = cases b count is m
-    where
-      cases : (b count : ℕ) → count ≡ size b / 8 → j < count → count * i + j < size b
-      cases zero count is m = rw is (omega arith)
-      cases (suc b) count is m = rw is (omega arith)
-
-  pub entry-number : (n i j : ℕ) → (8 * n + i) * count + j ≡ n * size b + (count * i + j)
-  entry-number n i j = rw is (cases b)
-    where
-      cases : (b : ℕ) → (8 * n + i) * (size b / 8) + j ≡ n * size b + (size b / 8 * i + j)
-      cases zero = omega arith
-      cases (suc b) = omega arith
-
-  pub numbers-few : (n i : ℕ) → n < blocks (suc b) → i < 8 → (8 * n + i) * count + count ≤ 67108864
-  numbers-few n i l m = rw is (cases b low l)
-    where
-      cases : (b : ℕ) → b < 2 → n < blocks (suc b) → (8 * n + i) * (size b / 8) + size b / 8 ≤ 67108864
-      cases zero low l = omega arith
-      cases (suc zero) low l = omega arith
-      cases (suc (suc b)) low l = absurd (omega arith)
-
-  pub entry-few : (n i j : ℕ) → n < blocks (suc b) → i < 8 → j < count → (8 * n + i) * count + j < blocks b
-  entry-few n i j l m k = cases b count low is l k
-    where
-      cases : (b count : ℕ) → b < 2 → count ≡ size b / 8 → n < blocks (suc b) → j < count → (8 * n + i) * count + j < blocks b
-      cases zero count low is l k = rw is (omega arith)
-      cases (suc zero) count low is l k = rw is (omega arith)
-      cases (suc (suc b)) count low is l k = absurd (omega arith)
-
-  -- They stand for its words.
-  pub entries-first : (n i : ℕ) → (8 * n + i) * count * (block b / 4) ≡ partWord (suc b) n i
-  entries-first n i = rw is (cases b low)
-    where
-      cases : (b : ℕ) → b < 2 → (8 * n + i) * (size b / 8) * (block b / 4) ≡ partWord (suc b) n i
-      cases zero low = omega arith
-      cases (suc zero) low = omega arith
-      cases (suc (suc b)) low = absurd (omega arith)
-
-  pub entries-words : block b / 4 * count ≡ wordsIn (suc b)
-  entries-words = rw is (cases b low)
-    where
-      cases : (b : ℕ) → b < 2 → block b / 4 * (size b / 8) ≡ wordsIn (suc b)
-      cases zero low = omega arith
-      cases (suc zero) low = omega arith
-      cases (suc (suc b)) low = absurd (omega arith)
-
-  -- The words up to entry `j` are no more than they have.
-  pub entries-upto : (j : ℕ) → j < count → block b / 4 * (j + 1) ≤ wordsIn (suc b)
-  entries-upto j l = cases b count low is l
-    where
-      cases : (b count : ℕ) → b < 2 → count ≡ size b / 8 → j < count → block b / 4 * (j + 1) ≤ wordsIn (suc b)
-      cases zero count low is l = omega arith
-      cases (suc zero) count low is l = omega arith
-      cases (suc (suc b)) count low is l = absurd (omega arith)
+pub entries : (b n i count : ℕ) → b < 2 → count ≡ size b / 8 → n < blocks (suc b) → i < 8 → Entries b n i count
+entries zero n i count l is m k = rw is (record {
+  low = l;
+  some = omega arith;
+  end = omega arith;
+  numbers = omega arith;
+  inside = λ j b. omega arith;
+  number = λ j. omega arith;
+  few = λ j b. omega arith;
+  first = omega arith;
+  whole = omega arith;
+  upto = λ j b. omega arith;
+})
+entries (suc zero) n i count l is m k = rw is (record {
+  low = l;
+  some = omega arith;
+  end = omega arith;
+  numbers = omega arith;
+  inside = λ j b. omega arith;
+  number = λ j. omega arith;
+  few = λ j b. omega arith;
+  first = omega arith;
+  whole = omega arith;
+  upto = λ j b. omega arith;
+})
+entries (suc (suc b)) n i count l is m k = absurd (omega arith)

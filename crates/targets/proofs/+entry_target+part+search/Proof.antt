@@ -20,7 +20,7 @@ use Rattle.targets.specs.Steps.{Plain, PartIs}
 use Rattle.targets.proofs.TargetLaws.{same-said, mixed-not-said}
 use Rattle.targets.proofs.PartLaws.{target-first}
 use Rattle.targets.proofs.PieceLaws.{piece-plain}
-use Rattle.targets.proofs.HeightLaws.{above-below, few-blocks, few-entries, entries-before, entry-in-table, numbers-few, entry-few}
+use Rattle.targets.proofs.HeightLaws.{above-below, few-blocks, Entries, entries}
 use Rattle.targets.proofs.GivenLaws.{painted-given-small}
 use Rattle.targets.proofs.SearchLaws.{Gathers, gathers-none, gathers-more, gathers-two, gathers-all}
 use Rattle.targets.proofs.EntryLaws.{found-entry, readable-good, entry-readable, entry-found, entries-two, first-mixed, entries-one}
@@ -158,28 +158,19 @@ module _ (t : ℕ) where
   table-start-requires : p.Need-table-start-requires (p-calls t) (p-at t) part.Post p-Inv p-μ
   table-start-requires c κs = search needs
 
-  -- The sub-block's entries are below number 1,024 in the table, and are among those of the memory.
-  before : (c : p.After-part-entries (p-calls t) (p-at t) part.Post p-Inv p-μ)
-      → c .part-entries .result * c .before .before .before .args .i + c .part-entries .result ≤ 1024
-  before c = entries-before _ _ (c .before .before .before .pre .1 .1 .0) (c .part-entries .ensures) _ (c .before .before .before .pre .1 .1 .2)
-
-  numbers : (c : p.After-part-entries (p-calls t) (p-at t) part.Post p-Inv p-μ)
-      → let a = c .before .before .before .args in (8 * a .n + a .i) * c .part-entries .result + c .part-entries .result ≤ 67108864
-  numbers c =
-      let x = c .before .before .before .pre .1 .1 in
-      numbers-few _ _ (x .0) (c .part-entries .ensures) _ _ (x .1) (x .2)
-
-  some : (c : p.After-part-entries (p-calls t) (p-at t) part.Post p-Inv p-μ) → 0 < c .part-entries .result
-  some c = let x = c .before .before .before in few-entries (x .args .below) _ (x .pre .1 .1 .0) (c .part-entries .ensures) .0
+  -- The numbers of the sub-block's entries.
+  sub : (c : p.After-part-entries (p-calls t) (p-at t) part.Post p-Inv p-μ)
+      → let a = c .before .before .before .args in Entries (a .below) (a .n) (a .i) (c .part-entries .result)
+  sub c = let x = c .before .before .before .pre .1 .1 in entries _ _ _ _ (x .0) (c .part-entries .ensures) (x .1) (x .2)
 
   mul-from : p.Need-mul-from (p-calls t) (p-at t) part.Post p-Inv p-μ
-  mul-from c = omega (arith, before (c .before))
+  mul-from c = omega (arith, sub (c .before) .end)
 
   cast-from : p.Need-cast-from (p-calls t) (p-at t) part.Post p-Inv p-μ
-  cast-from c = omega (arith, before (c .before))
+  cast-from c = omega (arith, sub (c .before) .end)
 
   add-from : p.Need-add-from (p-calls t) (p-at t) part.Post p-Inv p-μ
-  add-from c = omega (arith, before (c .before))
+  add-from c = omega (arith, sub (c .before) .end)
 
   mul-number : p.Need-mul-number (p-calls t) (p-at t) part.Post p-Inv p-μ
   mul-number c =
@@ -192,10 +183,10 @@ module _ (t : ℕ) where
       omega (arith, few-blocks (x .args .below) _ (x .pre .1 .1 .1))
 
   mul-number-2 : p.Need-mul-number-2 (p-calls t) (p-at t) part.Post p-Inv p-μ
-  mul-number-2 c = omega (arith, numbers (c .before))
+  mul-number-2 c = omega (arith, sub (c .before) .numbers)
 
   mul-e0 : p.Need-mul-e0 (p-calls t) (p-at t) part.Post p-Inv p-μ
-  mul-e0 c = omega (arith, before (c .before))
+  mul-e0 c = omega (arith, sub (c .before) .end)
 
   -- Entry `j` lies in the pool.
   inside : (c : p.After-part-entries (p-calls t) (p-at t) part.Post p-Inv p-μ) (j : ℕ) → j < c .part-entries .result
@@ -203,12 +194,12 @@ module _ (t : ℕ) where
   inside c j l =
       let a = c .before .before .before .args in
       let x = c .before .before .before .pre .1 in
-      omega (arith, x .0 .table (lt-ltb (a .e) 2147483648 (omega arith)), entry-in-table (a .below) _ (x .1 .0) (c .part-entries .ensures) _ j (x .1 .2) l)
+      omega (arith, x .0 .table (lt-ltb (a .e) 2147483648 (omega arith)), sub c .inside j l)
 
   shared-slice-read-e0 : p.Need-shared-slice-read-e0 (p-calls t) (p-at t) part.Post p-Inv p-μ
   shared-slice-read-e0 c =
       let k = c .before .before in
-      omega (arith, inside k 0 (some k))
+      omega (arith, inside k 0 (sub k .some))
 
   -- What a call for entry `j`, at pool word `x`, is given.
   given-entry : (c : p.After-part-entries (p-calls t) (p-at t) part.Post p-Inv p-μ) (j x m : ℕ) → j < c .part-entries .result
@@ -219,13 +210,13 @@ module _ (t : ℕ) where
   given-entry c j x m l at to =
       let a = c .before .before .before .args in
       let y = c .before .before .before .pre .1 in
-      let r = entry-readable (a .paint) (words (a .pool .now)) _ _ (a .n) _ _ (y .1 .0) (c .part-entries .ensures) (a .pool .now) j x (y .0) (omega arith) (y .1 .2) l at in
-      (omega arith, (r, (omega arith, rw to (entry-few _ _ (y .1 .0) (c .part-entries .ensures) _ _ j (y .1 .1) (y .1 .2) l), y .1 .3)))
+      let r = entry-readable (a .paint) (words (a .pool .now)) _ _ (a .n) _ _ (sub c) (a .pool .now) j x (y .0) (omega arith) l at in
+      (omega arith, (r, (omega arith, rw to (sub c .few j l), y .1 .3)))
 
   entry-target-requires : p.Need-entry-target-requires (p-calls t) (p-at t) part.Post p-Inv p-μ
   entry-target-requires c κs =
       let k = c .before .before in
-      given-entry k 0 (c .before .table-start .result + k .part-entries .result * k .before .before .before .args .i) _ (some k) (omega arith) (omega arith)
+      given-entry k 0 (c .before .table-start .result + k .part-entries .result * k .before .before .before .args .i) _ (sub k .some) (omega arith) (omega arith)
 
   enum-known-first : p.Need-enum-known-first (p-calls t) (p-at t) part.Post p-Inv p-μ
   enum-known-first c = search needs
@@ -241,16 +232,14 @@ module _ (t : ℕ) where
   first c =
       let k = c .before .before .before in
       let a = k .before .before .before .args in
-      let y = k .before .before .before .pre .1 .1 in
-      entry-found (a .paint) (words (a .pool .now)) (a .below) (a .e) (a .n) (a .i) _ (y .0) (k .part-entries .ensures) 0 _ _ _ (omega arith) (y .2)
-      (some k) (omega arith) (omega arith) (c .entry-target .ensures)
+      entry-found (a .paint) (words (a .pool .now)) (a .below) (a .e) (a .n) (a .i) _ (sub k) 0 _ _ _ (omega arith)
+      (sub k .some) (omega arith) (omega arith) (c .entry-target .ensures)
 
   p-returns-2 : p.Need-returns-2 (p-calls t) (p-at t) part.Post p-Inv p-μ
   p-returns-2 c =
       let f = c .before .before in
       let k = f .before .before .before in
-      let y = k .before .before .before .pre .1 .1 in
-      first-mixed _ _ _ _ _ _ _ (y .0) (k .part-entries .ensures) (some k)
+      first-mixed _ _ _ _ _ _ _ (sub k)
       (first f ∙ c .enum-told .given .1)
 
   right-at-requires : p.Need-right-at-requires (p-calls t) (p-at t) part.Post p-Inv p-μ
@@ -277,12 +266,12 @@ module _ (t : ℕ) where
   add-w : p.Need-add-w (p-calls t) (p-at t) part.Post p-Inv p-μ
   add-w c =
       let k = c .before .before .before .before .before .before .before .before .before .before in
-      omega (arith, before k)
+      omega (arith, sub k .end)
 
   mul-w : p.Need-mul-w (p-calls t) (p-at t) part.Post p-Inv p-μ
   mul-w c =
       let k = c .before .before .before .before .before .before .before .before .before .before in
-      omega (arith, before k)
+      omega (arith, sub k .end)
 
   shared-slice-read-w : p.Need-shared-slice-read-w (p-calls t) (p-at t) part.Post p-Inv p-μ
   shared-slice-read-w c =
@@ -294,7 +283,7 @@ module _ (t : ℕ) where
   add-m c =
       let l = c .before .before in
       let k = l .before .before .before .before .before .before .before .before .before in
-      omega (arith, numbers k)
+      omega (arith, sub k .numbers)
 
   add-j : p.Need-add-j (p-calls t) (p-at t) part.Post p-Inv p-μ
   add-j c = search needs
@@ -329,8 +318,7 @@ module _ (t : ℕ) where
       let l = c .before in
       let k = l .before .before .before .before .before .before .before .before .before in
       let a = k .before .before .before .args in
-      let y = k .before .before .before .pre .1 .1 in
-      entry-found (a .paint) (words (a .pool .now)) (a .below) (a .e) (a .n) (a .i) _ (y .0) (k .part-entries .ensures) (l .loop .j) _ _ _ (omega arith) (y .2)
+      entry-found (a .paint) (words (a .pool .now)) (a .below) (a .e) (a .n) (a .i) _ (sub k) (l .loop .j) _ _ _ (omega arith)
       (omega arith) (omega arith) refl g
 
   -- One that is not said by the right of the first word: the sub-block has two.
@@ -341,8 +329,7 @@ module _ (t : ℕ) where
   two c d =
       let l = c .before .before .before .before .before in
       let k = l .before .before .before .before .before .before .before .before .before in
-      let y = k .before .before .before .pre .1 .1 in
-      entries-two _ _ _ _ _ _ _ (y .0) (k .part-entries .ensures) _ _ (l .loop .j) (l .before .same-entry .ensures) (omega arith) (l .loop .inv .1)
+      entries-two _ _ _ _ _ _ _ (sub k) _ _ (l .loop .j) (l .before .same-entry .ensures) (omega arith) (l .loop .inv .1)
       (λ e. d (sym (read (c .before .before .before .before) _ (c .entry-target2 .ensures)) ∙ e))
 
   enum-known-t : p.Need-enum-known-t (p-calls t) (p-at t) part.Post p-Inv p-μ
@@ -401,7 +388,7 @@ module _ (t : ℕ) where
   p-returns-5 c =
       let l = c .before in
       let k = l .before .before .before .before .before .before .before .before .before in
-      entries-one _ _ _ _ _ _ _ (k .before .before .before .pre .1 .1 .0) (k .part-entries .ensures) _ _ (l .loop .inv .0) (c .loop-test .left) (l .loop .inv .2)
+      entries-one _ _ _ _ _ _ _ (sub k) _ _ (l .loop .inv .0) (c .loop-test .left) (l .loop .inv .2)
 
   s-loop-holds : s.Need-loop-holds (s-calls t) (s-at t) search′.Post s-Inv s-μ
   s-loop-holds c = gathers-none _ _ _
