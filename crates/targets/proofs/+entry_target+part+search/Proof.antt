@@ -173,14 +173,10 @@ module _ (t : ℕ) where
   add-from c = omega (arith, sub (c .before) .end)
 
   mul-number : p.Need-mul-number (p-calls t) (p-at t) part.Post p-Inv p-μ
-  mul-number c =
-      let x = c .before .before .before .before in
-      omega (arith, few-blocks (x .args .below) _ (x .pre .1 .1 .1))
+  mul-number c = let x = c .before .before .before .before in omega (arith, few-blocks (x .args .below) _ (x .pre .1 .1 .1))
 
   add-number : p.Need-add-number (p-calls t) (p-at t) part.Post p-Inv p-μ
-  add-number c =
-      let x = c .before .before .before .before in
-      omega (arith, few-blocks (x .args .below) _ (x .pre .1 .1 .1))
+  add-number c = let x = c .before .before .before .before in omega (arith, few-blocks (x .args .below) _ (x .pre .1 .1 .1))
 
   mul-number-2 : p.Need-mul-number-2 (p-calls t) (p-at t) part.Post p-Inv p-μ
   mul-number-2 c = omega (arith, sub (c .before) .numbers)
@@ -197,9 +193,7 @@ module _ (t : ℕ) where
       omega (arith, x .0 .table (lt-ltb (a .e) 2147483648 (omega arith)), sub c .inside j l)
 
   shared-slice-read-e0 : p.Need-shared-slice-read-e0 (p-calls t) (p-at t) part.Post p-Inv p-μ
-  shared-slice-read-e0 c =
-      let k = c .before .before in
-      omega (arith, inside k 0 (sub k .some))
+  shared-slice-read-e0 c = let k = c .before .before in omega (arith, inside k 0 (sub k .some))
 
   -- What a call for entry `j`, at pool word `x`, is given.
   given-entry : (c : p.After-part-entries (p-calls t) (p-at t) part.Post p-Inv p-μ) (j x m : ℕ) → j < c .part-entries .result
@@ -238,9 +232,7 @@ module _ (t : ℕ) where
   p-returns-2 : p.Need-returns-2 (p-calls t) (p-at t) part.Post p-Inv p-μ
   p-returns-2 c =
       let f = c .before .before in
-      let k = f .before .before .before in
-      first-mixed _ _ _ _ _ _ _ (sub k)
-      (first f ∙ c .enum-told .given .1)
+      first-mixed _ _ _ _ _ _ _ (sub (f .before .before .before)) (first f ∙ c .enum-told .given .1)
 
   right-at-requires : p.Need-right-at-requires (p-calls t) (p-at t) part.Post p-Inv p-μ
   right-at-requires c κs = search needs
@@ -264,14 +256,10 @@ module _ (t : ℕ) where
   cast-w c = search needs
 
   add-w : p.Need-add-w (p-calls t) (p-at t) part.Post p-Inv p-μ
-  add-w c =
-      let k = c .before .before .before .before .before .before .before .before .before .before in
-      omega (arith, sub k .end)
+  add-w c = omega (arith, sub (c .before .before .before .before .before .before .before .before .before .before) .end)
 
   mul-w : p.Need-mul-w (p-calls t) (p-at t) part.Post p-Inv p-μ
-  mul-w c =
-      let k = c .before .before .before .before .before .before .before .before .before .before in
-      omega (arith, sub k .end)
+  mul-w c = omega (arith, sub (c .before .before .before .before .before .before .before .before .before .before) .end)
 
   shared-slice-read-w : p.Need-shared-slice-read-w (p-calls t) (p-at t) part.Post p-Inv p-μ
   shared-slice-read-w c =
