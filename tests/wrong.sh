@@ -5,7 +5,8 @@
 # where an edit costs seconds and not a whole check. With names of crates, only theirs. Before its edits each crate is checked as it is, so that nothing is refused for another reason.
 set -u
 root=$(cd "$(dirname "$0")/.." && pwd)
-work=$(mktemp -d)
+mkdir -p "$root/target"
+work=$(mktemp -d "$root/target/wrong.XXXXXX")
 trap 'rm -rf "$work"' EXIT
 
 # apply CRATE EDIT: makes the edit's one replacement in the copy of the crate; the text must stand there exactly once.
@@ -32,7 +33,9 @@ wrong_programs() {
     local crate=$1 passed=0 failed=0 edit name status
     mkdir -p "$work/$crate/target"
     cp -r "$root/crates" "$root/crates.txt" "$work/$crate/"
-    cp -r "$root/target/rlib" "$root/target/stamp" "$work/$crate/target/"
+    # what the other crates were built to is only read: links serve
+    cp -rl "$root/target/rlib" "$work/$crate/target/rlib"
+    cp -r "$root/target/stamp" "$work/$crate/target/stamp"
     rm -rf "$work/$crate"/crates/*/must-fail
     if ! check "$crate"; then
         echo "wrong: $crate is not proved as it is:"

@@ -1,14 +1,17 @@
 -- Laws of the calls on lent states: a state of the wrong length, and a state of its layout's. Assumes nothing.
 use Prim.Native.Nat.{ℕ}
-use mathlib.Core.Path.{_≡_}
+use mathlib.Core.Path.{_≡_, sym}
 use mathlib.Core.List.{List, [], _∷_}
 use borrow.Author.Tests.{eq-eqb, ne-eqb}
-use lib.ListN.{length}
+use lib.ListN.{length, getD}
 use Rattle.table.specs.declared.Shape.{Shape}
 use Rattle.lookaside.specs.declared.Buffer.{Buffer}
 use Rattle.lookaside.specs.declared.Checked.{Checked}
 use Rattle.lookaside.specs.declared.Flushed.{Flushed}
-use Rattle.lookaside.specs.Check.{checkOf, numbers as verdictNumbers}
+use Rattle.lookaside.specs.declared.Decided.{Decided}
+use Rattle.lookaside.specs.Slots.{firstMatch}
+use Rattle.lookaside.specs.Check.{checkOf, decideOf, filledBy, numbers as verdictNumbers}
+use Rattle.lookaside.proofs.CheckLaws.{check-decided}
 use Rattle.gates.specs.declared.Gates.{Gates}
 use Rattle.gates.specs.declared.GatesSet.{GatesSet}
 use Rattle.gates.specs.declared.Step.{Step}
@@ -28,6 +31,13 @@ module _ (p : List ℕ) (s : Shape) (ws : List ℕ) (d kind size a : ℕ) (out r
       → back n new res ≡ checkCall p s ws d kind size a out
   unfolding checkCall
   check-made h c e n new en ew er = rw (en, ew, er, e, eq-eqb (length ws) bufferLong h)
+
+  -- The same by what the check decided of the words.
+  pub check-by : length ws ≡ bufferLong → (x : Decided) → x ≡ decideOf p s (getD ws 256 0) (firstMatch (bufferOf ws .slots) d a) d kind size a → (n : ℕ) (new : List ℕ)
+      → n ≡ verdictNumbers (x .verdict) .refusal → new ≡ bufferWords (filledBy (bufferOf ws) (x .fill)) → res ≡ outWith (verdictResults (x .verdict)) out
+      → back n new res ≡ checkCall p s ws d kind size a out
+  check-by h x e n new en ew er =
+      check-made h (record { verdict = x .verdict; buffer = filledBy (bufferOf ws) (x .fill) }) (rw e (sym (check-decided p s (bufferOf ws) d kind size a))) n new en ew er
 
 module _ (f : Buffer → Flushed) (ws : List ℕ) where
   pub flush-wrong : (length ws ≡ bufferLong → ⊥) → kept wrongLength ws ≡ flushCall f ws

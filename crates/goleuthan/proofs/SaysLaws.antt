@@ -1,6 +1,6 @@
 -- A series of calls on one state is the library's series: the words that a call leaves say the state that the library's call leaves. Assumes nothing.
 use Prim.Native.Nat.{ℕ, _*_}
-use mathlib.Core.Path.{_≡_, refl, _∙_}
+use mathlib.Core.Path.{_≡_, refl, _∙_, ap}
 use mathlib.Core.Bool.{Bool, true, false, cond}
 use mathlib.Core.List.{List}
 use lib.Dec.{ltb}
@@ -13,7 +13,7 @@ use Rattle.table.specs.declared.Shape.{Shape}
 use Rattle.lookaside.specs.declared.Buffer.{Buffer}
 use Rattle.lookaside.specs.declared.Flushed.{Flushed}
 use Rattle.lookaside.specs.declared.Flushing.{Flushing}
-use Rattle.lookaside.specs.Check.{checkOf}
+use Rattle.lookaside.specs.Check.{checkOf, filledBy, decideOf}
 use Rattle.lookaside.specs.Flushes.{flushedSlot, flushedBuffer, done, refused, pointed, flushedRounded, flushedWhole, flushedDomain, flushedRegion}
 use Rattle.gates.specs.declared.CallStack.{CallStack}
 use Rattle.gates.specs.declared.Gates.{Gates}
@@ -22,10 +22,12 @@ use Rattle.gates.specs.Moves.{Moves, stays, calls, returns}
 use Rattle.gates.specs.Steps.{stepOf}
 use Rattle.gates.proofs.StepLaws.{step-moves}
 use Rattle.goleuthan.specs.States.{slotAt, bufferOf, bufferWords, frameAt, stackOf, stackWords}
-use Rattle.goleuthan.specs.Fills.{AfterCheck, same, fill}
 use Rattle.goleuthan.proofs.RowLaws.{length-rows}
 use Rattle.goleuthan.proofs.StateLaws.{buffer-again, stack-again}
-use Rattle.goleuthan.proofs.FillLaws.{after-check}
+use Rattle.lookaside.specs.declared.Fill.{Fill}
+use Rattle.lookaside.specs.declared.Fill.the-variants.{Keep, Put}
+use Rattle.lookaside.specs.Slots.{firstMatch}
+use Rattle.lookaside.proofs.CheckLaws.{check-decided}
 
 -- A buffer that words say has 64 slots, and a stack 16 frames.
 slots-said : (ws : List ℕ) → length (bufferOf ws .slots) ≡ 64
@@ -35,14 +37,15 @@ frames-said : (ws : List ℕ) → length (stackOf ws .frames) ≡ 16
 frames-said ws = length-rows 16 (λ i. frameAt ws (2 * i))
 
 -- A check keeps the number of slots.
-after-slots : {b c : Buffer} → AfterCheck b c → length (c .slots) ≡ length (b .slots)
-after-slots same = refl
-after-slots {b} (fill s l) = length-set (b .slots) (b .next) s
+after-slots : (b : Buffer) (x : Fill) → length (filledBy b x .slots) ≡ length (b .slots)
+after-slots b Keep = refl
+after-slots b (Put s) = length-set (b .slots) (b .next) s
 
 pub check-says : (p : List ℕ) (s : Shape) (ws : List ℕ) (d kind size a : ℕ)
     → let b = checkOf p s (bufferOf ws) d kind size a .buffer in bufferOf (bufferWords b) ≡ b
 check-says p s ws d kind size a =
-    buffer-again (checkOf p s (bufferOf ws) d kind size a .buffer) (after-slots (after-check p s (bufferOf ws) d kind size a) ∙ slots-said ws)
+    buffer-again (checkOf p s (bufferOf ws) d kind size a .buffer)
+    (ap (λ c. length (c .buffer .slots)) (check-decided p s (bufferOf ws) d kind size a) ∙ after-slots (bufferOf ws) (decideOf p s (bufferOf ws .next) (firstMatch (bufferOf ws .slots) d a) d kind size a .fill) ∙ slots-said ws)
 
 -- A flush is refused and keeps the buffer, or empties some slots of it.
 pub data Flushes (b : Buffer) : Flushed → Type 0 where

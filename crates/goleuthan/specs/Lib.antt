@@ -2,6 +2,5 @@
 pub mod Out
 pub mod Rows
 pub mod States
-pub mod Fills
 pub mod Calls
 pub mod StateCalls

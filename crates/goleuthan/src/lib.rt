@@ -145,11 +145,12 @@ pub extern "C" fn gol_check(
         leaves: l,
     };
     let at = words::byte_addr(address);
-    let held = states::read_buffer(buffer);
-    let checked = lookaside::check(pool, shape, held, domain, kind, size, at);
-    let after = checked.buffer;
-    states::write_filled(buffer, after);
-    let verdict = checked.verdict;
+    let next = buffer[256];
+    let hit = states::find_slot(buffer, domain, at);
+    let decided = lookaside::decide(pool, shape, next, hit, domain, kind, size, at);
+    let todo = decided.fill;
+    states::fill_words(buffer, todo);
+    let verdict = decided.verdict;
     results::give_verdict(verdict, out)
 }
 

@@ -1,17 +1,23 @@
 // The lent states: read from words into the library's structs, and written back.
 ghost use mathlib.Core.Path.{_≡_};
-ghost use Prim.Native.Nat.{_+_, _≤_};
-ghost use lib.ListN.{length};
+ghost use Prim.Native.Nat.{_+_, _<_, _≤_};
+ghost use lib.ListN.{length, getD};
 ghost use lib.Seq.{sets};
+ghost use Rattle.lookaside.specs.declared.Slot.{Slot};
+ghost use Rattle.lookaside.specs.declared.Fill.the-variants.{Put};
+ghost use Rattle.lookaside.specs.Slots.{firstMatch};
+ghost use Rattle.lookaside.specs.Check.{filledBy};
 ghost use Rattle.goleuthan.specs.States.{bufferLong, slotAt, slotWords, bufferOf, bufferWords, gatesLong, gateIn, gateWord, gateAt, gateWords, gatesOf, gatesWords, stackLong, frameAt, frameWords, stackOf, stackWords};
-ghost use Rattle.goleuthan.specs.Fills.{AfterCheck};
 use gates::CallStack;
 use gates::Frame;
 use gates::Gate;
 use gates::GateAt;
 use gates::Gates;
 use lookaside::Buffer;
+use lookaside::Fill;
+use lookaside::Hit;
 use lookaside::Slot;
+use words::ByteAddr;
 
 // The words of a buffer: 64 slots of four, then next.
 pub const BUFFER_WORDS: usize = 257;
@@ -82,19 +88,34 @@ pub fn write_buffer(ws: &mut [u32], b: Buffer)
     ws[256] = b.next;
 }
 
-// What a check leaves: its pointer moved exactly where it filled a slot, so that only then anything is written, and that slot alone.
-pub fn write_filled(ws: &mut [u32], b: Buffer)
-    requires { ⌜ (length (now ws) ≡ bufferLong) × AfterCheck (bufferOf (now ws)) b ⌝ }
-    ensures { λ _. ⌜ now (ws .exit) ≡ bufferWords b ⌝ }
+// The lowest slot that matches, found in the words: a hit copies no buffer.
+pub fn find_slot(ws: &[u32], domain: u32, address: ByteAddr) -> Hit
+    requires { ⌜ length (now ws) ≡ bufferLong ⌝ }
+    ensures { λ r. ⌜ r ≡ firstMatch (bufferOf (now (ws .entry)) .slots) domain (address .0) ⌝ }
 {
-    let old = ws[256];
-    let next = b.next;
-    if old != next {
-        let at = old as usize;
-        let s = b.slots[at];
-        put_slot(ws, 4 * at, s);
-        ws[256] = next;
+    let mut i: usize = 0;
+    while i < 64 {
+        let s = slot_at(ws, 4 * i);
+        if lookaside::slot_matches(s, domain, address) {
+            return Hit::At(s);
+        }
+        i += 1;
     }
+    Hit::Miss
+}
+
+// What a check decided, done to the words of the buffer.
+pub fn fill_words(ws: &mut [u32], todo: Fill)
+    requires { ⌜ (length (now ws) ≡ bufferLong) × ((t : Slot) → todo ≡ Put t → getD (now ws) 256 0 < 64) ⌝ }
+    ensures { λ _. ⌜ now (ws .exit) ≡ bufferWords (filledBy (bufferOf (now (ws .entry))) todo) ⌝ }
+{
+    let Fill::Put(s) = todo else {
+        return;
+    };
+    let next = ws[256];
+    let at = next as usize;
+    put_slot(ws, 4 * at, s);
+    ws[256] = (next + 1) % 64;
 }
 
 fn gate_in(w: u32) -> Gate

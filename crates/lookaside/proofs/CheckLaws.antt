@@ -1,6 +1,6 @@
 -- Laws of checks: the refusals one by one, what a check then answers, and that there is one answer. Assumes nothing.
 use Prim.Native.Nat.{ℕ, suc, _%_, _≤_, _<_}
-use mathlib.Core.Path.{_≡_, refl, sym, _∙_}
+use mathlib.Core.Path.{_≡_, refl, sym, ap, _∙_}
 use mathlib.Core.Logic.{_≢_}
 use mathlib.Core.Bool.{Bool, true, false, cond, _&&_, _||_, false≢true}
 use mathlib.Core.List.{List}
@@ -17,10 +17,14 @@ use Rattle.table.specs.Lookup.{lookupOf}
 use Rattle.table.specs.Access.{load, store, fetch}
 use Rattle.lookaside.specs.declared.Buffer.{Buffer}
 use Rattle.lookaside.specs.declared.Checked.{Checked}
+use Rattle.lookaside.specs.declared.Decided.{Decided}
+use Rattle.lookaside.specs.declared.Fill.the-variants.{Keep, Put}
+use Rattle.lookaside.specs.declared.Slot.{Slot}
+use Rattle.lookaside.specs.declared.Verdict.the-variants.{Refused}
 use Rattle.lookaside.specs.declared.Hit.{Hit}
 use Rattle.lookaside.specs.declared.Hit.the-variants.{At, Miss}
 use Rattle.lookaside.specs.Slots.{firstMatch}
-use Rattle.lookaside.specs.Check.{isAccess, demand, refusalOf, refusing, walked, answered, checkOf}
+use Rattle.lookaside.specs.Check.{isAccess, demand, refusalOf, refusing, walked, answered, checkOf, walkDecided, hitDecided, decideOf, filledBy}
 
 -- Accesses.
 
@@ -133,3 +137,43 @@ module _ (p : List ℕ) (s : Shape) (b : Buffer) (d kind size a : ℕ) where
   -- There is one answer.
   pub one-check : (q r : Checked) → q ≡ checkOf p s b d kind size a → r ≡ checkOf p s b d kind size a → q ≡ r
   one-check q r x y = x ∙ sym y
+
+-- ---- In two parts.
+
+module _ (p : List ℕ) (s : Shape) (next : ℕ) (h : Hit) (d kind size a : ℕ) where
+  pub decide-refused : (n : ℕ) → refusalOf s (length p) next d kind size a ≡ n → n ≢ 0
+      → decideOf p s next h d kind size a ≡ record { verdict = Refused n; fill = Keep }
+  unfolding decideOf
+  decide-refused n e z = rw (e, ne-eqb n 0 z)
+
+  pub decide-answered : refusalOf s (length p) next d kind size a ≡ 0 → decideOf p s next h d kind size a ≡ hitDecided h p s d kind a
+  unfolding decideOf
+  decide-answered e = rw e
+
+  -- Only where the pointer is a slot's is a slot put there.
+  pub decide-put : (t : Slot) → decideOf p s next h d kind size a .fill ≡ Put t → next < 64
+  decide-put t e = elim (ℕ-discrete (refusalOf s (length p) next d kind size a) 0) [
+    | yes z ↦ allowed s (length p) next d kind size a z .pointer
+    | no z ↦ absurd (let y = ap (λ x. x .fill) (sym (decide-refused _ refl z)) ∙ e in let w : _≡_ {A = ℕ} 0 1 = cc in omega arith)
+  ]
+
+-- A check is what it decides, done to its buffer.
+module _ (p : List ℕ) (s : Shape) (b : Buffer) (d kind size a : ℕ) where
+  abbrev joined : Decided → Checked
+  joined x = record { verdict = x .verdict; buffer = filledBy b (x .fill) }
+
+  walks-joined : (f : Found) → walked f b d kind a ≡ joined (walkDecided f d kind a)
+  walks-joined (Right r w n) = refl
+  walks-joined (NotFound n) = refl
+
+  hits-joined : (h : Hit) → answered h p s b d kind a ≡ joined (hitDecided h p s d kind a)
+  hits-joined (At t) = refl
+  hits-joined Miss = walks-joined (lookupOf p s d a)
+
+  pub check-decided : checkOf p s b d kind size a ≡ joined (decideOf p s (b .next) (firstMatch (b .slots) d a) d kind size a)
+  check-decided = elim (ℕ-discrete (refusalOf s (length p) (b .next) d kind size a) 0) [
+    | yes e ↦ check-answered p s b d kind size a e ∙ hits-joined (firstMatch (b .slots) d a)
+        ∙ ap joined (sym (decide-answered p s (b .next) (firstMatch (b .slots) d a) d kind size a e))
+    | no e ↦ check-refused p s b d kind size a _ refl e
+        ∙ ap joined (sym (decide-refused p s (b .next) (firstMatch (b .slots) d a) d kind size a _ refl e))
+  ]

@@ -11,6 +11,9 @@ use Rattle.table.specs.Shape.{fitsOf}
 use Rattle.table.specs.Lookup.{lookupOf}
 use Rattle.table.specs.Access.{load, store, fetch, passesOf}
 use Rattle.lookaside.specs.declared.Buffer.{Buffer}
+use Rattle.lookaside.specs.declared.Decided.{Decided}
+use Rattle.lookaside.specs.declared.Fill.{Fill}
+use Rattle.lookaside.specs.declared.Fill.the-variants.{Keep, Put}
 use Rattle.lookaside.specs.declared.Hit.{Hit}
 use Rattle.lookaside.specs.declared.Hit.the-variants.{At, Miss}
 use Rattle.lookaside.specs.declared.Verdict.{Verdict}
@@ -76,3 +79,26 @@ unfoldable pub checkOf : List ℕ → Shape → Buffer → ℕ → ℕ → ℕ �
 checkOf p s b d kind size a =
     let n = refusalOf s (length p) (b .next) d kind size a in
     cond (eqb n 0) (answered (firstMatch (b .slots) d a) p s b d kind a) (refusing n b)
+
+-- ---- The same in two parts, for whoever holds the buffer in another form: what a check decides, and what is then done to the buffer.
+
+-- A miss, by what the lookup found.
+abbrev pub walkDecided : Found → ℕ → ℕ → ℕ → Decided
+walkDecided (Right r w n) d kind a = record { verdict = verdictOf kind r n; fill = Put (slotFor d a w n) }
+walkDecided (NotFound n) d kind a = record { verdict = Refused n; fill = Keep }
+
+-- A check that is not refused, by the slot that answers.
+abbrev pub hitDecided : Hit → List ℕ → Shape → ℕ → ℕ → ℕ → Decided
+hitDecided (At t) p s d kind a = record { verdict = verdictOf kind (slotRight t a) 0; fill = Keep }
+hitDecided Miss p s d kind a = walkDecided (lookupOf p s d a) d kind a
+
+-- What a check decides, by the pointer and the lowest slot that matches.
+unfoldable pub decideOf : List ℕ → Shape → ℕ → Hit → ℕ → ℕ → ℕ → ℕ → Decided
+decideOf p s next h d kind size a =
+    let n = refusalOf s (length p) next d kind size a in
+    cond (eqb n 0) (hitDecided h p s d kind a) (record { verdict = Refused n; fill = Keep })
+
+-- What is done to a buffer.
+abbrev pub filledBy : Buffer → Fill → Buffer
+filledBy b Keep = b
+filledBy b (Put t) = filled b t

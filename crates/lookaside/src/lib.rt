@@ -2,9 +2,12 @@
 ghost use mathlib.Core.Path.{_≡_};
 ghost use Prim.Native.Nat.{_<_};
 ghost use Rattle.table.specs.Lookup.{lookupOf};
-ghost use Rattle.lookaside.specs.Slots.{firstMatch, emptyBuffer, filled};
+ghost use mathlib.Core.Bool.{true};
+ghost use Rattle.lookaside.specs.declared.Slot.{Slot};
+ghost use Rattle.lookaside.specs.declared.Hit.the-variants.{At};
+ghost use Rattle.lookaside.specs.Slots.{matches, firstMatch, emptyBuffer, filled};
 ghost use Rattle.lookaside.specs.Flushes.{flushes, flushedSlot, flushedBuffer, flushedWhole, flushedDomain, flushedRegion};
-ghost use Rattle.lookaside.specs.Check.{isAccess, refusalOf, verdictOf, walked, checkOf};
+ghost use Rattle.lookaside.specs.Check.{isAccess, refusalOf, verdictOf, checkOf, walkDecided, decideOf};
 use table::Found;
 use table::Shape;
 use words::ByteAddr;
@@ -12,6 +15,8 @@ use words::Region;
 use words::Rounded;
 
 mod slots;
+
+pub use slots::slot_matches;
 
 // How many slots a buffer has.
 pub const SLOTS: u32 = 64;
@@ -54,6 +59,18 @@ pub enum Hit {
     Miss,
 }
 
+// What is to be done to the buffer: nothing, or a slot put at its pointer, which moves on.
+pub enum Fill {
+    Keep,
+    Put(Slot),
+}
+
+// What a check decides: its verdict, and what is to be done to the buffer.
+pub struct Decided {
+    pub verdict: Verdict,
+    pub fill: Fill,
+}
+
 // What a flush empties: every slot, those of a domain, or those of a domain whose block meets a region.
 pub enum Flushing {
     Whole,
@@ -77,7 +94,7 @@ fn find(buffer: Buffer, domain: u32, address: ByteAddr) -> Hit
 }
 
 // The buffer with a slot put at its pointer, which moves on.
-fn fill(buffer: Buffer, s: Slot) -> Buffer
+fn fill_next(buffer: Buffer, s: Slot) -> Buffer
     requires { ⌜ buffer .next < 64 ⌝ }
     ensures { λ r. ⌜ r ≡ filled buffer s ⌝ }
 {
@@ -150,23 +167,15 @@ fn judge(kind: u32, right: u32, loads: u32) -> Verdict
     Verdict::Deny(loads)
 }
 
-// A check that no slot answers: it walks the pool and keeps the deciding entry, whether it passes or not.
-fn walk(
-    pool: &[u32],
-    shape: Shape,
-    buffer: Buffer,
-    domain: u32,
-    kind: u32,
-    address: ByteAddr,
-) -> Checked
-    requires { ⌜ buffer .next < 64 ⌝ }
-    ensures { λ r. ⌜ r ≡ walked (lookupOf (now (pool .entry)) shape domain (address .0)) buffer domain kind (address .0) ⌝ }
+// What a check that no slot answers decides: it walks the pool, and keeps the deciding entry, whether it passes or not.
+fn decide_by_walk(pool: &[u32], shape: Shape, domain: u32, kind: u32, address: ByteAddr) -> Decided
+    ensures { λ r. ⌜ r ≡ walkDecided (lookupOf (now (pool .entry)) shape domain (address .0)) domain kind (address .0) ⌝ }
 {
     let found = table::lookup(pool, shape, domain, address);
     match found {
-        Found::Refused(n) => Checked {
+        Found::Refused(n) => Decided {
             verdict: Verdict::Refused(n),
-            buffer,
+            fill: Fill::Keep,
         },
         Found::Right {
             right,
@@ -180,13 +189,47 @@ fn walk(
                 block,
                 entry,
             };
-            let kept = fill(buffer, slot);
             let verdict = judge(kind, right, loads);
-            Checked {
+            Decided {
                 verdict,
-                buffer: kept,
+                fill: Fill::Put(slot),
             }
         }
+    }
+}
+
+// What a check decides, by the lowest slot that matches and the pointer. Whoever holds the buffer looks for that slot and fills it.
+pub fn decide(
+    pool: &[u32],
+    shape: Shape,
+    next: u32,
+    hit: Hit,
+    domain: u32,
+    kind: u32,
+    size: u32,
+    address: ByteAddr,
+) -> Decided
+    requires { ⌜ ((t : Slot) → hit ≡ At t → matches t domain (address .0) ≡ true) ⌝ }
+    ensures { λ r. ⌜ r ≡ decideOf (now (pool .entry)) shape next hit domain kind size (address .0) ⌝ }
+{
+    let long = pool.len();
+    let refused = refusal(shape, long, next, domain, kind, size, address);
+    if refused != 0 {
+        return Decided {
+            verdict: Verdict::Refused(refused),
+            fill: Fill::Keep,
+        };
+    }
+    match hit {
+        Hit::At(s) => {
+            let right = slots::slot_right(s, address);
+            let verdict = judge(kind, right, 0);
+            Decided {
+                verdict,
+                fill: Fill::Keep,
+            }
+        }
+        Hit::Miss => decide_by_walk(pool, shape, domain, kind, address),
     }
 }
 
@@ -202,23 +245,20 @@ pub fn check(
 ) -> Checked
     ensures { λ r. ⌜ r ≡ checkOf (now (pool .entry)) shape buffer domain kind size (address .0) ⌝ }
 {
-    let long = pool.len();
     let next = buffer.next;
-    let refused = refusal(shape, long, next, domain, kind, size, address);
-    if refused != 0 {
-        return Checked {
-            verdict: Verdict::Refused(refused),
-            buffer,
-        };
-    }
     let hit = find(buffer, domain, address);
-    match hit {
-        Hit::At(s) => {
-            let right = slots::slot_right(s, address);
-            let verdict = judge(kind, right, 0);
-            Checked { verdict, buffer }
+    let decided = decide(pool, shape, next, hit, domain, kind, size, address);
+    let verdict = decided.verdict;
+    let todo = decided.fill;
+    match todo {
+        Fill::Keep => Checked { verdict, buffer },
+        Fill::Put(s) => {
+            let kept = fill_next(buffer, s);
+            Checked {
+                verdict,
+                buffer: kept,
+            }
         }
-        Hit::Miss => walk(pool, shape, buffer, domain, kind, address),
     }
 }
 

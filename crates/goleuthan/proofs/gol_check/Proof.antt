@@ -1,12 +1,15 @@
 -- `goleuthan::gol_check` meets its contract. Assumes nothing.
-use Rattle.goleuthan.proofs.FillLaws.{after-check}
-use Rattle.goleuthan.proofs.CallLaws.{check-wrong, check-made}
+use mathlib.Core.Path.{_≡_, sym, ap, _∙_}
+use borrow.Author.Needs.{needs}
+use lib.ListN.{length, getD}
+use Rattle.words.specs.declared.ByteAddr.{ByteAddr}
+use Rattle.lookaside.specs.Slots.{firstMatch}
+use Rattle.lookaside.specs.Check.{decideOf}
+use Rattle.lookaside.proofs.BufferLaws.{first-matches}
+use Rattle.lookaside.proofs.CheckLaws.{decide-put}
 use Rattle.goleuthan.specs.Calls.{shapeOf}
 use Rattle.goleuthan.specs.States.{bufferOf}
-use Rattle.lookaside.specs.Check.{checkOf}
-use Rattle.words.specs.declared.ByteAddr.{ByteAddr}
-use mathlib.Core.Path.{_≡_, ap}
-use borrow.Author.Needs.{needs}
+use Rattle.goleuthan.proofs.CallLaws.{check-wrong, check-by}
 use Rattle.goleuthan.proofs.gol_check.Statement.{statement}
 use Rattle.goleuthan.proofs.gol_check.Tie as tie
 
@@ -17,26 +20,40 @@ same-length : tie.Need-same-length
 same-length c = search needs
 
 returns : tie.Need-returns
-returns c = let a = c .before .before .before .before .before .before .before .before .args in check-wrong (a .pool .now) (shapeOf (a .d) (a .m) (a .l)) (a .buffer .now) (a .domain) (a .kind) (a .size) (a .address) (a .out .now) _ (c .before .before .before .before .if1 .taken) (c .before .before .two .ensures)
+returns c =
+    let a = c .before .before .before .before .before .before .before .before .args in
+    check-wrong (a .pool .now) (shapeOf (a .d) (a .m) (a .l)) (a .buffer .now) (a .domain) (a .kind) (a .size) (a .address) (a .out .now) _
+    (c .before .before .before .before .if1 .taken) (c .before .before .two .ensures)
 
 byte-addr-requires : tie.Need-byte-addr-requires
 byte-addr-requires c κs = search needs
 
-read-buffer-requires : tie.Need-read-buffer-requires
-read-buffer-requires c κs = search needs
+slice-read-next : tie.Need-slice-read-next
+slice-read-next c = search needs
 
-check-requires : tie.Need-check-requires
-check-requires c κs = search needs
+find-slot-requires : tie.Need-find-slot-requires
+find-slot-requires c κs = search needs
 
--- The check that was made, of what the words say.
-made : (c : tie.After-check) → let a = c .before .before .before .before .before .before .before .before .args in
-    c .check .result ≡ checkOf (a .pool .now) (shapeOf (a .d) (a .m) (a .l)) (bufferOf (a .buffer .now)) (a .domain) (a .kind) (a .size) (a .address)
-made c = rw (c .before .read-buffer .ensures, ap (λ (x : ByteAddr). x .0) (c .before .before .before .byte-addr .ensures)) at (c .check .ensures)
+decide-requires : tie.Need-decide-requires
+decide-requires c κs = λ t e.
+    first-matches (bufferOf (c .before .before .before .before .before .before .before .before .args .buffer .now) .slots) (c .before .before .before .before .before .before .before .before .args .domain) (c .before .before .before .byte-addr .result .0) t (sym (c .find-slot .ensures) ∙ e)
 
-write-filled-requires : tie.Need-write-filled-requires
-write-filled-requires c κs =
-    let a = c .before .before .before .before .before .before .before .before .before .before .args in
-    (c .before .before .before .before .before .before .if1 .left, rw (made (c .before .before)) (after-check (a .pool .now) (shapeOf (a .d) (a .m) (a .l)) (bufferOf (a .buffer .now)) (a .domain) (a .kind) (a .size) (a .address)))
+-- What was decided, of what the words say.
+module _ (c : tie.After-decide) where
+  decided : let a = c .before .before .before .before .before .before .before .before .before .args in
+      c .decide .result
+      ≡ decideOf (a .pool .now) (shapeOf (a .d) (a .m) (a .l)) (getD (a .buffer .now) 256 0) (firstMatch (bufferOf (a .buffer .now) .slots) (a .domain) (a .address))
+      (a .domain) (a .kind) (a .size) (a .address)
+  decided = rw (c .before .find-slot .ensures, ap (λ (x : ByteAddr). x .0) (c .before .before .before .before .byte-addr .ensures)) at (c .decide .ensures)
+
+fill-words-requires : tie.Need-fill-words-requires
+fill-words-requires c κs =
+    let a = c .before .before .before .before .before .before .before .before .before .before .args in (
+      c .before .before .before .before .before .before .if1 .left,
+      λ t e. decide-put (a .pool .now) (shapeOf (a .d) (a .m) (a .l)) (getD (a .buffer .now) 256 0)
+          (firstMatch (bufferOf (a .buffer .now) .slots) (a .domain) (a .address)) (a .domain) (a .kind) (a .size) (a .address) t
+          (ap (λ x. x .fill) (sym (decided (c .before))) ∙ e),
+    )
 
 give-verdict-requires : tie.Need-give-verdict-requires
 give-verdict-requires c κs = search needs
@@ -50,7 +67,9 @@ same-length-3 c = search needs
 returns-2 : tie.Need-returns-2
 returns-2 c =
     let a = c .before .before .before .before .before .before .before .before .before .before .before .before .before .before .before .before .before .args in
-    check-made (a .pool .now) (shapeOf (a .d) (a .m) (a .l)) (a .buffer .now) (a .domain) (a .kind) (a .size) (a .address) (a .out .now) _ (c .before .before .before .before .before .before .before .before .before .before .before .before .before .if1 .left) (c .before .before .before .before .before .before .before .before .before .check .result) (made (c .before .before .before .before .before .before .before .before .before)) _ _ (c .before .before .give-verdict .ensures .0) (c .before .before .before .before .before .before .write-filled .ensures) (c .before .before .give-verdict .ensures .1)
+    check-by (a .pool .now) (shapeOf (a .d) (a .m) (a .l)) (a .buffer .now) (a .domain) (a .kind) (a .size) (a .address) (a .out .now) _
+    (c .before .before .before .before .before .before .before .before .before .before .before .before .before .if1 .left) (c .before .before .before .before .before .before .before .before .decide .result) (decided (c .before .before .before .before .before .before .before .before)) _ _
+    (c .before .before .give-verdict .ensures .0) (c .before .before .before .before .before .before .fill-words .ensures) (c .before .before .give-verdict .ensures .1)
 
 pub gol-check-spec : {M : Type 1} → statement M
 gol-check-spec =
@@ -60,9 +79,10 @@ gol-check-spec =
     same-length
     returns
     byte-addr-requires
-    read-buffer-requires
-    check-requires
-    write-filled-requires
+    slice-read-next
+    find-slot-requires
+    decide-requires
+    fill-words-requires
     give-verdict-requires
     same-length-2
     same-length-3

@@ -1,7 +1,7 @@
--- `lookaside::walk` meets its contract. Assumes nothing.
+-- `lookaside::decide_by_walk` meets its contract. Assumes nothing.
 use borrow.Author.Needs.{needs}
-use Rattle.lookaside.proofs.walk.Statement.{statement}
-use Rattle.lookaside.proofs.walk.Tie as tie
+use Rattle.lookaside.proofs.decide_by_walk.Statement.{statement}
+use Rattle.lookaside.proofs.decide_by_walk.Tie as tie
 
 lookup-requires : tie.Need-lookup-requires
 lookup-requires c κs = search needs
@@ -15,9 +15,6 @@ enum-known-found-2 c = search needs
 block-of-requires : tie.Need-block-of-requires
 block-of-requires c κs = search needs
 
-fill-requires : tie.Need-fill-requires
-fill-requires c κs = search needs
-
 judge-requires : tie.Need-judge-requires
 judge-requires c κs = search needs
 
@@ -27,22 +24,20 @@ returns c = rw (← c .before .before .before .lookup .ensures .answer, c .befor
 returns-2 : tie.Need-returns-2
 returns-2 c =
     rw (
-      ← c .before .before .before .before .before .before .lookup .ensures .answer,
-      c .before .before .before .before .found2 .given .1,
+      ← c .before .before .before .before .before .lookup .ensures .answer,
+      c .before .before .before .found2 .given .1,
       c .judge .ensures,
-      c .before .fill .ensures,
-      c .before .before .block-of .ensures,
+      c .before .block-of .ensures,
     )
 
-pub walk-spec : {M : Type 1} → statement M
-walk-spec =
+pub decide-by-walk-spec : {M : Type 1} → statement M
+decide-by-walk-spec =
     tie.close
     (tie.spec
     lookup-requires
     enum-known-found
     enum-known-found-2
     block-of-requires
-    fill-requires
     judge-requires
     returns
     returns-2)
