@@ -1,7 +1,7 @@
 #!/usr/bin/env bash
 # Wrong programs, each one line away from ours (tests/wrong/CRATE/NAME.edit, of the form of must-fail edits): the checker must refuse each for a fact.
 #
-# A few of those that the paper names are must-fail edits, which `rt ci` checks from nothing. These are checked over an incremental folder, where an edit
+# In crates whose check is quick some are must-fail edits, which `rt ci` checks from nothing. These are checked over an incremental folder, where an edit
 # costs seconds and not a whole check. With names of crates, only theirs. Before its edits each crate is checked as it is, so that nothing is refused for another reason.
 set -u
 root=$(cd "$(dirname "$0")/.." && pwd)
