@@ -1,3 +1,4 @@
+-- `listing::put_run` meets its contract.
 use Prim.Native.Nat.{_+_, _*_, _-_}
 use mathlib.Core.Path.{_≡_}
 use native.Mathlib.Numerals.{add-one, add-two, add-three}
