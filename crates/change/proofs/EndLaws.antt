@@ -69,7 +69,7 @@ module _ (s : Shape) (d : ℕ) (paint : Paint) (old : List ℕ) (Q : ℕ → ℕ
 
   pub goal-ends : Goal s d paint old Q kept → ((q : List ℕ) × IsDone s d paint old n q) ⊎ WasCut
   goal-ends g = ⊎-elim
-      (λ (x, left, a). inl (x, outcome-done s d paint old Q kept x n left g (at-long a) (at-end a) (ap (λ t. left + t) (a .cut .count) ∙ a .sum)))
+      (λ (x, left, a). inl (x, outcome-done s d paint old Q kept x n left g (at-long a) (at-end (omega arith) a) (ap (λ t. left + t) (a .cut .count) ∙ a .sum)))
       inr
       (next-phase 3 (next-phase 2 (next-phase 1 (inl (old, n, at-begin n g)))))
 

@@ -6,7 +6,6 @@ pub mod StateLaws
 pub mod AheadLaws
 pub mod TurnLaws
 pub mod RunLaws
-pub mod RowLaws
 pub mod OutcomeLaws
 pub mod RegionLaws
 pub mod DoneLaws

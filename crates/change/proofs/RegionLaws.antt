@@ -1,13 +1,14 @@
--- From a plan that was carried out to the answer of a change.
-use Prim.Native.Nat.{ℕ, _+_, _-_, _≤_, _<_}
-use mathlib.Core.Path.{_≡_, refl, sym, ap, subst, _∙_}
-use mathlib.Core.Bool.{Bool, true, false, true≢false}
+-- From a request to its plan, and from the end of the loop to the answer of a change.
+use Prim.Native.Nat.{ℕ, _≤_, _<_}
+use mathlib.Core.Path.{_≡_, sym, subst}
+use mathlib.Core.Bool.{Bool}
 use mathlib.Core.List.{List}
 use native.Mathlib.Omega.{arith}
 use lib.ListN.{length}
-use Rattle.theory.specs.Pool.{words, SoundPool}
+use Rattle.theory.specs.Pool.{words}
 use Rattle.theory.specs.Settled.{Settled}
 use Rattle.table.specs.declared.Shape.{Shape}
+use Rattle.table.specs.Shape.{Fits}
 use Rattle.table.specs.Map.{formOf}
 use Rattle.places.specs.Count.{Room}
 use Rattle.targets.specs.declared.Paint.{Paint}
@@ -17,47 +18,32 @@ use Rattle.words.specs.declared.Rounded.the-variants.{Covers}
 use Rattle.words.proofs.RegionLaws.{region-covering}
 use Rattle.plan.specs.declared.Plan.{Plan}
 use Rattle.plan.specs.declared.Planning.{Planning}
-use Rattle.plan.specs.declared.Planning.the-variants.{Ready, NoRoom}
-use Rattle.change.specs.declared.Progress.{Progress}
-use Rattle.change.specs.declared.Answer.{Answer}
-use Rattle.change.specs.declared.Answer.the-variants.{Done, Cut}
+use Rattle.plan.specs.declared.Planning.the-variants.{Ready as Planned-as, NoRoom}
 use Rattle.plan.specs.Aims.{aims}
-use Rattle.change.specs.Cuts.{differing}
-use Rattle.change.specs.Runs.{ReadyToRun, RunIs}
 use Rattle.plan.specs.Plan.{PlanFits}
 use Rattle.plan.specs.Planning.{Regular}
 use Rattle.plan.specs.Goals.{Planned}
 use Rattle.plan.specs.Edges.{PlanReady, PlansChange}
 use Rattle.plan.proofs.EdgeLaws.{first-below, last-below}
 use Rattle.plan.proofs.PlannedLaws.{planned}
-use Rattle.table.specs.Shape.{Fits}
-use Rattle.change.specs.Answers.{paintOf, IsCut, IsDone, ChangesRegion, done, cut}
-use Rattle.change.proofs.OutcomeLaws.{outcome-done, outcome-cut}
+use Rattle.change.specs.declared.Answer.{Answer}
+use Rattle.change.specs.declared.Work.the-variants.{Change}
+use Rattle.change.specs.declared.Request.{Request}
+use Rattle.change.specs.declared.Request.the-variants.{Refused, Planned as Known}
+use Rattle.change.specs.declared.Answer.the-variants.{Refused as No}
+use Rattle.change.specs.Answers.{paintOf, Asked, ChangesRegion, Changes, in-order, done, cut}
+use Rattle.change.specs.Requests.{RegionIs, RequestIs}
+use Rattle.change.specs.Runs.{Ready, Ends, all-made, cut-short}
 
--- A plan for the request, ready to be carried out.
-pub record PlanFor (p : List ℕ) (s : Shape) (d : ℕ) (paint : Paint) (q : Plan) : Type 0 where
-  pub for-domain : q .domain ≡ d
-  pub for-paint : q .paint ≡ paint
-  pub ready : ReadyToRun s q p
+ready-for : (p : List ℕ) (s : Shape) (d : ℕ) (paint : Paint) (q : Plan) {G : ℕ → ℕ} {K : ℕ → Bool} → Fits s (length p) → PlanFits q
+    → Planned s d paint q p G K → Ready s d paint (Change q) p
+ready-for p s d paint q {G} {K} f r pl =
+    record { fits = f; goal = G; kept = K; aim = pl .goal; meant = pl; follows = (r, omega arith, omega arith) }
 
-ready-for : (p : List ℕ) (s : Shape) (d : ℕ) (paint : Paint) (q : Plan) {G : ℕ → ℕ} {K : ℕ → Bool} → Fits s (length p) → PlanFits q → q .domain ≡ d
-    → q .paint ≡ paint → Planned s d paint q p G K → PlanFor p s d paint q
-ready-for p s d paint q {G} {K} f r e g pl = record {
-  for-domain = e;
-  for-paint = g;
-  ready = record { fits = f; plan = r; goal = G; kept = K; planned = at-paint };
-}
-  where
-    at-domain : Planned s (q .domain) paint q p G K
-    at-domain = subst (λ (x : ℕ). Planned s x paint q p G K) (sym e) pl
-
-    at-paint : Planned s (q .domain) (q .paint) q p G K
-    at-paint = subst (λ (x : Paint). Planned s (q .domain) x q p G K) (sym g) at-domain
-
--- A plan that is right at its edges is.
-pub plan-for : (p : List ℕ) (s : Shape) (d : ℕ) (paint : Paint) (q : Plan) → Fits s (length p) → Settled (formOf s) (words p) → d < s .domains → Regular paint
-    → PlanReady s d paint (words p) q → PlanFor p s d paint q
-plan-for p s d paint q f t bd g r =
+-- A plan that is right at its edges is ready to be carried out.
+pub plan-ready : (p : List ℕ) (s : Shape) (d : ℕ) (paint : Paint) (q : Plan) → Fits s (length p) → Settled (formOf s) (words p) → d < s .domains → Regular paint
+    → PlanReady s d paint (words p) q → Ready s d paint (Change q) p
+plan-ready p s d paint q f t bd g r =
     let e = r .edges in
     ready-for p s d paint q f
     (record {
@@ -70,9 +56,9 @@ plan-for p s d paint q f t bd g r =
       blocks = let z = g .some in rw (e .first-block .number, e .last-block .number) (omega arith);
       pages = let z = g .some in rw (e .first-page .number, e .last-page .number) (omega arith);
     })
-    (e .for-domain) (e .for-paint) (planned s d paint p f t bd g (r .free-middle) (r .free-leaf) (r .middles) (r .leaves) q e)
+    (planned s d paint p f t bd g (r .free-middle) (r .free-leaf) (r .middles) (r .leaves) q e)
 
-pub planning-ready : (p : List ℕ) (s : Shape) (d : ℕ) (paint : Paint) (r : Planning) (q : Plan) → PlansChange s d paint (words p) r → r ≡ Ready q
+pub planning-ready : (p : List ℕ) (s : Shape) (d : ℕ) (paint : Paint) (r : Planning) (q : Plan) → PlansChange s d paint (words p) r → r ≡ Planned-as q
     → PlanReady s d paint (words p) q
 planning-ready p s d paint r q z e = rw e at z
 
@@ -80,30 +66,32 @@ pub planning-none : (p : List ℕ) (s : Shape) (d : ℕ) (paint : Paint) (r : Pl
     → Room (s .domains) (s .middles) (s .leaves) (aims s d paint (words p)) → ⊥
 planning-none p s d paint r z e = rw e at z
 
-module _ {p y : List ℕ} {s : Shape} {d : ℕ} {paint : Paint} {q : Plan} {n : ℕ} {r : Progress} (f : PlanFor p s d paint q) (u : RunIs s q p n r y) where
-  -- A run that was cut.
-  pub region-cut : r .cut ≡ true → Settled (formOf s) (words p) → ChangesRegion p s d paint n Cut y
-  region-cut e t =
-      let k = f .ready in
-      let (c, z) = u .stop e (k .goal) (k .kept) (k .planned) in
-      let o : IsCut s (q .domain) (q .paint) p n y = outcome-cut s (q .domain) (q .paint) p (k .goal) (k .kept) n c (z .word) y (z .at) (z .inside) (z .wanted) in
-      cut t y (rw (f .for-domain, f .for-paint) at o)
+-- The request of a region that is in order.
+pub request-is : (p : List ℕ) (s : Shape) (d start len r : ℕ) {g : Region} (q : Request) → Asked p s d start len r g → RegionIs p s d (paintOf g r) q
+    → RequestIs p s d start len r q
+request-is p s d start len r {g} (Refused k) a f = λ n. in-order g a (f n)
+request-is p s d start len r {g} (Known q) a (t, y) = (g, a, t, y)
 
-  -- A run that was not.
-  module _ (e : r .cut ≡ false) where
-    counted : r .left + differing p y ≡ n
-    counted = u .done e (f .ready .goal) (f .ready .kept) (f .ready .planned) .1
+-- What the end of the loop says of the change.
+pub region-answers : {s : Shape} {d : ℕ} {paint : Paint} {p : List ℕ} {n : ℕ} {a : Answer} {y : List ℕ} → Settled (formOf s) (words p)
+    → Ends p s d paint n a y → ChangesRegion p s d paint n a y
+region-answers t (all-made q d) = done t q d
+region-answers t (cut-short x c) = cut t x c
 
-    pub region-left : r .left ≤ n
-    region-left = let z = counted in omega arith
+-- A request that was refused, and one that was planned.
+module _ {p : List ℕ} {s : Shape} {d start len r : ℕ} where
+  pub request-refused : {q : Request} {k : ℕ} → RequestIs p s d start len r q → q ≡ Refused k → (n : ℕ) → Changes p s d start len r n (No k) p
+  request-refused f e = rw e at f
 
-    pub region-done : Settled (formOf s) (words p) → ChangesRegion p s d paint n (Done (n - r .left)) y
-    region-done t =
-        let k = f .ready in
-        let (same, sum) = u .done e (k .goal) (k .kept) (k .planned) in
-        let o : IsDone s (q .domain) (q .paint) p n y = outcome-done s (q .domain) (q .paint) p (k .goal) (k .kept) y n (r .left) (k .planned .goal) (u .long) same sum in
-        let m : n - r .left ≡ differing p y = omega arith in
-        rw m (done t y (rw (f .for-domain, f .for-paint) at o))
+  pub request-planned : {t : Request} {q : Plan} → RequestIs p s d start len r t → t ≡ Known q → RequestIs p s d start len r (Known q)
+  request-planned f e = rw e at f
+
+  pub request-ready : {q : Plan} → RequestIs p s d start len r (Known q) → Ready s d (q .paint) (Change q) p
+  request-ready {q} (g, a, t, y) = subst (λ (z : Paint). Ready s d z (Change q) p) (sym (y .meant .for-paint)) y
+
+  pub request-answers : {q : Plan} {n : ℕ} {a : Answer} {y : List ℕ} → RequestIs p s d start len r (Known q) → Ends p s d (q .paint) n a y
+      → Changes p s d start len r n a y
+  request-answers (g, a, t, y) e = in-order g a (region-answers t (rw (y .meant .for-paint) at e))
 
 -- A region that was rounded may be changed.
 pub covers-regular : (start len r : ℕ) (g : Region) → r ≤ 3 → regionOf start len ≡ Covers g → Regular (paintOf g r)

@@ -1,91 +1,131 @@
--- Three phases, one after the other, are the whole run.
-use Prim.Native.Nat.{ℕ, zero, suc, _+_, _≤_, _<_}
-use mathlib.Core.Path.{_≡_, refl, sym, ap, _∙_}
-use mathlib.Core.Bool.{Bool, true, false, true≢false, false≢true}
+-- The one loop: how it begins, goes on from a store to the next, and ends.
+use Prim.Native.Nat.{ℕ, _+_, _-_, _≤_}
+use mathlib.Core.Path.{_≡_, sym, _∙_}
+use mathlib.Core.Logic.{_≢_}
+use mathlib.Core.Bool.{Bool}
 use mathlib.Core.List.{List}
 use native.Mathlib.Omega.{arith}
-use lib.ListN.{length}
+use lib.ListN.{length, set, length-set}
 use Rattle.theory.specs.Pool.{words}
-use Rattle.theory.proofs.RightLaws.{by-cases}
 use Rattle.table.specs.declared.Shape.{Shape}
-use Rattle.plan.specs.declared.Plan.{Plan}
-use Rattle.change.specs.declared.Progress.{Progress}
-use Rattle.change.specs.Cuts.{differing}
-use Rattle.plan.specs.Goals.{Planned}
-use Rattle.change.specs.Runs.{At, Running, StoppedIn, PhaseIs, ReadyToRun, RunIs}
-use Rattle.change.proofs.StateLaws.{at-begin, at-turn, at-end}
+use Rattle.table.specs.Shape.{Fits}
+use Rattle.targets.specs.declared.Paint.{Paint}
+use Rattle.change.specs.declared.Answer.the-variants.{Done, Cut}
+use Rattle.change.specs.declared.Cursor.{Cursor}
+use Rattle.change.specs.declared.Next.{Next}
+use Rattle.change.specs.declared.Next.the-variants.{Store, None}
+use Rattle.change.specs.declared.Work.{Work}
+use Rattle.change.specs.declared.Work.the-variants.{Change, Tidying}
+use Rattle.words.specs.declared.PoolWord.{PoolWord}
+use Rattle.change.specs.Cuts.{differing, Due}
+use Rattle.change.specs.Runs.{At, Meant, Run, Stands, Follows, Looks, Told, Stores, Wanted, NextIs, NextIn, start, Ready, Ends, all-made, cut-short}
+use Rattle.change.proofs.State.{at-due, at-store}
+use Rattle.change.proofs.StateLaws.{at-begin}
+use Rattle.change.proofs.OutcomeLaws.{outcome-done, outcome-cut}
+use Rattle.change.proofs.TidyAimLaws.{owners-now}
 
-module _ {s : Shape} {q : Plan} {x : List ℕ} where
-  -- From the beginning of a phase to that of the next.
-  phase-on : {c n : ℕ} {u v : List ℕ} {before r : Progress} → PhaseIs s q c 0 (length x) u before r v → before .cut ≡ false → r .cut ≡ false
-      → (goal : ℕ → ℕ) (kept : ℕ → Bool) → Planned s (q .domain) (q .paint) q x goal kept
-      → At s (q .domain) (q .paint) x goal kept n c 0 u (before .left) → At s (q .domain) (q .paint) x goal kept n (c + 1) 0 v (r .left)
-  phase-on {c} {n} p b f goal kept z a = at-turn c (p .next b f x goal kept n z a)
+-- Between two stores of the work on `old`, which was told the owners `o`.
+pub record Midst (s : Shape) (o : List ℕ) (d : ℕ) (paint : Paint) (w : Work) (old : List ℕ) (n : ℕ) (from : Cursor) (x : List ℕ) (left : ℕ) : Type 0 where
+  pub fits : Fits s (length x)
+  pub goal : ℕ → ℕ
+  pub kept : ℕ → Bool
+  pub meant : Meant s d paint w old goal kept
+  pub at : At s d paint old goal kept n (from .phase) (from .word) x left
+  pub follows : Follows w from (length x)
+  pub told : Told s w o old
 
-  -- A run of the ready plan, at the beginning of a phase.
-  abbrev Begins : ReadyToRun s q x → ℕ → ℕ → List ℕ → ℕ → Type 0
-  Begins k n c u l = At s (q .domain) (q .paint) x (k .goal) (k .kept) n c 0 u l
+pub midst-begin : {s : Shape} {o : List ℕ} {d : ℕ} {paint : Paint} {w : Work} {x : List ℕ} (n : ℕ) → Ready s d paint w x → Told s w o x
+    → Midst s o d paint w x n start x n
+midst-begin n r t = record { fits = r .fits; goal = r .goal; kept = r .kept; meant = r .meant; at = at-begin n (r .aim); follows = r .follows; told = t }
 
-  pub begin-run : (k : ReadyToRun s q x) (n : ℕ) → Begins k n 1 x n
-  begin-run k n = at-begin n (k .planned .goal)
+-- What the work was told still holds.
+told-now : (s : Shape) (o : List ℕ) (d : ℕ) (paint : Paint) (w : Work) (old : List ℕ) (Q : ℕ → ℕ) (kept : ℕ → Bool) (n : ℕ) (from : Cursor) (x : List ℕ) (left : ℕ)
+    → Fits s (length x) → Meant s d paint w old Q kept → Follows w from (length x) → At s d paint old Q kept n (from .phase) (from .word) x left
+    → Told s w o old → Told s w o x
+told-now s o d paint (Change q) old Q kept n from x left f m h a t = tt
+told-now s o d paint Tidying old Q kept n from x left f (e, g) h a t = owners-now f t (rw (h, e, g) at a)
 
-  pub begin-next : (k : ReadyToRun s q x) {n c : ℕ} {u v : List ℕ} {before r : Progress} → Begins k n c u (before .left)
-      → PhaseIs s q c 0 (length x) u before r v → before .cut ≡ false → r .cut ≡ false → Begins k n (c + 1) v (r .left)
-  begin-next k a p b f = phase-on p b f (k .goal) (k .kept) (k .planned) a
+-- What was found, where it is a store, and where it is none.
+module _ {s : Shape} {w : Work} {x : List ℕ} {c i : ℕ} {r : Next} where
+  pub found-store : {k : PoolWord} {v : ℕ} {on : Cursor} → r ≡ Store k v on → NextIs s w x c i r → Wanted s w x c i (k .0) v on
+  found-store e f = rw e at f
 
-  pub begin-running : (k : ReadyToRun s q x) {n c : ℕ} {u : List ℕ} {l : ℕ} → length u ≡ length x → Begins k n c u l → Running s q c 0 u l
-  begin-running k {n} e a = record {
-    fits = rw e (k .fits);
-    plan = k .plan;
-    old = x;
-    goal = k .goal;
-    kept = k .kept;
+  pub found-none : r ≡ None → NextIs s w x c i r → NextIs s w x c i None
+  found-none e f = rw e at f
+
+  -- The same of what was found before word `to`.
+  pub in-store : (to : ℕ) {k : PoolWord} {v : ℕ} {on : Cursor} → r ≡ Store k v on → NextIn s w x c i to r → Wanted s w x c i (k .0) v on
+  in-store to e f = rw e at f
+
+  pub in-none : (to : ℕ) → r ≡ None → NextIn s w x c i to r → (u : Run s w) → Stands s w u c i x → Stands s w u c to x
+  in-none to e f = rw e at f
+
+-- Where every run comes to word `i` of phase `c`, its next store is the one from there on.
+module _ {s : Shape} {w : Work} {x : List ℕ} {b m c i : ℕ} (comes : (u : Run s w) → Stands s w u b m x → Stands s w u c i x) where
+  pub wanted-from : {k v : ℕ} {on : Cursor} → Wanted s w x c i k v on → Wanted s w x b m k v on
+  wanted-from f = record { inside = f .inside; word = f .word; follows = f .follows; stores = λ u a. f .stores u (comes u a) }
+
+none-left : {s : Shape} {d : ℕ} {paint : Paint} {old : List ℕ} {Q : ℕ → ℕ} {kept : ℕ → Bool} {n c k : ℕ} {x : List ℕ} {left : ℕ} → left ≡ 0
+    → At s d paint old Q kept n c k x left → At s d paint old Q kept n c k x 0
+none-left z a = rw z at a
+
+module _ {s : Shape} {o : List ℕ} {d : ℕ} {paint : Paint} {w : Work} {old : List ℕ} {n : ℕ} {from : Cursor} {x : List ℕ} {left : ℕ}
+    (m : Midst s o d paint w old n from x left) where
+  pub midst-looks : Looks s w from x
+  midst-looks = record { fits = m .fits; sound = m .at .cut .sound; follows = m .follows }
+
+  pub midst-told : Told s w o x
+  midst-told = told-now s o d paint w old (m .goal) (m .kept) n from x left (m .fits) (m .meant) (m .follows) (m .at) (m .told)
+
+  abbrev run : Run s w
+  run = record {
+    domain = d;
+    paint = paint;
+    old = old;
+    goal = m .goal;
+    kept = m .kept;
     allowance = n;
-    planned = k .planned;
-    at = a;
+    left = left;
+    meant = m .meant;
   }
 
--- A run that is not cut was not cut before.
-pub was-free : {s : Shape} {q : Plan} {c i k : ℕ} {u v : List ℕ} {before r : Progress} → PhaseIs s q c i k u before r v → r .cut ≡ false → before .cut ≡ false
-was-free {before = before} p e = by-cases (before .cut) (λ f. absurd (true≢false (sym f ∙ sym (ap (λ t. t .cut) (p .still f .0)) ∙ e))) (λ f. f)
+  -- There is no store to make.
+  module _ (e : NextIs s w x (from .phase) (from .word) None) where
+    made : left + differing old x ≡ n
+    made = rw (m .at .cut .count) (m .at .sum)
 
--- All three.
-module _ {s : Shape} {q : Plan} {x y z w : List ℕ} {n : ℕ} {one two three : Progress}
-    (p1 : PhaseIs s q 1 0 (length x) x (record { left = n; cut = false }) one y)
-    (p2 : PhaseIs s q 2 0 (length x) y one two z)
-    (p3 : PhaseIs s q 3 0 (length x) z two three w) where
-  first-cut : three .cut ≡ true → one .cut ≡ true → (goal : ℕ → ℕ) (kept : ℕ → Bool) → Planned s (q .domain) (q .paint) q x goal kept
-      → (c : ℕ) × StoppedIn s q x goal kept n c w
-  first-cut e f goal kept pl =
-      let (a, b) = p2 .still f in
-      let (g, h) = p3 .still (ap (λ t. t .cut) a ∙ f) in
-      (1, rw (h ∙ b) (p1 .stop refl f x goal kept n pl (at-begin n (pl .goal))))
+    pub ends-left : left ≤ n
+    ends-left = let z = made in omega arith
 
-  second-cut : three .cut ≡ true → one .cut ≡ false → two .cut ≡ true → (goal : ℕ → ℕ) (kept : ℕ → Bool) → Planned s (q .domain) (q .paint) q x goal kept
-      → (c : ℕ) × StoppedIn s q x goal kept n c w
-  second-cut e f g goal kept pl =
-      let (a, b) = p3 .still g in
-      (2, rw b (p2 .stop f g x goal kept n pl (phase-on p1 refl f goal kept pl (at-begin n (pl .goal)))))
+    pub ends-done : Ends old s d paint n (Done (n - left)) x
+    ends-done =
+        let z = made in
+        let y : n - left ≡ differing old x = omega arith in
+        rw y (all-made x (outcome-done s d paint old (m .goal) (m .kept) x n left (m .at .goal) (m .at .cut .long) (e run (m .at)) made))
 
-  last-cut : three .cut ≡ true → one .cut ≡ false → two .cut ≡ false → (goal : ℕ → ℕ) (kept : ℕ → Bool) → Planned s (q .domain) (q .paint) q x goal kept
-      → (c : ℕ) × StoppedIn s q x goal kept n c w
-  last-cut e f g goal kept pl =
-      (3, p3 .stop g e x goal kept n pl (phase-on p2 f g goal kept pl (phase-on p1 refl f goal kept pl (at-begin n (pl .goal)))))
+  -- There is one.
+  module _ {k v : ℕ} {on : Cursor} (e : Wanted s w x (from .phase) (from .word) k v on) where
+    here : Stores s w run x (on .phase) k v
+    here = e .stores run (m .at)
 
-  end : three .cut ≡ false → (goal : ℕ → ℕ) (kept : ℕ → Bool) → Planned s (q .domain) (q .paint) q x goal kept
-      → At s (q .domain) (q .paint) x goal kept n 4 0 w (three .left)
-  end e goal kept pl =
-      let g = was-free p3 e in
-      let f = was-free p2 g in
-      phase-on p3 g e goal kept pl (phase-on p2 f g goal kept pl (phase-on p1 refl f goal kept pl (at-begin n (pl .goal))))
+    moves : m .goal k ≢ words x k
+    moves z = here .differs (sym z ∙ sym (here .value))
 
-  pub run-is : RunIs s q x n three w
-  run-is = record {
-    long = p3 .long ∙ p2 .long ∙ p1 .long;
-    done = λ e goal kept pl.
-        let a = end e goal kept pl in
-        (at-end a, ap (λ t. three .left + t) (a .cut .count) ∙ a .sum);
-    stop = λ e goal kept pl. by-cases (one .cut)
-        (λ f. first-cut e f goal kept pl)
-        (λ f. by-cases (two .cut) (λ g. second-cut e f g goal kept pl) (λ g. last-cut e f g goal kept pl));
-  }
+    pub ends-cut : left ≡ 0 → Ends old s d paint n Cut x
+    ends-cut z = cut-short x (outcome-cut s d paint old (m .goal) (m .kept) n (on .phase) k x (none-left z (here .at)) (e .inside) moves)
+
+    -- It is due,
+    pub next-due : Due s d paint x k v
+    next-due = rw (here .value) (at-due (here .at) (e .inside) moves (here .phase))
+
+    -- and is made.
+    pub midst-on : left ≢ 0 → Midst s o d paint w old n on (set x k v) (left - 1)
+    midst-on z = record {
+      fits = rw (length-set x k v) (m .fits);
+      goal = m .goal;
+      kept = m .kept;
+      meant = m .meant;
+      at = rw (e .word, here .value) (at-store (here .at) (left - 1) (omega (arith, z)) (e .inside) moves (here .phase));
+      follows = rw (length-set x k v) (e .follows);
+      told = m .told;
+    }

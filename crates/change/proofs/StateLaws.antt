@@ -1,6 +1,6 @@
 -- Where a change begins, how it goes from phase to phase and over words that stay, and where it ends.
-use Prim.Native.Nat.{ℕ, zero, suc, _+_, _-_, _≤_, _<_}
-use mathlib.Core.Path.{_≡_, refl, sym, ap, _∙_, fun-ext}
+use Prim.Native.Nat.{ℕ, _+_, _≤_, _<_}
+use mathlib.Core.Path.{_≡_, refl, sym, ap, _∙_}
 use mathlib.Core.Logic.{_≢_, _⊎_, inl, inr, ⊎-elim}
 use mathlib.Core.Bool.{Bool, true, false, cond, _&&_, _||_}
 use mathlib.Core.List.{List}
@@ -10,14 +10,11 @@ use lib.Dec.{eqb, ltb}
 use lib.ListN.{length}
 use borrow.Author.Tests.{lt-ltb, le-ltb, eq-eqb, ne-eqb}
 use Rattle.theory.specs.Pool.{words}
-use Rattle.theory.specs.Finished.{Finished}
 use Rattle.theory.specs.Phase.{midway}
 use Rattle.theory.proofs.PhaseLaws.{midway-new}
-use Rattle.theory.proofs.FinishedLaws.{finished-words}
 use Rattle.table.specs.declared.Shape.{Shape}
-use Rattle.table.specs.Map.{formOf, leads, zone}
+use Rattle.table.specs.Map.{leads, zone}
 use Rattle.targets.specs.declared.Paint.{Paint}
-use Rattle.plan.specs.Aims.{aims}
 use Rattle.change.specs.Cuts.{CutAt}
 use Rattle.change.proofs.DifferLaws.{differing-self}
 use Rattle.plan.specs.Goals.{Goal}
@@ -124,8 +121,5 @@ module _ {s : Shape} {d : ℕ} {paint : Paint} {old : List ℕ} {Q : ℕ → ℕ
           last false = refl
 
   -- Past the last phase the pool is the finished one.
-  pub at-end : At s d paint old Q kept n 4 0 x left → (j : ℕ) → words x j ≡ Q j
-  at-end a j = a .pool j ∙ midway-new (words old) Q (phases s old kept) 4 0 j (phase-range s old kept j .1)
-
-  pub at-finished : At s d paint old Q kept n 4 0 x left → Finished (formOf s) (words old) (aims s d paint (words old)) (words x)
-  at-finished a = finished-words (formOf s) _ _ (λ j. sym (at-end a j)) (a .goal .finished)
+  pub at-end : {c k : ℕ} → 4 ≤ c → At s d paint old Q kept n c k x left → (j : ℕ) → words x j ≡ Q j
+  at-end {c} {k} h a j = a .pool j ∙ midway-new (words old) Q (phases s old kept) c k j (let z = phase-range s old kept j .1 in omega arith)

@@ -96,6 +96,15 @@ module _ (D M L : ℕ) {P Q : ℕ → ℕ} (sP : SoundPool (form D M L) P) (f : 
       let z : zone D M L k ≡ 2 = rw (lt-ltb k (firstMiddle D) b) refl in
       unled-stays (form D M L) (lawful D M L) (wanting D M L) (exact D M L) sP f k (rw z l)
 
+  -- A root word that still leads leads where it did.
+  pub still-leads : (k : ℕ) → k < firstMiddle D → leads 2 (Q k) ≡ true → Q k ≡ P k
+  still-leads k b l = by-cases (leads 2 (P k))
+      (λ m.
+      let a = k % 1024 * 4194304 in
+      let z : entry (form D M L) (k / 1024) a ≡ k = omega arith in
+      sym (f .keeps {d = k / 1024} {a = a} {h = 1} (omega arith) (omega arith) (k, rw z here, m, refl) (k, rw z here, l, refl)))
+      (λ m. root-stays k b m)
+
   pub page-stays : (k : ℕ) → firstMiddle D ≤ k → k < firstLeaf D M → leads 1 (P k) ≡ false → Q k ≡ P k
   page-stays k b c l =
       let z : zone D M L k ≡ 1 = rw (le-ltb k (firstMiddle D) b, lt-ltb k (firstLeaf D M) c) refl in

@@ -1,14 +1,19 @@
--- Which words have nothing to do in a phase. For the inner functions.
+-- Which words have nothing to do in a phase, and which one is stored next. For the inner functions.
 use Prim.Native.Nat.{ℕ, _+_, _*_, _-_, _<_, _≤_}
 use mathlib.Core.Path.{_≡_}
 use mathlib.Core.Logic.{_⊎_}
 use mathlib.Core.Bool.{true, false, not, cond, _&&_}
+use mathlib.Core.List.{List}
 use lib.Dec.{eqb}
+use lib.ListN.{length}
+use Rattle.table.specs.declared.Shape.{Shape}
 use Rattle.plan.specs.declared.Edge.{Edge}
 use Rattle.plan.specs.declared.Plan.{Plan}
 use Rattle.plan.specs.Plan.{isLead, isNew, InTable, tableOf, rootAfter, pageAfter, after, newWord}
-use Rattle.change.specs.declared.ahead.Row.{Row}
+use Rattle.change.specs.declared.Cursor.{Cursor}
+use Rattle.change.specs.declared.Work.the-variants.{Change}
 use Rattle.change.specs.declared.ahead.Span.{Span}
+use Rattle.change.specs.Runs.{Run, Stands}
 
 -- From word `k` on the next row is `r`, not after `best`: all words before it are as `Passed` says. It has a word, or is `best`.
 pub record Ahead (k : ℕ) (best : Span) (Passed : ℕ → Type 0) (r : Span) : Type 0 where
@@ -50,13 +55,13 @@ NewIdle q j = newWord q j ≡ false
 abbrev pub Idle : Plan → ℕ → ℕ → Type 0
 Idle q c j = Stays q j ⊎ (newWord q j ≡ not (eqb c 2))
 
--- The next row of a phase that has something to do, from word `k` on and before `to`.
-pub record NextRow (q : Plan) (c k to : ℕ) (r : Row) : Type 0 where
-  pub from : k ≤ r .from
-  pub order : r .from ≤ r .past
-  pub upto : r .past ≤ to
-  pub moves : k < r .past
-  pub passed : (j : ℕ) → k ≤ j → j < r .from → Idle q c j
+-- After the cursor's row comes the row of the cursor `r`, in a pool of `n` words: of the same phase, or of the next one once this is through.
+pub record NextRow (q : Plan) (at : Cursor) (n : ℕ) (r : Cursor) : Type 0 where
+  pub row : (r .word ≤ r .past) × (r .past ≤ n)
+  pub last : r .phase ≤ 4
+  pub moves : at .phase * 4294967296 + at .past < r .phase * 4294967296 + r .past
+  pub comes : (s : Shape) (u : Run s (Change q)) (x : List ℕ) → length x ≡ n → Stands s (Change q) u (at .phase) (at .past) x
+      → Stands s (Change q) u (r .phase) (r .word) x
 
 -- Of the 1,024 pages from page `begin` on, `r` come before page `n`.
 pub record PagesBefore (begin n r : ℕ) : Type 0 where

@@ -1,5 +1,6 @@
 pub mod Cuts
-pub mod Runs
-pub mod Ahead
 pub mod Answers
+pub mod Runs
+pub mod Requests
+pub mod Ahead
 pub mod Tidying

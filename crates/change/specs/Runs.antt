@@ -1,23 +1,28 @@
--- A change that is running: what the plan must be, where the run stands, and what its turns and phases do. For the inner functions.
-use Prim.Native.Nat.{ℕ, _+_, _≤_, _<_}
+-- A change or a tidying that is running: where it stands, which store it makes next, and how it ends. For the inner functions.
+use Prim.Native.Nat.{ℕ, _+_, _*_, _≤_, _<_}
 use mathlib.Core.Path.{_≡_}
 use mathlib.Core.Logic.{_≢_}
-use mathlib.Core.Bool.{Bool, true, false, not}
+use mathlib.Core.Bool.{Bool}
 use mathlib.Core.List.{List}
-use lib.ListN.{length}
+use lib.ListN.{length, getD}
 use Rattle.theory.specs.Pool.{words, SoundPool}
-use Rattle.theory.specs.Finished.{Finished}
-use Rattle.theory.specs.Phase.{phase, midway, Tells}
+use Rattle.theory.specs.Phase.{phase, midway}
 use Rattle.table.specs.declared.Shape.{Shape}
-use Rattle.table.specs.Shape.{Fits}
+use Rattle.table.specs.Shape.{Fits, firstMiddle}
 use Rattle.table.specs.Map.{formOf}
+use Rattle.soundness.specs.Places.{maxPlaces}
 use Rattle.targets.specs.declared.Paint.{Paint}
-use Rattle.plan.specs.declared.Plan.{Plan}
-use Rattle.change.specs.declared.Progress.{Progress}
 use Rattle.plan.specs.Plan.{PlanFits}
 use Rattle.plan.specs.Goals.{Goal, Planned}
-use Rattle.plan.specs.Aims.{aims}
+use Rattle.change.specs.declared.Answer.{Answer}
+use Rattle.change.specs.declared.Answer.the-variants.{Done, Cut}
+use Rattle.change.specs.declared.Cursor.{Cursor}
+use Rattle.change.specs.declared.Next.{Next}
+use Rattle.change.specs.declared.Next.the-variants.{Store, None}
+use Rattle.change.specs.declared.Work.{Work}
+use Rattle.change.specs.declared.Work.the-variants.{Change, Tidying}
 use Rattle.change.specs.Cuts.{differing, CutAt}
+use Rattle.change.specs.Answers.{noPaint, IsDone, IsCut}
 
 -- The phase of a word: of the kept ones that lead first, then of those in no kept table, then of the others.
 abbrev pub phases : Shape → List ℕ → (ℕ → Bool) → ℕ → ℕ
@@ -31,54 +36,89 @@ pub record At (s : Shape) (d : ℕ) (paint : Paint) (old : List ℕ) (Q : ℕ �
   pub sum : left + done ≡ n
   pub cut : CutAt s d paint old done x
 
--- A change by the plan `q` that is running, at word `k` of phase `c`.
-pub record Running (s : Shape) (q : Plan) (c k : ℕ) (x : List ℕ) (left : ℕ) : Type 0 where
-  pub fits : Fits s (length x)
-  pub plan : PlanFits q
+-- The work is that of the domain, the paint and the goal: by its plan; and a tidying is the change of the empty region.
+abbrev pub Meant : Shape → ℕ → Paint → Work → List ℕ → (ℕ → ℕ) → (ℕ → Bool) → Type 0
+Meant s d paint (Change q) old goal kept = Planned s d paint q old goal kept
+Meant s d paint Tidying old goal kept = (d ≡ 0) × (paint ≡ noPaint)
+
+-- A run of the work `w`.
+pub record Run (s : Shape) (w : Work) : Type 0 where
+  pub domain : ℕ
+  pub paint : Paint
   pub old : List ℕ
   pub goal : ℕ → ℕ
   pub kept : ℕ → Bool
   pub allowance : ℕ
-  pub planned : Planned s (q .domain) (q .paint) q old goal kept
-  pub at : At s (q .domain) (q .paint) old goal kept allowance c k x left
+  pub left : ℕ
+  pub meant : Meant s domain paint w old goal kept
 
--- A turn takes each run by this plan that stands at word `k` past it, or stops it there with no store left and one wanted.
-pub record TurnIs (s : Shape) (q : Plan) (c k : ℕ) (x : List ℕ) (left : ℕ) (r : Progress) (y : List ℕ) : Type 0 where
-  pub long : length y ≡ length x
-  pub next : r .cut ≡ false → (old : List ℕ) (goal : ℕ → ℕ) (kept : ℕ → Bool) (n : ℕ) → Planned s (q .domain) (q .paint) q old goal kept
-      → At s (q .domain) (q .paint) old goal kept n c k x left → At s (q .domain) (q .paint) old goal kept n c (k + 1) y (r .left)
-  pub stop : r .cut ≡ true → (y ≡ x) × (left ≡ 0) × (r .left ≡ 0)
-  pub wanted : r .cut ≡ true → (old : List ℕ) (goal : ℕ → ℕ) (kept : ℕ → Bool) (n : ℕ) → Planned s (q .domain) (q .paint) q old goal kept
-      → At s (q .domain) (q .paint) old goal kept n c k x left → goal k ≢ words x k
+-- It stands at word `k` of phase `c`, in the pool `x`.
+abbrev pub Stands : (s : Shape) (w : Work) → Run s w → ℕ → ℕ → List ℕ → Type 0
+Stands s w r c k x = At s (r .domain) (r .paint) (r .old) (r .goal) (r .kept) (r .allowance) c k x (r .left)
 
--- Where a run was cut: at word `k`, which is to change and has not, with no store left.
-pub record StoppedIn (s : Shape) (q : Plan) (old : List ℕ) (goal : ℕ → ℕ) (kept : ℕ → Bool) (n c : ℕ) (x : List ℕ) : Type 0 where
-  pub word : ℕ
-  pub inside : word < length x
-  pub at : At s (q .domain) (q .paint) old goal kept n c word x 0
-  pub wanted : goal word ≢ words x word
+-- A cursor that the work can go on from, in a pool of `n` words: the plan is in its ranges and the row within the pool; a tidying has one phase.
+abbrev pub Follows : Work → Cursor → ℕ → Type 0
+Follows (Change q) c n = PlanFits q × (c .word ≤ c .past) × (c .past ≤ n)
+Follows Tidying c n = c .phase ≡ 1
 
--- A phase takes each run by this plan from word `from` to word `to`, or stops it on the way. A run that was cut stays as it was.
-pub record PhaseIs (s : Shape) (q : Plan) (c from to : ℕ) (x : List ℕ) (before r : Progress) (y : List ℕ) : Type 0 where
-  pub long : length y ≡ length x
-  pub still : before .cut ≡ true → (r ≡ before) × (y ≡ x)
-  pub next : before .cut ≡ false → r .cut ≡ false → (old : List ℕ) (goal : ℕ → ℕ) (kept : ℕ → Bool) (n : ℕ) → Planned s (q .domain) (q .paint) q old goal kept
-      → At s (q .domain) (q .paint) old goal kept n c from x (before .left) → At s (q .domain) (q .paint) old goal kept n c to y (r .left)
-  pub stop : before .cut ≡ false → r .cut ≡ true → (old : List ℕ) (goal : ℕ → ℕ) (kept : ℕ → Bool) (n : ℕ) → Planned s (q .domain) (q .paint) q old goal kept
-      → At s (q .domain) (q .paint) old goal kept n c from x (before .left) → StoppedIn s q old goal kept n c y
-
--- The plan is ready to be carried out on the pool `x`.
-pub record ReadyToRun (s : Shape) (q : Plan) (x : List ℕ) : Type 0 where
+-- What the next store of a work is looked for in.
+pub record Looks (s : Shape) (w : Work) (from : Cursor) (x : List ℕ) : Type 0 where
   pub fits : Fits s (length x)
-  pub plan : PlanFits q
+  pub sound : SoundPool (formOf s) (words x)
+  pub follows : Follows w from (length x)
+
+-- No root word but `owner` leads to the middle place at `t`.
+abbrev pub OnlyFrom : Shape → List ℕ → ℕ → ℕ → Type 0
+OnlyFrom s x owner t = (j : ℕ) → j < firstMiddle (s .domains) → words x j ≡ t → owner ≡ j
+
+-- No root word but its owner leads to a middle place.
+pub record MiddleOwners (s : Shape) (o x : List ℕ) : Type 0 where
+  pub long : length o ≡ maxPlaces
+  pub only : (p : ℕ) → p < s .middles → OnlyFrom s x (getD o p 0) (firstMiddle (s .domains) + 1024 * p)
+
+-- What a work is told of the owners of places: a tidying those of the middle places; a change has its plan.
+abbrev pub Told : Shape → Work → List ℕ → List ℕ → Type 0
+Told s (Change q) o x = Unit {0}
+Told s Tidying o x = MiddleOwners s o x
+
+-- The run stands at word `k` in the word's phase, and has `v` to store there.
+pub record Stores (s : Shape) (w : Work) (r : Run s w) (x : List ℕ) (c k v : ℕ) : Type 0 where
+  pub at : Stands s w r c k x
+  pub phase : phases s (r .old) (r .kept) k ≡ c
+  pub value : v ≡ r .goal k
+  pub differs : words x k ≢ v
+
+-- Every run of the work that stands at word `i` of phase `c` makes, next, the store of `v` at word `k`, and goes on from the cursor `on`.
+pub record Wanted (s : Shape) (w : Work) (x : List ℕ) (c i k v : ℕ) (on : Cursor) : Type 0 where
+  pub inside : k < length x
+  pub word : on .word ≡ k + 1
+  pub follows : Follows w on (length x)
+  pub stores : (r : Run s w) → Stands s w r c i x → Stores s w r x (on .phase) k v
+
+-- The next store of the work from word `i` of phase `c` on; or there is none, and every run that stands there has finished.
+abbrev pub NextIs : Shape → Work → List ℕ → ℕ → ℕ → Next → Type 0
+NextIs s w x c i (Store k v on) = Wanted s w x c i (k .0) v on
+NextIs s w x c i None = (r : Run s w) → Stands s w r c i x → (j : ℕ) → words x j ≡ r .goal j
+
+-- The next store of the work from word `i` of phase `c` on; or there is none before word `to`, and every run that stands there comes to it.
+abbrev pub NextIn : Shape → Work → List ℕ → ℕ → ℕ → ℕ → Next → Type 0
+NextIn s w x c i to (Store k v on) = Wanted s w x c i (k .0) v on
+NextIn s w x c i to None = (r : Run s w) → Stands s w r c i x → Stands s w r c to x
+
+-- Where every run begins.
+abbrev pub start : Cursor
+start = record { phase = 1; word = 0; past = 0 }
+
+-- The work is ready to be made on the pool `x`.
+pub record Ready (s : Shape) (d : ℕ) (paint : Paint) (w : Work) (x : List ℕ) : Type 0 where
+  pub fits : Fits s (length x)
   pub goal : ℕ → ℕ
   pub kept : ℕ → Bool
-  pub planned : Planned s (q .domain) (q .paint) q x goal kept
+  pub aim : Goal s d paint x goal kept
+  pub meant : Meant s d paint w x goal kept
+  pub follows : Follows w start (length x)
 
--- The stores of the plan, made on the pool `x` with the allowance `n`, leave `y`: the finished pool, or a cut on the way.
-pub record RunIs (s : Shape) (q : Plan) (x : List ℕ) (n : ℕ) (r : Progress) (y : List ℕ) : Type 0 where
-  pub long : length y ≡ length x
-  pub done : r .cut ≡ false → (goal : ℕ → ℕ) (kept : ℕ → Bool) → Planned s (q .domain) (q .paint) q x goal kept
-      → ((j : ℕ) → words y j ≡ goal j) × (r .left + differing x y ≡ n)
-  pub stop : r .cut ≡ true → (goal : ℕ → ℕ) (kept : ℕ → Bool) → Planned s (q .domain) (q .paint) q x goal kept
-      → (c : ℕ) × StoppedIn s q x goal kept n c y
+-- A change or a tidying of `p` with the allowance `n` is done, with the count, or cut.
+pub data Ends (p : List ℕ) (s : Shape) (d : ℕ) (paint : Paint) (n : ℕ) : Answer → List ℕ → Type 0 where
+  all-made : (q : List ℕ) → IsDone s d paint p n q → Ends p s d paint n (Done (differing p q)) q
+  cut-short : (x : List ℕ) → IsCut s d paint p n x → Ends p s d paint n Cut x

@@ -1,18 +1,20 @@
-// Which words of the pool a run looks at next. A plan changes words of few tables, and between them there is nothing to do.
-ghost use Prim.Native.Nat.{ℕ, _<_, _≤_};
+// Which store a change makes next. A plan changes words of few tables, and between them there is nothing to do.
+ghost use Prim.Native.Nat.{ℕ, _+_, _<_, _≤_};
 ghost use mathlib.Core.Path.{_≡_};
 ghost use Rattle.plan.specs.Plan.{PlanFits};
-ghost use Rattle.change.specs.Ahead.{Ahead, Outside, NotNew, RootIdle, MiddleIdle, LeafIdle, KeptIdle, NewIdle, Idle, PagesBefore, NextRow};
+ghost use Rattle.change.specs.Runs.{Looks, NextIs, NextIn};
+ghost use Rattle.change.specs.Ahead.{Ahead, Outside, NotNew, RootIdle, MiddleIdle, LeafIdle, KeptIdle, NewIdle, Idle, PagesBefore};
+ghost use Rattle.change.specs.Ahead.{NextRow};
+use crate::Cursor;
+use crate::Next;
+use crate::Work;
+use crate::final_word;
+use crate::phase_of;
 use plan::Edge;
 use plan::Plan;
+use table::Shape;
 
 // The words from `from` up to `past`.
-pub struct Row {
-    pub from: usize,
-    pub past: usize,
-}
-
-// The same, counted as the plan counts words.
 pub struct Span {
     pub from: u32,
     pub past: u32,
@@ -137,25 +139,6 @@ fn next_new(plan: Plan, k: u32, best: Span) -> Span
     near_new(plan.last_page, 64, k, three)
 }
 
-// The first row from `k` on, and before `to`, that has something to do in phase `c`; or none, at `to`.
-pub fn next_row(plan: Plan, c: u32, k: usize, to: usize) -> Row
-    requires { ⌜ PlanFits plan × (k < to) × (to < 4294967296) ⌝ }
-    ensures { λ r. ⌜ NextRow plan c k to r ⌝ }
-{
-    let end = to as u32;
-    let none = Span {
-        from: end,
-        past: end,
-    };
-    let row = next_in(plan, c, k as u32, none);
-    let from = row.from as usize;
-    let past = row.past as usize;
-    if past < to {
-        return Row { from, past };
-    }
-    Row { from, past: to }
-}
-
 // By the phase: new tables are filled in the second.
 fn next_in(plan: Plan, c: u32, k: u32, none: Span) -> Span
     requires { ⌜ PlanFits plan × (k ≤ none .from) ⌝ }
@@ -165,4 +148,91 @@ fn next_in(plan: Plan, c: u32, k: u32, none: Span) -> Span
         return next_new(plan, k, none);
     }
     next_kept(plan, k, none)
+}
+
+// The row after the cursor's that has something to do; past the last word the next phase begins.
+fn next_row(plan: Plan, at: Cursor, n: u32) -> Cursor
+    requires { ⌜ PlanFits plan × (at .past ≤ n) × (at .phase < 4) ⌝ }
+    ensures { λ r. ⌜ NextRow plan at n r ⌝ }
+{
+    let phase = at.phase;
+    let k = at.past;
+    if k == n {
+        return Cursor {
+            phase: phase + 1,
+            word: 0,
+            past: 0,
+        };
+    }
+    let row = next_in(plan, phase, k, Span { from: n, past: n });
+    let word = row.from;
+    let past = row.past;
+    if past < n {
+        return Cursor { phase, word, past };
+    }
+    Cursor {
+        phase,
+        word,
+        past: n,
+    }
+}
+
+// The store at the cursor's word, if the word changes in this phase.
+fn next_here(pool: &[u32], shape: Shape, plan: Plan, at: Cursor) -> Next
+    requires { ⌜ Looks shape (Work.Change plan) at (now pool) × (at .word < at .past) ⌝ }
+    ensures { λ r. ⌜ NextIn shape (Work.Change plan) (now (pool .entry)) (at .phase) (at .word) (at .word + 1) r ⌝ }
+{
+    let phase = at.phase;
+    let k = at.word;
+    let past = at.past;
+    let x = pool[k as usize];
+    let turn = phase_of(shape, plan, k, x);
+    if turn != phase {
+        return Next::None;
+    }
+    let value = final_word(plan, k, x);
+    if value == x {
+        return Next::None;
+    }
+    let on = Cursor {
+        phase,
+        word: k + 1,
+        past,
+    };
+    Next::Store(words::pool_word(k), value, on)
+}
+
+// The next store in the cursor's row.
+fn next_in_row(pool: &[u32], shape: Shape, plan: Plan, at: Cursor) -> Next
+    requires { ⌜ Looks shape (Work.Change plan) at (now pool) ⌝ }
+    ensures { λ r. ⌜ NextIn shape (Work.Change plan) (now (pool .entry)) (at .phase) (at .word) (at .past) r ⌝ }
+{
+    let phase = at.phase;
+    let past = at.past;
+    let mut word = at.word;
+    while word < past {
+        let next = next_here(pool, shape, plan, Cursor { phase, word, past });
+        let Next::None = next else {
+            return next;
+        };
+        word += 1;
+    }
+    Next::None
+}
+
+// The next store of a change: row by row, and phase by phase.
+pub fn next_change(pool: &[u32], shape: Shape, plan: Plan, from: Cursor) -> Next
+    requires { ⌜ Looks shape (Work.Change plan) from (now pool) ⌝ }
+    ensures { λ r. ⌜ NextIs shape (Work.Change plan) (now (pool .entry)) (from .phase) (from .word) r ⌝ }
+{
+    let n = pool.len() as u32;
+    let mut at = from;
+    while at.phase < 4 {
+        let next = next_in_row(pool, shape, plan, at);
+        let Next::None = next else {
+            return next;
+        };
+        at = next_row(plan, at, n);
+    }
+    Next::None
 }

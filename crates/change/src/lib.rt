@@ -1,19 +1,17 @@
 // Changes and tidyings: a plan by value, stores that each leave a safe pool, and a cut wherever the allowance ends.
 ghost use mathlib.Core.Path.{_≡_};
-ghost use Prim.Native.Nat.{ℕ, _+_, _*_, _/_, _%_, _<_, _≤_};
+ghost use Prim.Native.Nat.{ℕ, _+_, _*_, _/_, _<_, _≤_};
 ghost use mathlib.Core.List.{List};
-ghost use mathlib.Core.Bool.{Bool, true, false, cond, _&&_};
+ghost use mathlib.Core.Bool.{cond, _&&_};
 ghost use Rattle.words.specs.Rights.{rightAt, eightOf};
 ghost use lib.ListN.{length, set};
 ghost use Rattle.table.specs.Shape.{Fits, InRange};
 ghost use Rattle.plan.specs.Plan.{isLead, InTable, tableOf, isNew, rootAfter, pageAfter, leafAfter, after, newWord, phaseOf, PlanFits};
-ghost use Rattle.theory.specs.Pool.{words, SoundPool};
-ghost use Rattle.theory.specs.Settled.{Settled};
-ghost use Rattle.table.specs.Map.{formOf};
 ghost use Rattle.plan.specs.Planning.{Regular};
-ghost use Rattle.change.specs.Answers.{Changes, ChangesRegion};
+ghost use Rattle.change.specs.Answers.{Changes};
 ghost use Rattle.change.specs.Cuts.{CutAt, Due};
-ghost use Rattle.change.specs.Runs.{Running, TurnIs, PhaseIs, ReadyToRun, RunIs};
+ghost use Rattle.change.specs.Requests.{RegionIs, RequestIs};
+ghost use Rattle.change.specs.Runs.{Looks, NextIs, Ready, Told, Ends};
 use plan::Edge;
 use plan::Plan;
 use plan::Planning;
@@ -23,8 +21,8 @@ use words::ByteAddr;
 use words::PoolWord;
 use words::Rounded;
 
-mod ahead; // ahead.rt: which word comes next
-mod tidying; // tidying.rt: tables that are not wanted are given up
+mod ahead; // ahead.rt: which store of a change comes next
+mod tidying; // tidying.rt: which store of a tidying does
 
 pub use tidying::tidy;
 
@@ -35,10 +33,35 @@ pub enum Answer {
     Refused(u32),
 }
 
-// What is left of an allowance, and whether a store was wanted with none left.
-pub struct Progress {
-    pub left: u32,
-    pub cut: bool,
+// What is to be made: a change, by its plan; or a tidying, which is the change of the empty region.
+pub enum Work {
+    Change(Plan),
+    Tidying,
+}
+
+// Where a run stands: the phase, and in it the word. The words from there up to `past` are a row, to be looked at one by one.
+pub struct Cursor {
+    pub phase: u32,
+    pub word: u32,
+    pub past: u32,
+}
+
+const START: Cursor = Cursor {
+    phase: 1,
+    word: 0,
+    past: 0,
+};
+
+// The next store: where, what, and where the run goes on; or there is none.
+pub enum Next {
+    Store(PoolWord, u32, Cursor),
+    None,
+}
+
+// A request that is refused with the paper's number, or planned.
+pub enum Request {
+    Refused(u32),
+    Planned(Plan),
 }
 
 // Whether word `k` is one of the `n` words from `t` on.
@@ -236,129 +259,105 @@ fn put(pool: &mut [u32], shape: Shape, domain: u32, paint: Paint, at: PoolWord, 
     pool[i] = value;
 }
 
-// Word `k` in its phase `c`: passed over, stored, or wanted with no store left.
-fn store_turn(pool: &mut [u32], shape: Shape, plan: Plan, c: u32, k: usize, left: u32) -> Progress
-    requires { ⌜ Running shape plan c k (now pool) left ⌝ }
-    requires { ⌜ k < length (now pool) ⌝ }
-    ensures { λ r. ⌜ TurnIs shape plan c k (now (pool .entry)) left r (now (pool .exit)) ⌝ }
+// Which store the work makes next, from the cursor on. A tidying goes by the owners of the places as they were.
+fn next_store(pool: &[u32], shape: Shape, owners: &[u32], work: Work, from: Cursor) -> Next
+    requires { ⌜ Looks shape work from (now pool) ⌝ }
+    requires { ⌜ Told shape work (now owners) (now pool) ⌝ }
+    ensures { λ r. ⌜ NextIs shape work (now (pool .entry)) (from .phase) (from .word) r ⌝ }
 {
-    let x = pool[k];
-    let n = k as u32;
-    let turn = phase_of(shape, plan, n, x);
-    if turn != c {
-        return Progress { left, cut: false };
-    }
-    let v = final_word(plan, n, x);
-    if v == x {
-        return Progress { left, cut: false };
-    }
-    if left == 0 {
-        return Progress { left: 0, cut: true };
-    }
-    let domain = plan.domain;
-    let paint = plan.paint;
-    put(pool, shape, domain, paint, words::pool_word(n), v);
-    Progress {
-        left: left - 1,
-        cut: false,
+    match work {
+        Work::Change(plan) => ahead::next_change(pool, shape, plan, from),
+        Work::Tidying => tidying::next_tidying(pool, shape, owners, from),
     }
 }
 
-// The words from `from` up to `to` in their phase `c`. A run that was cut stays so.
-fn store_row(
+// The one loop: it asks which store comes next, and makes it, until there is none or none is left. Besides `put`, and `change` and `tidy`, which
+// call it once, nothing holds the pool to write in; and nothing else is told the allowance.
+fn make_stores(
     pool: &mut [u32],
     shape: Shape,
-    plan: Plan,
-    c: u32,
-    from: usize,
-    to: usize,
-    before: Progress,
-) -> Progress
-    requires { ⌜ (before .cut ≡ false → Running shape plan c from (now pool) (before .left)) ⌝ }
-    requires { ⌜ (from ≤ to) × (to ≤ length (now pool)) ⌝ }
-    ensures { λ r. ⌜ PhaseIs shape plan c from to (now (pool .entry)) before r (now (pool .exit)) ⌝ }
-{
-    let stopped = before.cut;
-    if stopped {
-        return before;
-    }
-    let mut left = before.left;
-    let mut k = from;
-    while k < to {
-        let p = store_turn(pool, shape, plan, c, k, left);
-        let stop = p.cut;
-        if stop {
-            return p;
-        }
-        left = p.left;
-        k += 1;
-    }
-    Progress { left, cut: false }
-}
-
-// Phase `c`, row by row; between the rows there is nothing to do.
-fn store_phase(pool: &mut [u32], shape: Shape, plan: Plan, c: u32, before: Progress) -> Progress
-    requires { ⌜ (before .cut ≡ false → Running shape plan c 0 (now pool) (before .left)) ⌝ }
-    requires { ⌜ PlanFits plan × (length (now pool) < 4294967296) ⌝ }
-    ensures { λ r. ⌜ PhaseIs shape plan c 0 (length (now (pool .entry))) (now (pool .entry)) before r (now (pool .exit)) ⌝ }
-{
-    let n = pool.len();
-    let mut run = before;
-    let mut k: usize = 0;
-    while k < n {
-        let row = ahead::next_row(plan, c, k, n);
-        let past = row.past;
-        run = store_row(pool, shape, plan, c, row.from, past, run);
-        k = past;
-    }
-    run
-}
-
-// All stores of a plan: what leads and is given up, then the new tables, then the rest.
-fn run_stores(pool: &mut [u32], shape: Shape, plan: Plan, allowance: u32) -> Progress
-    requires { ⌜ ReadyToRun shape plan (now pool) ⌝ }
-    ensures { λ r. ⌜ RunIs shape plan (now (pool .entry)) allowance r (now (pool .exit)) ⌝ }
-{
-    let start = Progress {
-        left: allowance,
-        cut: false,
-    };
-    let one = store_phase(pool, shape, plan, 1, start);
-    let two = store_phase(pool, shape, plan, 2, one);
-    store_phase(pool, shape, plan, 3, two)
-}
-
-// A change whose request is in order up to refusal 5. All is decided before the first store.
-fn change_region(
-    pool: &mut [u32],
-    shape: Shape,
+    owners: &[u32],
     domain: u32,
     paint: Paint,
+    work: Work,
     allowance: u32,
 ) -> Answer
+    requires { ⌜ Ready shape domain paint work (now pool) ⌝ }
+    requires { ⌜ Told shape work (now owners) (now pool) ⌝ }
+    ensures { λ r. ⌜ Ends (now (pool .entry)) shape domain paint allowance r (now (pool .exit)) ⌝ }
+{
+    let mut left = allowance;
+    let mut from = START;
+    loop {
+        let next = next_store(pool, shape, owners, work, from);
+        let Next::Store(at, value, on) = next else {
+            return Answer::Done(allowance - left);
+        };
+        if left == 0 {
+            return Answer::Cut;
+        }
+        put(pool, shape, domain, paint, at, value);
+        left -= 1;
+        from = on;
+    }
+}
+
+// A request that is in order up to refusal 5. All is decided before the first store.
+fn plan_region(pool: &[u32], shape: Shape, domain: u32, paint: Paint) -> Request
     requires { ⌜ Fits shape (length (now pool)) ⌝ }
     requires { ⌜ (domain < shape .domains) × Regular paint ⌝ }
-    ensures { λ r. ⌜ ChangesRegion (now (pool .entry)) shape domain paint allowance r (now (pool .exit)) ⌝ }
+    ensures { λ r. ⌜ RegionIs (now (pool .entry)) shape domain paint r ⌝ }
 {
-    let seen = soundness::check_sound(pool, shape);
-    let sound = seen.ok;
+    let mut owners = [0u32; 72];
+    let sound = census::census(pool, shape, &mut owners);
     if !sound {
-        return Answer::Refused(6);
+        return Request::Refused(6);
     }
-    if !targets::settled(pool, shape) {
-        return Answer::Refused(7);
+    let settled = targets::settled(pool, shape, &owners);
+    if !settled {
+        return Request::Refused(7);
     }
-    let planning = plan::plan_change(pool, shape, domain, paint);
+    let planning = plan::plan_change(pool, shape, &owners, domain, paint);
     let Planning::Ready(plan) = planning else {
-        return Answer::Refused(8);
+        return Request::Refused(8);
     };
-    let ran = run_stores(pool, shape, plan, allowance);
-    let cut = ran.cut;
-    if cut {
-        return Answer::Cut;
+    Request::Planned(plan)
+}
+
+// What is refused is refused here, in the paper's order.
+fn plan_request(
+    pool: &[u32],
+    shape: Shape,
+    domain: u32,
+    start: ByteAddr,
+    length: u32,
+    right: u32,
+) -> Request
+    ensures { λ r. ⌜ RequestIs (now (pool .entry)) shape domain (start .0) length right r ⌝ }
+{
+    let n = pool.len();
+    if !table::shape_fits(shape, n) {
+        return Request::Refused(1);
     }
-    let left = ran.left;
-    Answer::Done(allowance - left)
+    let domains = shape.domains;
+    if domain >= domains {
+        return Request::Refused(2);
+    }
+    if right > 3 {
+        return Request::Refused(3);
+    }
+    let rounded = words::round_region(start, length);
+    match rounded {
+        Rounded::Refused(k) => Request::Refused(k),
+        Rounded::Covers(g) => {
+            let paint = Paint {
+                lo: g.lo,
+                hi: g.hi,
+                right,
+            };
+            plan_region(pool, shape, domain, paint)
+        }
+    }
 }
 
 // Gives a domain a right on every word that a region covers. Whatever the pool holds and whatever the numbers are, it answers; a refusal changes no
@@ -374,27 +373,15 @@ pub fn change(
 ) -> Answer
     ensures { λ r. ⌜ Changes (now (pool .entry)) shape domain (start .0) length right allowance r (now (pool .exit)) ⌝ }
 {
-    let n = pool.len();
-    if !table::shape_fits(shape, n) {
-        return Answer::Refused(1);
-    }
-    let domains = shape.domains;
-    if domain >= domains {
-        return Answer::Refused(2);
-    }
-    if right > 3 {
-        return Answer::Refused(3);
-    }
-    let rounded = words::round_region(start, length);
-    match rounded {
-        Rounded::Refused(k) => Answer::Refused(k),
-        Rounded::Covers(g) => {
-            let paint = Paint {
-                lo: g.lo,
-                hi: g.hi,
-                right,
-            };
-            change_region(pool, shape, domain, paint, allowance)
+    let request = plan_request(pool, shape, domain, start, length, right);
+    match request {
+        Request::Refused(k) => Answer::Refused(k),
+        Request::Planned(plan) => {
+            let paint = plan.paint;
+            let work = Work::Change(plan);
+            // The plan knows its tables.
+            let owners = [0u32; 0];
+            make_stores(pool, shape, &owners, domain, paint, work, allowance)
         }
     }
 }

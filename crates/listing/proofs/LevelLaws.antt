@@ -191,6 +191,12 @@ module _ (p : List ℕ) (s : Shape) where
       ap (λ m. fed m (tableRight s p (h - 1) (t .0)) a u) (table-block h (entry-up h k a n t x e) (entry-low x))
       ∙ fed-alike (blockWords h) (tableRight s p (h - 1) (t .0)) (entryRight s p h k) a u (λ j lo hi. sym (entry-leads h k a n t x e j))
 
+  pub leaf-fed : (h k a n : ℕ) (t : PoolWord) (u : Sheet) → EntryAt p s h k a → decodeOf s h (words p k) ≡ Leads t n → h ≡ 1
+      → fed (tableWords 0) (tableRight s p 0 (t .0)) a u ≡ fed (blockWords h) (entryRight s p h k) a u
+  leaf-fed h k a n t u x e o =
+      let z : 0 ≡ h - 1 = omega arith in
+      ap (λ m. fed (tableWords m) (tableRight s p m (t .0)) a u) z ∙ leads-fed h k a n t u x e
+
   -- One entry of a table further.
   module _ (h b a : ℕ) (x : TableAt p s h b a) (v : Level) (e : v ≡ levelOf h) (i : ℕ) (c : i < v .entries) where
     pub entry-at : EntryAt p s h (b + i) (a + i * v .block)

@@ -112,19 +112,19 @@ fn close(run: Open, at: u32, runs: &mut [u32]) -> usize
     requires { ⌜ OpenAt run at ⌝ }
     ensures { λ r. ⌜ sheet (counted run r) (now (runs .exit)) ≡ closed at (sheet run (now (runs .entry))) ⌝ }
 {
-    let n = run.count;
+    let mut n = run.count;
     let right = run.right;
-    if right == 0 {
-        return n;
+    if right != 0 {
+        let ended = Run {
+            domain: run.domain,
+            first: run.first,
+            past: at,
+            right,
+        };
+        put_run(ended, n, run.from, runs);
+        n += 1;
     }
-    let ended = Run {
-        domain: run.domain,
-        first: run.first,
-        past: at,
-        right,
-    };
-    put_run(ended, n, run.from, runs);
-    n + 1
+    n
 }
 
 // From word `at` on the right is `right`.
@@ -134,14 +134,16 @@ fn feed_right(right: u32, at: u32, run: Open, runs: &mut [u32]) -> Open
     ensures { λ r. ⌜ sheet r (now (runs .exit)) ≡ feed right at (sheet run (now (runs .entry))) ⌝ }
 {
     let old = run.right;
-    if right == old {
-        return run;
+    let mut first = run.first;
+    let mut n = run.count;
+    if right != old {
+        n = close(run, at, runs);
+        first = at;
     }
-    let n = close(run, at, runs);
     Open {
         domain: run.domain,
         right,
-        first: at,
+        first,
         count: n,
         from: run.from,
     }
@@ -167,6 +169,32 @@ fn feed_rights(height: u32, w: u32, at: u32, run: Open, runs: &mut [u32]) -> Ope
         let right = words::right_at(w, i);
         let from = at + i * step;
         s = feed_right(right, from, s, runs);
+        i += 1;
+    }
+    s
+}
+
+// The leaf that begins at pool word `base`, for the memory from word `at` on. Most runs are in leaves; here the numbers of the height are known.
+fn feed_leaf(
+    pool: &[u32],
+    shape: Shape,
+    base: PoolWord,
+    at: u32,
+    run: Open,
+    runs: &mut [u32],
+) -> Open
+    requires { ⌜ TableAt (now pool) shape 0 (base .0) at ⌝ }
+    requires { ⌜ OpenAt run at ⌝ }
+    ensures { λ r. ⌜ sheet r (now (runs .exit))
+        ≡ fed (tableWords 0) (tableRight shape (now (pool .entry)) 0 (base .0)) at (sheet run (now (runs .entry))) ⌝ }
+{
+    let start = words::pool_index(base);
+    let mut s = run;
+    let mut i: u32 = 0;
+    while i < 64 {
+        let w = pool[start + i as usize];
+        let from = at + i * 16;
+        s = feed_rights(0, w, from, s, runs);
         i += 1;
     }
     s
@@ -221,7 +249,13 @@ fn feed_entry(
     let e = table::decode(shape, height, w);
     match e {
         Entry::Rights(r) => feed_rights(height, r, at, run, runs),
-        Entry::Leads(t, _) => feed_table(pool, shape, height - 1, t, at, run, runs),
+        Entry::Leads(t, _) => {
+            if height == 1 {
+                feed_leaf(pool, shape, t, at, run, runs)
+            } else {
+                feed_table(pool, shape, height - 1, t, at, run, runs)
+            }
+        }
         // A sound pool has no such entry.
         Entry::Bad => run,
     }

@@ -52,7 +52,7 @@ module _ (D M L : ℕ) {R : ℕ → ℕ → ℕ} {Q : ℕ → ℕ} (same : (d a 
 
   -- A settled pool has exactly those tables.
   module _ (S : (d : ℕ) → d < D → WordRights (R d)) (q : Settled (form D M L) Q) where
-    settled-table : (h i : ℕ) → h < 2 → i < blocks h * D → old Q h i ≡ want R h i
+    pub settled-table : (h i : ℕ) → h < 2 → i < blocks h * D → old Q h i ≡ want R h i
     settled-table h i hi bi = by-cases (want R h i)
         (λ w. has-table (q .sound) h i hi bi w ∙ sym w)
         (λ w. by-cases (old Q h i)

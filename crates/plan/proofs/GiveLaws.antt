@@ -264,31 +264,26 @@ module _ {s : Shape} {d : ℕ} {paint : Paint} {P : ℕ → ℕ} {h : ℕ} {f : 
   -- From the marks on.
   pub given-none : TakenIs f 0 m from long first None → EndsAre s d paint P h Full
   given-none k =
-      let (free, owner, S, is-free) = kept-free s d paint (G .range) (G .settled) h (G .height) (G .kept) in
+      let (free, owner, S, is-free) = kept-free s d paint (G .settled) h (G .height) (G .kept) in
       one-full free owner S is-free k
 
   pub given-one : (g : Edge) (x : ℕ) → first .number ≡ last .number → TakenIs f 0 m from long first (At g x) → EndsAre s d paint P h (Both g g)
   given-one g x e k =
-      let (free, owner, S, is-free) = kept-free s d paint (G .range) (G .settled) h (G .height) (G .kept) in
+      let (free, owner, S, is-free) = kept-free s d paint (G .settled) h (G .height) (G .kept) in
       both-one free owner S is-free g x e k
 
   pub given-second-none : (g : Edge) (x : ℕ) → first .number ≢ last .number → TakenIs f 0 m from long first (At g x) → TakenIs f x m from long last None
       → EndsAre s d paint P h Full
   given-second-none g x e k l =
-      let (free, owner, S, is-free) = kept-free s d paint (G .range) (G .settled) h (G .height) (G .kept) in
+      let (free, owner, S, is-free) = kept-free s d paint (G .settled) h (G .height) (G .kept) in
       two-full free owner S is-free e g x k l
 
   pub given-two : (g : Edge) (x : ℕ) (l : Edge) (y : ℕ) → first .number ≢ last .number → TakenIs f 0 m from long first (At g x)
       → TakenIs f x m from long last (At l y) → EndsAre s d paint P h (Both g l)
   given-two g x l y e k z =
-      let (free, owner, S, is-free) = kept-free s d paint (G .range) (G .settled) h (G .height) (G .kept) in
+      let (free, owner, S, is-free) = kept-free s d paint (G .settled) h (G .height) (G .kept) in
       both-two free owner S is-free e g x k l y z
 
 -- The next place is looked for below the last.
 pub taken-low : {f : List Bool} {c m from long : ℕ} {e g : Edge} {x : ℕ} → c ≤ m → TakenIs f c m from long e (At g x) → x ≤ m
 taken-low le k = ⊎-elim (λ y. let z = y .2 in omega arith) (λ y. let z = y .next in let b = y .below in omega arith) k
-
--- An edge that asks for no place is the same whatever is marked.
-pub taken-plain : {f g : List Bool} {c m from long : ℕ} {e x : Edge} {b : ℕ} → isNew e ≡ false → TakenIs g c m from long e (At x b)
-    → TakenIs f c m from long e (At x b)
-taken-plain z t = ⊎-elim inl (λ k. absurd (true≢false (sym (k .is-new) ∙ z))) t

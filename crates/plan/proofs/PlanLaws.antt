@@ -22,16 +22,16 @@ use Rattle.plan.proofs.DraftLaws.{drafted-ends}
 
 -- A draft tells its edges, and once the kept places are marked, places can be given out.
 module _ (s : Shape) (d : ℕ) (paint : Paint) (P : ℕ → ℕ) (g : Regular paint) {q : Plan} (e : q ≡ draftOf P d paint (rightOf (formOf s) P d)) where
-  pub told-blocks : EndsTold s (q .domain) (q .paint) P 1 (q .«first_block») (q .«last_block»)
-  told-blocks = subst (λ (x : Plan). EndsTold s (x .domain) (x .paint) P 1 (x .«first_block») (x .«last_block»)) (sym e)
+  pub told-blocks : EndsTold s d paint P 1 (q .«first_block») (q .«last_block»)
+  told-blocks = subst (λ (x : Plan). EndsTold s d paint P 1 (x .«first_block») (x .«last_block»)) (sym e)
       (drafted-ends s d paint P g 1 (omega arith))
 
-  pub told-pages : EndsTold s (q .domain) (q .paint) P 0 (q .«first_page») (q .«last_page»)
-  told-pages = subst (λ (x : Plan). EndsTold s (x .domain) (x .paint) P 0 (x .«first_page») (x .«last_page»)) (sym e)
+  pub told-pages : EndsTold s d paint P 0 (q .«first_page») (q .«last_page»)
+  told-pages = subst (λ (x : Plan). EndsTold s d paint P 0 (x .«first_page») (x .«last_page»)) (sym e)
       (drafted-ends s d paint P g 0 (omega arith))
 
   module _ (range : InRange (s .domains) (s .middles) (s .leaves)) (settled : Settled (formOf s) P) (b : d < s .domains) (f : List Bool) where
-    pub giving-middles : Kept s (q .domain) (q .paint) P 1 (1024 * s .domains) f
+    pub giving-middles : Kept s d paint P 1 (1024 * s .domains) f
         → Giving s d paint P 1 f (s .middles) (firstMiddle (s .domains)) 1024 (q .«first_block») (q .«last_block»)
     giving-middles k = record {
       height = omega arith;
@@ -42,11 +42,11 @@ module _ (s : Shape) (d : ℕ) (paint : Paint) (P : ℕ → ℕ) (g : Regular pa
       count-is = refl;
       from-is = refl;
       long-is = refl;
-      kept = subst (λ (x : Plan). Kept s (x .domain) (x .paint) P 1 (1024 * s .domains) f) e k;
-      told = subst (λ (x : Plan). EndsTold s d paint P 1 (x .«first_block») (x .«last_block»)) (sym e) (drafted-ends s d paint P g 1 (omega arith));
+      kept = k;
+      told = told-blocks;
     }
 
-    pub giving-leaves : Kept s (q .domain) (q .paint) P 0 (1048576 * s .domains) f
+    pub giving-leaves : Kept s d paint P 0 (1048576 * s .domains) f
         → Giving s d paint P 0 f (s .leaves) (firstLeaf (s .domains) (s .middles)) 64 (q .«first_page») (q .«last_page»)
     giving-leaves k = record {
       height = omega arith;
@@ -57,8 +57,8 @@ module _ (s : Shape) (d : ℕ) (paint : Paint) (P : ℕ → ℕ) (g : Regular pa
       count-is = refl;
       from-is = refl;
       long-is = refl;
-      kept = subst (λ (x : Plan). Kept s (x .domain) (x .paint) P 0 (1048576 * s .domains) f) e k;
-      told = subst (λ (x : Plan). EndsTold s d paint P 0 (x .«first_page») (x .«last_page»)) (sym e) (drafted-ends s d paint P g 0 (omega arith));
+      kept = k;
+      told = told-pages;
     }
 
 -- Where the tables of both heights have their places, the plan with these edges is ready.

@@ -2,10 +2,10 @@
 use Prim.Native.Nat.{ℕ, zero, suc, _+_, _*_, _-_, _/_, _%_, _≤_, _<_}
 use mathlib.Core.Path.{_≡_}
 use mathlib.Core.Logic.{_⊎_}
-use mathlib.Core.Bool.{Bool, true, false, cond, _||_}
+use mathlib.Core.Bool.{Bool, true, false, cond, _&&_, _||_, not}
 use mathlib.Core.List.{List}
 use lib.Dec.{eqb, ltb}
-use lib.ListN.{length, getD, set}
+use lib.ListN.{length, getD}
 use Rattle.theory.specs.Pool.{words}
 use Rattle.words.specs.Rights.{rightAt, eightOf}
 use Rattle.table.specs.declared.Shape.{Shape}
@@ -17,13 +17,14 @@ use Rattle.table.proofs.FormLaws.{firstPlace, places}
 use Rattle.places.specs.Count.{count, Room}
 use Rattle.places.proofs.Owners.{seek, Owned, Keeping}
 use Rattle.places.proofs.Final.{blocks, domainOf, addressOf, want, old, was, placeAt, entryWord}
+use Rattle.soundness.proofs.PlaceLaws.{firstNumber}
+use Rattle.census.specs.Tally.{none}
 use Rattle.targets.specs.declared.Paint.{Paint}
 use Rattle.targets.specs.declared.Target.{Target}
 use Rattle.targets.specs.declared.Target.the-variants.{Says, Mixed}
 use Rattle.targets.specs.Targets.{painted, targetOf, Gives, Readable}
 use Rattle.plan.specs.declared.Edge.{Edge}
 use Rattle.plan.specs.declared.Plan.{Plan}
-use Rattle.plan.specs.declared.Marks.{Marks}
 use Rattle.plan.specs.declared.Taken.{Taken}
 use Rattle.plan.specs.declared.Taken.the-variants.{At, None}
 use Rattle.plan.specs.declared.Ends.{Ends}
@@ -123,9 +124,14 @@ staysOf d first last e n =
     (cond (eqb n (last .number)) (isLead (last .last)) (ltb n (first .number) || ltb (last .number) n)))
     true
 
--- Place `p` is marked too.
-abbrev pub marked : Marks → ℕ → Marks
-marked m p = record { on = set (m .on) p true }
+-- The owner of a place of the height `h`, if there is one, wants its table after the change too.
+abbrev pub ownerStays : ℕ → ℕ → Edge → Edge → ℕ → Bool
+ownerStays h d first last i = not (eqb i none) && staysOf d first last (domainOf h i) (i % blocks h)
+
+-- Of the first `m` places of the height `h`, by their owners `o`, those of kept tables are marked, and no others.
+pub record Marked (o : List ℕ) (h m d : ℕ) (first last : Edge) (f : List Bool) : Type 0 where
+  pub long : length f ≡ 64
+  pub each : (p : ℕ) → p < m → getD f p false ≡ ownerStays h d first last (getD o (firstNumber h + p) 0)
 
 module _ (s : Shape) (d : ℕ) (paint : Paint) (P : ℕ → ℕ) where
   -- What is known of the edge of block `n` of height `suc h`: its entry leads where the block wants a table, to the one that it had, if any.
@@ -206,14 +212,6 @@ pub record Giving (s : Shape) (d : ℕ) (paint : Paint) (P : ℕ → ℕ) (h : �
   pub long-is : long ≡ size h
   pub kept : Kept s d paint P h (blocks h * s .domains) f
   pub told : EndsTold s d paint P h first last
-
--- Neither edge gets a table that it did not have.
-abbrev pub NoneNew : Edge → Edge → Type 0
-NoneNew first last = (isNew first ≡ false) × (isNew last ≡ false)
-
--- The marks serve to give out places: those of all kept tables are marked, or no place is asked for.
-abbrev pub MarksServe : (s : Shape) (d : ℕ) (paint : Paint) (P : ℕ → ℕ) (h : ℕ) (first last : Edge) (f : List Bool) → Type 0
-MarksServe s d paint P h first last f = NoneNew first last ⊎ Kept s d paint P h (blocks h * s .domains) f
 
 -- Whichever change that is, the places are right for it.
 abbrev pub EndsGiven : List Bool → ℕ → ℕ → ℕ → Edge → Edge → Ends → Type 0

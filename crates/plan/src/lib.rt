@@ -1,16 +1,15 @@
 // The plan of a change, by value: the edges of the region, what they come to, and places for their new tables.
 ghost use mathlib.Core.Path.{_≡_};
 ghost use Prim.Native.Nat.{ℕ, _+_, _*_, _/_, _%_, _<_, _≤_};
-ghost use mathlib.Core.List.{List};
-ghost use mathlib.Core.Bool.{Bool};
 ghost use lib.ListN.{length};
 ghost use Rattle.theory.specs.Pool.{words};
 ghost use Rattle.theory.specs.Settled.{Settled};
 ghost use Rattle.table.specs.Shape.{Fits};
 ghost use Rattle.table.specs.Map.{formOf};
+ghost use Rattle.census.specs.Census.{Owners};
 ghost use Rattle.plan.specs.Planning.{Regular};
 ghost use Rattle.plan.specs.Edges.{PlansChange, edgeFor, edgeAt, entryAt, ReadableRoot, RootGives, draftOf};
-ghost use Rattle.plan.specs.Edges.{FirstFree, TakenIs, NoneNew, EndsGiven};
+ghost use Rattle.plan.specs.Edges.{FirstFree, TakenIs, EndsGiven};
 use table::Shape;
 use targets::Paint;
 use targets::Target;
@@ -209,7 +208,6 @@ fn take_place(kept: Marks, from: u32, count: u32, base: u32, long: u32, edge: Ed
 fn place_ends(kept: Marks, count: u32, base: u32, long: u32, first: Edge, last: Edge) -> Ends
     requires { ⌜ (count ≤ 64) × (base ≤ 12288) × (long ≤ 1024) ⌝ }
     ensures { λ r. ⌜ EndsGiven (kept .on) count base long first last r ⌝ }
-    ensures { λ r. ⌜ (NoneNew first last → (f : List Bool) → EndsGiven f count base long first last r) ⌝ }
 {
     let f = first.number;
     let l = last.number;
@@ -229,9 +227,16 @@ fn place_ends(kept: Marks, count: u32, base: u32, long: u32, first: Edge, last: 
 
 // The plan of a change, before its first store: which entries it ends with, and where its new tables stand. Places that the change gives up count as
 // free; a place that a table of any domain keeps does not.
-pub fn plan_change(pool: &[u32], shape: Shape, domain: u32, paint: Paint) -> Planning
+pub fn plan_change(
+    pool: &[u32],
+    shape: Shape,
+    owners: &[u32],
+    domain: u32,
+    paint: Paint,
+) -> Planning
     requires { ⌜ Fits shape (length (now pool)) ⌝ }
     requires { ⌜ Settled (formOf shape) (words (now pool)) ⌝ }
+    requires { ⌜ Owners (now pool) shape (now owners) ⌝ }
     requires { ⌜ domain < shape .domains ⌝ }
     requires { ⌜ Regular paint ⌝ }
     ensures { λ r. ⌜ PlansChange shape domain paint (words (now (pool .entry))) r ⌝ }
@@ -246,12 +251,12 @@ pub fn plan_change(pool: &[u32], shape: Shape, domain: u32, paint: Paint) -> Pla
     let last_block = draft.last_block;
     let first_page = draft.first_page;
     let last_page = draft.last_page;
-    let kept = keeping::kept_middles(pool, shape, draft);
+    let kept = keeping::kept_places(owners, 1, middles, domain, first_block, last_block);
     let at_blocks = place_ends(kept, middles, first_middle, 1024, first_block, last_block);
     let Ends::Both(a, b) = at_blocks else {
         return Planning::NoRoom;
     };
-    let kept_too = keeping::kept_leaves(pool, shape, draft);
+    let kept_too = keeping::kept_places(owners, 0, leaves, domain, first_page, last_page);
     let at_pages = place_ends(kept_too, leaves, first_leaf, 64, first_page, last_page);
     let Ends::Both(c, e) = at_pages else {
         return Planning::NoRoom;

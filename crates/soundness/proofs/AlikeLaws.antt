@@ -28,21 +28,21 @@ use Rattle.soundness.proofs.SeenLaws.{enter-failed, through-failed, tab
 
 -- The theory's check of an entry, case by case.
 module _ (F : Form) (P : ℕ → ℕ) (h k : ℕ) (u : ℕ → Bool) where
-  check-bad : F .good (suc h) (P k) ≡ false → entryCheck F P (suc h) k u ≡ refused
+  pub check-bad : F .good (suc h) (P k) ≡ false → entryCheck F P (suc h) k u ≡ refused
   unfolding entryCheck
   check-bad g = rw g
 
   module _ (g : F .good (suc h) (P k) ≡ true) where
-    check-rights : F .leads (suc h) (P k) ≡ false → entryCheck F P (suc h) k u ≡ met u
+    pub check-rights : F .leads (suc h) (P k) ≡ false → entryCheck F P (suc h) k u ≡ met u
     unfolding entryCheck
     check-rights l = rw (g, l)
 
     module _ (l : F .leads (suc h) (P k) ≡ true) where
-      check-again : u (F .target (suc h) (P k)) ≡ true → entryCheck F P (suc h) k u ≡ refused
+      pub check-again : u (F .target (suc h) (P k)) ≡ true → entryCheck F P (suc h) k u ≡ refused
       unfolding entryCheck
       check-again e = rw (g, l, e)
 
-      check-down : u (F .target (suc h) (P k)) ≡ false
+      pub check-down : u (F .target (suc h) (P k)) ≡ false
           → entryCheck F P (suc h) k u ≡ tableCheck F P h (F .target (suc h) (P k)) (mark u (F .target (suc h) (P k)))
       unfolding entryCheck
       check-down e = rw (g, l, e)
@@ -141,7 +141,7 @@ module _ (s : Shape) (p : List ℕ) (fits : Fits s (length p)) (small : (k : ℕ
             (below w (omega (arith, rw z at b, fits .long)) (markOf n r) (mark u w) m))
 
   -- A leaf is fine whatever it holds.
-  leaf-fine : (n t : ℕ) (u : ℕ → Bool) → each (entryCheck F (words p) 0) t n u ≡ met u
+  pub leaf-fine : (n t : ℕ) (u : ℕ → Bool) → each (entryCheck F (words p) 0) t n u ≡ met u
   unfolding each entryCheck
   leaf-fine zero t u = refl
   leaf-fine (suc n) t u = rw (lt-ltb (words p t) 4294967296 (small t)) (leaf-fine n (t + 1) u)

@@ -1,5 +1,5 @@
 -- Laws of the check as a program makes it: what a failure leaves, a table one entry further, and an entry by what it decodes to.
-use Prim.Native.Nat.{ℕ, zero, suc, _+_, _-_, _<_}
+use Prim.Native.Nat.{ℕ, zero, suc, _+_, _-_, _<_, _≤_}
 use mathlib.Core.Path.{_≡_, refl, sym, ap, _∙_}
 use mathlib.Core.Bool.{Bool, true, false, cond}
 use mathlib.Core.List.{List, [], _∷_, _++_}
@@ -8,8 +8,9 @@ use native.Mathlib.Numerals.{add-one, sub-one}
 use lib.ListN.{length, take, drop, getD, set, length-drop}
 use lib.Seq.{take-suc, getD-drop}
 use Rattle.words.specs.Rights.{goodRights}
+use Rattle.words.specs.Passing.{Passed}
 use Rattle.words.specs.declared.PoolWord.{PoolWord}
-use Rattle.words.proofs.RightsLaws.{good-range}
+use Rattle.words.proofs.RightsLaws.{good-range, good-small}
 use Rattle.table.specs.declared.Shape.{Shape}
 use Rattle.table.specs.declared.Entry.{Entry}
 use Rattle.table.specs.declared.Entry.the-variants.{Rights, Leads, Bad}
@@ -103,3 +104,40 @@ pub rights-pass : (s : Shape) (p : List ℕ) (h w : ℕ) (r : Seen) → 0 < h �
 rights-pass s p h w r lo b g =
     let (low, high) = good-range w b g in
     enter-rights (tableSeen s p (h - 1)) r (decode-rights s h w (λ z. omega arith) low ∙ ap (λ x. cond x (Rights w) Bad) g)
+
+-- And so may each stretch of them, from `t` on in the table that begins there.
+module _ (s : Shape) (p : List ℕ) (h : ℕ) (lo : 0 < h) (t : ℕ) (r : Seen) where
+  abbrev upTo : ℕ → Seen
+  upTo i = through (entrySeen s p h) (take i (drop t p)) r
+
+  stretch : (i n : ℕ) → t + i + n ≤ length p → Passed p (t + i) (t + i + n) → upTo (i + n) ≡ upTo i
+  stretch i zero f g = let e : i + 0 ≡ i = omega arith in ap upTo e
+  stretch i (suc n) f g =
+      let e : i + suc n ≡ i + n + 1 = omega arith in
+      let here : goodRights (getD p (t + (i + n)) 0) ≡ true = g (t + (i + n)) (omega arith) (omega arith) in
+      ap upTo e ∙ through-step (entrySeen s p h) p t (i + n) r (omega arith)
+      ∙ rights-pass s p h (getD p (t + (i + n)) 0) _ lo (good-small _ here) here
+      ∙ stretch i n (omega arith) (λ k a b. g k a (omega arith))
+
+  pub through-passed : (j k : ℕ) → t ≤ j → j ≤ k → k ≤ length p → Passed p j k
+      → through (entrySeen s p h) (take (k - t) (drop t p)) r ≡ through (entrySeen s p h) (take (j - t) (drop t p)) r
+  through-passed j k a b c g =
+      let e : k - t ≡ j - t + (k - j) = omega arith in
+      ap upTo e ∙ stretch (j - t) (k - j) (omega arith) (λ x y z. g x (omega arith) (omega arith))
+
+  -- Nothing but rights up to `k`.
+  pub through-first : (k : ℕ) → t ≤ k → k ≤ length p → Passed p t k → through (entrySeen s p h) (take (k - t) (drop t p)) r ≡ r
+  through-first k a c g =
+      let e : t - t ≡ 0 = omega arith in
+      through-passed t k (omega arith) a c g ∙ ap upTo e ∙ through-none (entrySeen s p h) r
+
+  -- The word `j`, and nothing but rights after it up to `k`.
+  pub through-next : (j k : ℕ) → t ≤ j → j < k → k ≤ length p → Passed p (j + 1) k
+      → through (entrySeen s p h) (take (k - t) (drop t p)) r
+      ≡ entrySeen s p h (getD p j 0) (through (entrySeen s p h) (take (j - t) (drop t p)) r)
+  through-next j k a b c g =
+      let e : j + 1 - t ≡ j - t + 1 = omega arith in
+      let o : t + (j - t) ≡ j = omega arith in
+      through-passed (j + 1) k (omega arith) (omega arith) c g ∙ ap upTo e
+      ∙ through-step (entrySeen s p h) p t (j - t) r (omega arith)
+      ∙ ap (λ x. entrySeen s p h (getD p x 0) (upTo (j - t))) o

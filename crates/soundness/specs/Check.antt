@@ -1,6 +1,6 @@
 -- The check as a program makes it: an entry is checked, and the table that it leads to, one level down; a place met twice is refused.
 use Prim.Native.Nat.{ℕ, zero, suc, _*_, _-_}
-use mathlib.Core.Bool.{true, false, cond}
+use mathlib.Core.Bool.{Bool, true, false, cond}
 use mathlib.Core.List.{List, [], _∷_}
 use lib.ListN.{take, drop, getD, set, replicate}
 use Rattle.table.specs.declared.Shape.{Shape}
@@ -10,6 +10,10 @@ use Rattle.table.specs.Map.{size}
 use Rattle.table.specs.Entries.{decodeOf}
 use Rattle.soundness.specs.declared.Seen.{Seen}
 use Rattle.soundness.specs.Places.{maxPlaces}
+
+-- What was seen: whether all was sound, and the places met.
+abbrev pub seen : Bool → List Bool → Seen
+seen ok met = record { ok = ok; met = met }
 
 -- No place is met.
 abbrev pub noneMet : Seen

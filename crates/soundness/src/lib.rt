@@ -6,7 +6,7 @@ ghost use lib.ListN.{length};
 ghost use Rattle.table.specs.Shape.{Fits};
 ghost use Rattle.table.specs.Map.{size};
 ghost use Rattle.soundness.specs.Places.{maxPlaces};
-ghost use Rattle.soundness.specs.Check.{markOf, entrySeen, tableSeen};
+ghost use Rattle.soundness.specs.Check.{seen, markOf, entrySeen, tableSeen};
 ghost use Rattle.soundness.specs.Soundness.{Soundness};
 use table::Entry;
 use table::Shape;
@@ -18,66 +18,71 @@ pub struct Seen {
     pub met: [bool; 72],
 }
 
-// Place `n` is met: for the first time, or else the pool is not sound.
-fn mark(n: usize, seen: Seen) -> Seen
+// Place `n` is met: for the first time, or else the pool is not sound. The places met are lent from call to call, and not copied.
+fn mark(n: usize, ok: bool, met: &mut [bool; 72]) -> bool
     requires { ⌜ n < maxPlaces ⌝ }
-    ensures { λ r. ⌜ r ≡ markOf n seen ⌝ }
+    ensures { λ r. ⌜ seen r (now (met .exit)) ≡ markOf n (seen ok (now (met .entry))) ⌝ }
 {
-    let mut s = seen;
-    if s.met[n] {
-        s.ok = false;
-        return s;
+    let again = met[n];
+    if again {
+        return false;
     }
-    s.met[n] = true;
-    s
+    met[n] = true;
+    ok
 }
 
 // The table of a height that begins at `base`. Leaves are not read: there every value is good.
-fn table_check(pool: &[u32], shape: Shape, height: u32, base: PoolWord, seen: Seen) -> Seen
+fn table_check(
+    pool: &[u32],
+    shape: Shape,
+    height: u32,
+    base: PoolWord,
+    before: bool,
+    met: &mut [bool; 72],
+) -> bool
     requires { ⌜ Fits shape (length (now pool)) ⌝ }
     requires { ⌜ height ≤ 2 ⌝ }
     requires { ⌜ base .0 + size height ≤ length (now pool) ⌝ }
-    ensures { λ r. ⌜ r ≡ tableSeen shape (now (pool .entry)) height (base .0) seen ⌝ }
+    ensures { λ r. ⌜ seen r (now (met .exit)) ≡ tableSeen shape (now (pool .entry)) height (base .0) (seen before (now (met .entry))) ⌝ }
 {
     if height == 0 {
-        return seen;
+        return before;
     }
     let at = words::pool_index(base);
-    let mut s = seen;
-    let mut i = 0;
-    while i < 1024 {
-        let w = pool[at + i];
-        // Most entries are eight rights; passing over them here spares a call that copies all the places met.
-        let plain = words::good_rights(w);
-        if !plain {
-            s = entry_check(pool, shape, height, w, s);
-        }
-        i += 1;
+    let to = at + 1024;
+    let mut ok = before;
+    let mut k = words::skip_rights(pool, at, to);
+    while k < to {
+        let w = pool[k];
+        ok = entry_check(pool, shape, height, w, ok, met);
+        k = words::skip_rights(pool, k + 1, to);
     }
-    s
+    ok
 }
 
 // The word `w` as an entry of a height above the leaves.
-fn entry_check(pool: &[u32], shape: Shape, height: u32, w: u32, seen: Seen) -> Seen
+fn entry_check(
+    pool: &[u32],
+    shape: Shape,
+    height: u32,
+    w: u32,
+    before: bool,
+    met: &mut [bool; 72],
+) -> bool
     requires { ⌜ Fits shape (length (now pool)) ⌝ }
     requires { ⌜ (0 < height) × (height ≤ 2) ⌝ }
-    ensures { λ r. ⌜ r ≡ entrySeen shape (now (pool .entry)) height w seen ⌝ }
+    ensures { λ r. ⌜ seen r (now (met .exit)) ≡ entrySeen shape (now (pool .entry)) height w (seen before (now (met .entry))) ⌝ }
 {
     let e = table::decode(shape, height, w);
     match e {
-        Entry::Rights(_) => seen,
-        Entry::Bad => {
-            let mut unsound = seen;
-            unsound.ok = false;
-            unsound
-        }
+        Entry::Rights(_) => before,
+        Entry::Bad => false,
         Entry::Leads(t, n) => {
-            let s = mark(n, seen);
-            let ok = s.ok;
+            let ok = mark(n, before, met);
             if ok {
-                table_check(pool, shape, height - 1, t, s)
+                table_check(pool, shape, height - 1, t, ok, met)
             } else {
-                s
+                ok
             }
         }
     }
@@ -89,19 +94,16 @@ pub fn check_sound(pool: &[u32], shape: Shape) -> Seen
     ensures { λ r. ⌜ Soundness (now (pool .entry)) shape r ⌝ }
 {
     let domains = shape.domains;
-    let mut s = Seen {
-        ok: true,
-        met: [false; 72],
-    };
+    let mut ok = true;
+    let mut met = [false; 72];
     let mut d = 0;
     while d < domains {
         let root = words::pool_word(1024 * d);
-        s = table_check(pool, shape, 2, root, s);
+        ok = table_check(pool, shape, 2, root, ok, &mut met);
         d += 1;
     }
-    let ok = s.ok;
     if ok {
-        return s;
+        return Seen { ok, met };
     }
     Seen {
         ok: false,

@@ -72,7 +72,7 @@ module _ (s : Shape) (p : List ℕ) (f : Fits s (length p)) (q : SoundPool (form
       inside (suc zero) hi n b e = omega (arith, f .long)
       inside (suc (suc h)) hi n b e = absurd (omega arith)
 
-  reached-readable : (h k : ℕ) → reached h k → Readable p h (words p k)
+  pub reached-readable : (h k : ℕ) → reached h k → Readable p h (words p k)
   reached-readable zero k r = tt
   reached-readable (suc h) k r = record {
     rights = λ l. good-eight (s .domains) (s .middles) (s .leaves) h (words p k) (q .good r) l;

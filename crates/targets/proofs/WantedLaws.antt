@@ -1,25 +1,40 @@
 -- Laws of wanted tables: a sound pool is settled exactly where every table in it is wanted.
-use Prim.Native.Nat.{ℕ, zero, suc, _+_, _*_, _/_, _%_, _≤_, _<_}
+use Prim.Native.Nat.{ℕ, zero, suc, _+_, _*_, _-_, _/_, _%_, _≤_, _<_}
 use mathlib.Core.Path.{_≡_, refl, sym, ap, _∙_}
-use mathlib.Core.Bool.{Bool, true, false, true≢false}
+use mathlib.Core.Logic.{⊎-elim}
+use mathlib.Core.Bool.{Bool, true, false, not, true≢false}
+use mathlib.Core.List.{List}
 use native.Mathlib.Omega.{arith}
-use Rattle.theory.specs.Pool.{SoundPool, Visits, here, next, entry, rightOf}
-use Rattle.theory.specs.Settled.{Settled, Says, HasTable}
+use native.Mathlib.Decide.{ℕ-discrete}
+use native.Mathlib.Numerals.{add-one}
+use lib.Dec.{eqb, ltb}
+use lib.ListN.{length, getD}
+use borrow.Author.Tests.{eq-eqb, ne-eqb}
+use Rattle.theory.specs.Pool.{words, SoundPool, rightOf}
+use Rattle.theory.specs.Settled.{Settled}
 use Rattle.theory.proofs.RightLaws.{by-cases}
-use Rattle.theory.proofs.ReachLaws.{visits-down}
-use Rattle.theory.proofs.SettledLaws.{unsaid-settled}
 use Rattle.table.specs.declared.Shape.{Shape}
-use Rattle.table.specs.Map.{addresses, block, index, leads, formOf}
-use Rattle.table.specs.Wants.{any, wantsOf, WordRights}
-use Rattle.table.proofs.FormLaws.{lawful}
-use Rattle.table.proofs.WantLaws.{any-which, any-none, divided-wants, wants-unsaid, wants-block, wants-up, wanting, pool-rights}
+use Rattle.table.specs.Shape.{Fits}
+use Rattle.table.specs.Map.{addresses, block, formOf}
+use Rattle.table.specs.Wants.{wantsOf, WordRights}
+use Rattle.table.proofs.ShapeLaws.{and-both}
+use Rattle.table.proofs.WantLaws.{wants-block, wants-up, pool-rights}
+use Rattle.places.proofs.Final.{blocks, domainOf, entryOf, oldMiddle, old, want}
+use Rattle.places.proofs.Exists as Exists
+use Rattle.soundness.specs.Places.{maxPlaces, placeHeight, placeWord}
+use Rattle.soundness.proofs.PlaceLaws.{middle-number, leaf-number}
+use Rattle.census.specs.Tally.{none, taken}
+use Rattle.census.specs.Census.{StandsAt, Owners}
+use Rattle.census.proofs.CensusLaws.{place-low, old-reached}
+use Rattle.census.proofs.OwnerLaws.{was-owner, was-taken}
 use Rattle.targets.specs.declared.Paint.{Paint}
 use Rattle.targets.specs.declared.Target.{Target}
-use Rattle.targets.specs.Targets.{painted, targetOf}
-use Rattle.targets.specs.Steps.{isMixed, LeavesWanted, TablesWanted}
+use Rattle.targets.specs.Targets.{painted, targetOf, Gives, Readable}
+use Rattle.targets.specs.Steps.{isMixed, LeafIn}
 use Rattle.targets.proofs.TargetLaws.{wanted-mixed, unwanted-said}
 use Rattle.targets.proofs.PaintLaws.{painted-none}
 use Rattle.targets.proofs.PartLaws.{target-agree}
+use Rattle.targets.proofs.PoolLaws.{root-gives, middle-gives, reached-readable}
 
 -- With nothing painted, the target is that of the rights as they are.
 pub unpainted-target : (p : Paint) (R : ℕ → ℕ) (h n : ℕ) → p .hi ≤ p .lo → targetOf (painted p R) h (n * block h) ≡ targetOf R h (n * block h)
@@ -35,90 +50,110 @@ pub unpainted-wants : (p : Paint) (R : ℕ → ℕ) (h n : ℕ) (t : Target) (r 
     → t ≡ targetOf (painted p R) h (n * block h) → r ≡ wantsOf R h (n * block h)
 unpainted-wants p R h n t r none e f = e ∙ ap isMixed (f ∙ unpainted-target p R h n none) ∙ mixed-wants R h (n * block h)
 
+-- The entry of a block gives it the rights of its domain ..
+pub entry-gives : (s : Shape) (P : ℕ → ℕ) (h i : ℕ) → h < 2 → old P h i ≡ true
+    → Gives P (suc h) (P (entryOf P h i)) (i % blocks h) (rightOf (formOf s) P (domainOf h i))
+entry-gives s P zero i hi o =
+    let (l, _) = and-both (oldMiddle P (i / 1024)) (ltb (P (entryOf P 0 i)) 2147483648) o in
+    let e : 1024 * (i / 1048576) + i / 1024 % 1024 ≡ i / 1024 = omega arith in
+    let n : i / 1024 % 1024 * 1024 + i % 1024 ≡ i % 1048576 = omega arith in
+    rw n at (middle-gives P (rightOf (formOf s) P (i / 1048576)) (P (i / 1024)) (i / 1024 % 1024) (i % 1024) l (omega arith)
+    (rw e at (root-gives (s .domains) (s .middles) (s .leaves) P (i / 1048576) (i / 1024 % 1024) (omega arith))))
+entry-gives s P (suc zero) i hi o =
+    let e : 1024 * (i / 1024) + i % 1024 ≡ i = omega arith in
+    rw e at (root-gives (s .domains) (s .middles) (s .leaves) P (i / 1024) (i % 1024) (omega arith))
+entry-gives s P (suc (suc h)) i hi o = absurd (omega arith)
+
+-- The tables at the places from `n` on are wanted.
+abbrev pub WantedFrom : List ℕ → Shape → List ℕ → ℕ → Type 0
+WantedFrom p s o n = (m : ℕ) → n ≤ m → m < maxPlaces → taken o m ≡ true → want (rightOf (formOf s) (words p)) (placeHeight m) (getD o m 0) ≡ true
+
+-- .. and so from one place further down.
+pub wanted-more : (p : List ℕ) (s : Shape) (o : List ℕ) (n : ℕ) → WantedFrom p s o n
+    → (taken o (n - 1) ≡ true → want (rightOf (formOf s) (words p)) (placeHeight (n - 1)) (getD o (n - 1) 0) ≡ true) → WantedFrom p s o (n - 1)
+wanted-more p s o n w one m lo hi t = elim (ℕ-discrete m (n - 1)) [
+  | yes e ↦ rw e (one (rw e at t))
+  | no e ↦ w m (omega arith) hi t
+]
+
 -- A wanted leaf lies in a block whose table is wanted.
-pub leaf-wants-table : (R : ℕ → ℕ) (n i : ℕ) → WordRights R → n < 1024 → i < 1024 → wantsOf R 1 ((n * 1024 + i) * 4096) ≡ true
-    → wantsOf R 2 (n * 4194304) ≡ true
-leaf-wants-table R n i S bn bi w =
-    let a = (n * 1024 + i) * 4096 in
-    wants-block R 2 (n * 4194304) a (omega arith) ∙ wants-up R 1 a S (omega arith) (omega arith) w
+pub leaf-wants-table : (R : ℕ → ℕ → ℕ) (i : ℕ) → ((d : ℕ) → WordRights (R d)) → want R 0 i ≡ true → want R 1 (i / 1024) ≡ true
+leaf-wants-table R i S w =
+    let d : i / 1024 / 1024 ≡ i / 1048576 = omega arith in
+    let a = i % 1048576 * 4096 in
+    let b : i / 1024 % 1024 * 4194304 / 4194304 ≡ a / 4194304 = omega arith in
+    rw d (wants-block (R (i / 1048576)) 2 (i / 1024 % 1024 * 4194304) a b ∙ wants-up (R (i / 1048576)) 1 a (S (i / 1048576)) (omega arith) (omega arith) w)
 
--- A table with a leaf is wanted where its leaves are; one without has no leaf to want.
-module _ (P : ℕ → ℕ) (e n : ℕ) (R : ℕ → ℕ) where
-  abbrev hasLeaf : Bool
-  hasLeaf = any (λ i. leads 1 (P (e + i))) 1024
+module _ (p : List ℕ) (s : Shape) (fits : Fits s (length p)) (q : SoundPool (formOf s) (words p)) where
+  abbrev R : ℕ → ℕ → ℕ
+  R = rightOf (formOf s) (words p)
 
-  pub leaves-tables : WordRights R → n < 1024 → hasLeaf ≡ true → LeavesWanted P e n R → TablesWanted P e n R
-  leaves-tables S b t w =
-      let (i, c, l) = any-which (λ i. leads 1 (P (e + i))) 1024 t in
-      record { table = λ m. leaf-wants-table R n i S b c (w i c l); leaves = λ m. w }
+  -- .. and can be read.
+  pub entry-readable : (h i : ℕ) → h < 2 → i < blocks h * s .domains → old (words p) h i ≡ true
+      → Readable p (suc h) (words p (entryOf (words p) h i))
+  entry-readable h i hi b o = reached-readable s p fits q (suc h) (entryOf (words p) h i) (old-reached p s h i hi b o .0)
 
-  pub leafless-tables : hasLeaf ≡ false → wantsOf R 2 (n * 4194304) ≡ true → TablesWanted P e n R
-  leafless-tables t w = record {
-    table = λ m. w;
-    leaves = λ m i b l. absurd (true≢false (sym l ∙ any-none (λ i. leads 1 (P (e + i))) 1024 i t b));
-  }
+  -- The table of block `i` at place `n`, by the numbers that a program makes of them: the height `h`, the entry `e` and the block's number `m`.
+  module _ (n i h e m : ℕ) (x : StandsAt p s n i) (eh : h ≡ placeHeight n) (ee : e ≡ placeWord s n) (em : m ≡ i % blocks h) where
+    has : old (words p) h i ≡ true
+    has = rw eh (x .table)
 
--- Root word `k` is entry `k % 1024` of domain `k / 1024`.
-abbrev pub RootsWanted : Shape → (ℕ → ℕ) → ℕ → Type 0
-RootsWanted s P n = (k : ℕ) → k < n → TablesWanted P (P k) (k % 1024) (rightOf (formOf s) P (k / 1024))
+    there : words p (entryOf (words p) h i) ≡ e
+    there = rw (eh, ee) (x .there)
 
-module _ (s : Shape) (P : ℕ → ℕ) where
-  -- A walk's word in a root, and in a middle table.
-  root-word : (a : ℕ) {k m j : ℕ} → Visits (formOf s) P a 2 k m j → m ≡ 2 → j ≡ k
-  root-word a here e = refl
-  root-word a (next v l) e = let z = visits-down (formOf s) P a v in absurd (omega arith)
+    low : h < 2
+    low = rw eh (place-low s n)
 
-  middle-word : (a : ℕ) {k m j : ℕ} → Visits (formOf s) P a 2 k m j → m ≡ 1 → (leads 2 (P k) ≡ true) × (j ≡ P k + index 1 a)
-  middle-word a here e = absurd (omega arith)
-  middle-word a {k} (next {m} {j} v l) e =
-      let z = root-word a v (ap suc e) in
-      (rw z at l, ap (λ x. P x + index m a) z ∙ ap (λ x. P k + index x a) e)
+    pub place-readable : Readable p (h + 1) e
+    place-readable = rw (← there, add-one) (entry-readable h i low (rw eh (x .block)) has)
 
-  module _ (d a k : ℕ) (e : entry (formOf s) d a ≡ k) (l : leads 2 (P k) ≡ true) where
-    root-table : HasTable (formOf s) P d a 1
-    root-table = (_, (_, here, rw e l, refl))
+    pub place-below : m < addresses / block (h + 1)
+    place-below = rw (em, add-one) (below h low)
+      where
+        below : (h : ℕ) → h < 2 → i % blocks h < addresses / block (suc h)
+        below zero hi = omega arith
+        below (suc h) hi = omega arith
 
-    leaf-table : (i : ℕ) → index 1 a ≡ i → leads 1 (P (P k + i)) ≡ true → HasTable (formOf s) P d a 0
-    leaf-table i f m = (_, (_, next here (rw e l), rw (e, f) m, refl))
+    -- With nothing painted, the test of its target tells whether it is wanted.
+    pub place-wants : (paint : Paint) (t : Target) (r : Bool) → paint .hi ≤ paint .lo
+        → ((T : ℕ → ℕ) → Gives (words p) (h + 1) e m T → t ≡ targetOf (painted paint T) (h + 1) (m * block (h + 1)))
+        → r ≡ isMixed t → r ≡ want R (placeHeight n) i
+    place-wants paint t r empty told is =
+        let g : Gives (words p) (h + 1) e m (R (domainOf h i)) = rw (add-one, em, ← there) (entry-gives s (words p) h i low has) in
+        unpainted-wants paint (R (domainOf h i)) (h + 1) m t r empty is (told (R (domainOf h i)) g)
+        ∙ rw (add-one, em, eh) refl
 
-  -- Where every table is wanted, no entry that leads could be said.
-  module _ (f : RootsWanted s P (1024 * s .domains)) (d a : ℕ) (bd : d < s .domains) (ba : a < addresses) where
-    root-wanted : TablesWanted P (P (entry (formOf s) d a)) (index 2 a) (rightOf (formOf s) P d)
-    root-wanted =
-        let k = 1024 * d + index 2 a in
-        let m : k % 1024 ≡ index 2 a = omega arith in
-        let n : k / 1024 ≡ d = omega arith in
-        rw (m, n) at (f k (omega arith))
+  module _ (o : List ℕ) (own : Owners p s o) where
+    -- A table with a leaf is wanted where its leaves are.
+    pub leaf-wanted : (n m : ℕ) → m ≤ n + 1 → n < maxPlaces → taken o n ≡ true → LeafIn o n (getD o n 0) → WantedFrom p s o m
+        → want R (placeHeight n) (getD o n 0) ≡ true
+    leaf-wanted n m le b t l w =
+        let x = middle-number s n (l .middle) in
+        let y = leaf-number s (l .place) (l .above) in
+        let z : getD o n 0 < 4096 = ⊎-elim
+        (λ e. absurd (true≢false (sym t ∙ ap not (eq-eqb (getD o n 0) none e))))
+        (λ k. let c = rw (x .height) at (k .block) in let few = fits .range .domains in omega arith)
+        (own .stands n b) in
+        let f = w (l .place) (omega (arith, l .middle, l .above)) (l .below)
+        (ap not (ne-eqb (getD o (l .place) 0) none (λ e. let g = l .inside in omega arith))) in
+        rw (x .height) (rw (l .inside) at (leaf-wants-table R (getD o (l .place) 0)
+        (λ d. pool-rights (s .domains) (s .middles) (s .leaves) (words p) d) (rw (y .height) at f)))
 
-    wanted-unsaid : (h k w : ℕ) → Visits (formOf s) P a 2 (entry (formOf s) d a) (suc h) k → leads (suc h) (P k) ≡ true
-        → Says (formOf s) (suc h) (rightOf (formOf s) P d) a w → ⊥
-    wanted-unsaid zero k w v l x =
-        let (r, z) = middle-word a v refl in
-        let b : a / 4096 ≡ (index 2 a * 1024 + index 1 a) * 4096 / 4096 = omega arith in
-        wants-unsaid (s .domains) (s .middles) (s .leaves) (rightOf (formOf s) P d) 1 a w ba
-        (wants-block (rightOf (formOf s) P d) 1 a ((index 2 a * 1024 + index 1 a) * 4096) b ∙ root-wanted .leaves r (index 1 a) (omega arith) (rw z at l)) x
-    wanted-unsaid (suc h) k w v l x =
-        let hi = visits-down (formOf s) P a v in
-        let o : h ≡ 0 = omega arith in
-        let z = root-word a v (ap (λ i. suc (suc i)) o) in
-        let b : a / 4194304 ≡ index 2 a * 4194304 / 4194304 = omega arith in
-        wants-unsaid (s .domains) (s .middles) (s .leaves) (rightOf (formOf s) P d) 2 a w ba
-        (wants-block (rightOf (formOf s) P d) 2 a (index 2 a * 4194304) b ∙ root-wanted .table (rw z at l)) (rw o at x)
+    -- Where all are, every block that has a table wants it, and the pool is settled ..
+    old-wanted : WantedFrom p s o 0 → (h i : ℕ) → h < 2 → i < blocks h * s .domains → old (words p) h i ≡ true → want R h i ≡ true
+    old-wanted w h i hi b x =
+        let (e, c, t) = was-taken p s fits q o own h hi i b x in
+        rw (e, was-owner p s fits q o own h hi i b x) at (w _ (omega arith) c t)
 
-  pub wanted-settled : SoundPool (formOf s) P → RootsWanted s P (1024 * s .domains) → Settled (formOf s) P
-  wanted-settled q f =
-      unsaid-settled (formOf s) (wanting (s .domains) (s .middles) (s .leaves)) (lawful (s .domains) (s .middles) (s .leaves)) q
-      (λ d a h k w bd ba. wanted-unsaid f d a bd ba h k w)
+    pub wanted-settled : WantedFrom p s o 0 → Settled (formOf s) (words p)
+    wanted-settled w =
+        Exists.wanted-settled (s .domains) (s .middles) (s .leaves) q
+        (λ i b x. old-wanted w 1 i (omega arith) b x) (λ i b x. old-wanted w 0 i (omega arith) b x)
 
-  pub settled-wanted : Settled (formOf s) P → RootsWanted s P (1024 * s .domains)
-  settled-wanted t k b =
-      let d = k / 1024 in
-      let n = k % 1024 in
-      let S = pool-rights (s .domains) (s .middles) (s .leaves) P d in
-      let R = rightOf (formOf s) P d in
-      record {
-        table = λ l. divided-wants R 2 (n * 4194304) S
-            (t .wanted (omega arith) (omega arith) (omega arith) (root-table d (n * 4194304) k (omega arith) l));
-        leaves = λ l i c m. divided-wants R 1 ((n * 1024 + i) * 4096) S
-            (t .wanted (omega arith) (omega arith) (omega arith) (leaf-table d ((n * 1024 + i) * 4096) k (omega arith) l i (omega arith) m));
-      }
+    -- .. and only there.
+    pub settled-wanted : Settled (formOf s) (words p) → WantedFrom p s o 0
+    settled-wanted z m a b t = ⊎-elim
+        (λ e. absurd (true≢false (sym t ∙ ap not (eq-eqb (getD o m 0) none e))))
+        (λ x. sym (Exists.settled-table (s .domains) (s .middles) (s .leaves) (λ d a bd ba. refl)
+        (λ d bd. pool-rights (s .domains) (s .middles) (s .leaves) (words p) d) z (placeHeight m) (getD o m 0) (place-low s m) (x .block)) ∙ x .table)
+        (own .stands m b)

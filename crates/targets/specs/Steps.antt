@@ -1,11 +1,15 @@
--- The steps by which a target is found, and tables are found to be wanted. Memory word `x` is the four bytes from `4 * x` on.
-use Prim.Native.Nat.{ℕ, zero, suc, _+_, _*_, _/_, _<_}
+-- The steps by which a target is found, Memory word `x` is the four bytes from `4 * x` on.
+use Prim.Native.Nat.{ℕ, zero, suc, _+_, _*_, _/_, _≤_, _<_}
 use mathlib.Core.Path.{_≡_}
 use mathlib.Core.Bool.{Bool, true, false, _&&_, cond}
+use mathlib.Core.List.{List}
 use lib.Dec.{leb, ltb}
+use lib.ListN.{getD}
 use Rattle.words.specs.Rights.{rightAt, goodRights}
+use Rattle.table.specs.Shape.{maxMiddles}
 use Rattle.table.specs.Map.{block, leads}
-use Rattle.table.specs.Wants.{wordsIn, wantsOf}
+use Rattle.table.specs.Wants.{wordsIn}
+use Rattle.soundness.specs.Places.{maxPlaces}
 use Rattle.targets.specs.Targets.{painted, given, targetOf, Gives}
 use Rattle.targets.specs.declared.Paint.{Paint}
 use Rattle.targets.specs.declared.Cover.{Cover}
@@ -72,11 +76,10 @@ abbrev pub isMixed : Target → Bool
 isMixed (Says w) = false
 isMixed Mixed = true
 
--- Each leaf of the middle table at `e`, for the block numbered `n`, is wanted.
-abbrev pub LeavesWanted : (ℕ → ℕ) → ℕ → ℕ → (ℕ → ℕ) → Type 0
-LeavesWanted P e n R = (i : ℕ) → i < 1024 → leads 1 (P (e + i)) ≡ true → wantsOf R 1 ((n * 1024 + i) * 4096) ≡ true
-
--- Where the entry `e` of the block numbered `n` leads, the table is wanted, and so is each of its leaves.
-pub record TablesWanted (P : ℕ → ℕ) (e n : ℕ) (R : ℕ → ℕ) : Type 0 where
-  pub table : leads 2 e ≡ true → wantsOf R 2 (n * 4194304) ≡ true
-  pub leaves : leads 2 e ≡ true → LeavesWanted P e n R
+-- Place `n` is for a middle table, and a leaf stands in the block that is numbered `i` over all domains.
+pub record LeafIn (o : List ℕ) (n i : ℕ) : Type 0 where
+  pub middle : n < maxMiddles
+  pub place : ℕ
+  pub above : maxMiddles ≤ place
+  pub below : place < maxPlaces
+  pub inside : getD o place 0 / 1024 ≡ i

@@ -1,20 +1,21 @@
 // Whether the tables of a sound pool are wanted, and from it, whether the pool is settled.
 ghost use mathlib.Core.Path.{_≡_};
 ghost use mathlib.Core.Bool.{true};
-ghost use Prim.Native.Nat.{ℕ, _+_, _*_, _<_, _≤_};
+ghost use Prim.Native.Nat.{_<_};
 ghost use lib.ListN.{length};
-ghost use Rattle.theory.specs.Pool.{words, SoundPool};
+ghost use Rattle.theory.specs.Pool.{words, SoundPool, rightOf};
 ghost use Rattle.theory.specs.Settled.{Settled};
 ghost use Rattle.table.specs.Shape.{Fits};
-ghost use Rattle.table.specs.Map.{leads, formOf};
-ghost use Rattle.table.specs.Wants.{any, wantsOf, WordRights};
-ghost use Rattle.targets.specs.Targets.{Gives, Readable, Tells};
-ghost use Rattle.targets.specs.Steps.{isMixed, LeavesWanted, TablesWanted};
+ghost use Rattle.table.specs.Map.{formOf};
+ghost use Rattle.places.proofs.Final.{want};
+ghost use Rattle.soundness.specs.Places.{maxPlaces, placeHeight};
+ghost use Rattle.census.specs.Census.{StandsAt, Owners};
+ghost use Rattle.targets.specs.Targets.{Tells};
+ghost use Rattle.targets.specs.Steps.{isMixed, LeafIn};
 use crate::Target;
 use crate::UNPAINTED;
-use crate::block_target;
-use crate::page_target;
-use crate::table_start;
+use crate::entry_target;
+use census::NONE;
 use table::Shape;
 
 fn is_mixed(t: Target) -> bool
@@ -26,92 +27,60 @@ fn is_mixed(t: Target) -> bool
     }
 }
 
-// Whether the middle table to which the entry `e` leads has a leaf.
-fn has_leaf(pool: &[u32], e: u32) -> bool
-    requires { ⌜ e + 1024 ≤ length (now pool) ⌝ }
-    ensures { λ r. ⌜ r ≡ any (λ i. leads 1 (words (now (pool .entry)) (e + i))) 1024 ⌝ }
+// Whether the table that stands at place `n`, that of a block, is wanted: with nothing painted, no rights can be its entry.
+fn table_wanted(pool: &[u32], shape: Shape, n: usize, block: u32) -> bool
+    requires { ⌜ Fits shape (length (now pool)) ⌝ }
+    requires { ⌜ SoundPool (formOf shape) (words (now pool)) ⌝ }
+    requires { ⌜ (n < maxPlaces) × StandsAt (now pool) shape n block ⌝ }
+    ensures { λ r. ⌜ r ≡ want (rightOf (formOf shape) (words (now (pool .entry)))) (placeHeight n) block ⌝ }
 {
-    let start = table_start(e);
-    let mut i: usize = 0;
-    while i < 1024 {
-        let w = pool[start + i];
-        if w < 0x8000_0000 {
+    let height = census::place_height(n);
+    let e = census::place_word(shape, n);
+    let number = census::block_in_domain(height, block);
+    let t = entry_target(pool, UNPAINTED, height + 1, e, number);
+    is_mixed(t)
+}
+
+// Whether place `n` is that of a middle table with a leaf, by the owners of the leaf places.
+fn has_leaf(owners: &[u32], n: usize, block: u32) -> bool
+    requires { ⌜ length (now owners) ≡ maxPlaces ⌝ }
+    ensures { λ r. ⌜ (r ≡ true → LeafIn (now (owners .entry)) n block) ⌝ }
+{
+    if n >= 8 {
+        return false;
+    }
+    let mut m: usize = 8;
+    while m < 72 {
+        let page = owners[m];
+        if page / 1024 == block {
             return true;
         }
-        i += 1;
+        m += 1;
     }
     false
 }
 
-// Whether a page's entry is rights, or leads to a leaf that is wanted.
-fn leaf_wanted(pool: &[u32], e: u32, page: u32) -> bool
-    requires { ⌜ Readable (now pool) 1 e ⌝ }
-    requires { ⌜ page < 1048576 ⌝ }
-    ensures { λ r. ⌜ ((R : ℕ → ℕ) → Gives (words (now (pool .entry))) 1 e page R
-        → Tells r (leads 1 e ≡ true → wantsOf R 1 (page * 4096) ≡ true)) ⌝ }
-{
-    if e >= 0x8000_0000 {
-        return true;
-    }
-    let t = page_target(pool, UNPAINTED, e, page);
-    is_mixed(t)
-}
-
-// Whether each leaf of the middle table to which the entry `e` of a block leads is wanted.
-fn leaves_wanted(pool: &[u32], e: u32, block: u32) -> bool
-    requires { ⌜ Readable (now pool) 2 e ⌝ }
-    requires { ⌜ (e < 0x80000000) × (block < 1024) ⌝ }
-    ensures { λ r. ⌜ ((R : ℕ → ℕ) → Gives (words (now (pool .entry))) 2 e block R
-        → Tells r (LeavesWanted (words (now (pool .entry))) e block R)) ⌝ }
-{
-    let start = table_start(e);
-    let mut i: u32 = 0;
-    while i < 1024 {
-        let w = pool[start + i as usize];
-        let page = block * 1024 + i;
-        let wanted = leaf_wanted(pool, w, page);
-        if !wanted {
-            return false;
-        }
-        i += 1;
-    }
-    true
-}
-
-// Whether the tables of a block are wanted. A table with a leaf that is wanted is wanted too, so only one without leaves is searched.
-fn tables_wanted(pool: &[u32], e: u32, block: u32) -> bool
-    requires { ⌜ Readable (now pool) 2 e ⌝ }
-    requires { ⌜ block < 1024 ⌝ }
-    ensures { λ r. ⌜ ((R : ℕ → ℕ) → WordRights R → Gives (words (now (pool .entry))) 2 e block R
-        → Tells r (TablesWanted (words (now (pool .entry))) e block R)) ⌝ }
-{
-    if e >= 0x8000_0000 {
-        return true;
-    }
-    let leaf = has_leaf(pool, e);
-    if leaf {
-        return leaves_wanted(pool, e, block);
-    }
-    let t = block_target(pool, UNPAINTED, e, block);
-    is_mixed(t)
-}
-
-// Whether a sound pool is settled: every table is wanted. (In a sound pool a block that wants a table has one.)
-pub fn settled(pool: &[u32], shape: Shape) -> bool
+// Whether a sound pool is settled: every table in it, by the owners of its places, is wanted. (In a sound pool a block that wants a table has one.)
+// The leaves come first: a table with a leaf that is wanted is wanted too, so only one without leaves is searched.
+pub fn settled(pool: &[u32], shape: Shape, owners: &[u32]) -> bool
     requires { ⌜ Fits shape (length (now pool)) ⌝ }
     requires { ⌜ SoundPool (formOf shape) (words (now pool)) ⌝ }
+    requires { ⌜ Owners (now pool) shape (now owners) ⌝ }
     ensures { λ r. ⌜ Tells r (Settled (formOf shape) (words (now (pool .entry)))) ⌝ }
 {
-    let domains = shape.domains;
-    let roots = 1024 * domains;
-    let mut k: u32 = 0;
-    while k < roots {
-        let e = pool[k as usize];
-        let wanted = tables_wanted(pool, e, k % 1024);
-        if !wanted {
-            return false;
+    let mut n: usize = 72;
+    while 0 < n {
+        n -= 1;
+        let owner = owners[n];
+        if owner != NONE {
+            let leaf = has_leaf(owners, n, owner);
+            if !leaf {
+                let wanted = table_wanted(pool, shape, n, owner);
+                if !wanted {
+                    return false;
+                }
+            }
         }
-        k += 1;
     }
     true
 }

@@ -1,4 +1,5 @@
 -- The laws of the definitions, and examples of them.
 pub mod RightsLaws
+pub mod PassingLaws
 pub mod RegionLaws
 pub mod Examples

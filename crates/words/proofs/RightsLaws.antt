@@ -1,11 +1,11 @@
 -- Laws of the rights inside a word: packed rights are read back, and a word is settled by its rights. Assumes nothing.
 use Prim.Native.Nat.{ℕ, zero, suc, _+_, _*_, _/_, _%_, _^_, _≤_, _<_}
 use mathlib.Core.Path.{_≡_, refl, sym, ap, _∙_}
-use mathlib.Core.Bool.{true, false, false≢true}
+use mathlib.Core.Bool.{true, false, false≢true, _&&_}
 use native.Mathlib.Omega.{arith}
 use native.Mathlib.Decide.{decLt}
 use native.Mathlib.Nat.{mul-left-comm, pow-suc, div-div-eq-div-mul}
-use lib.Dec.{ltb}
+use lib.Dec.{eqb, ltb}
 use borrow.Author.Tests.{eq-eqb, ne-eqb, lt-ltb, le-ltb, ltb-true}
 use Rattle.words.specs.Rights.{rightAt, goodRights, pack, eightOf, sixteenOf}
 
@@ -44,6 +44,12 @@ pub good-range : (w : ℕ) → w < 4294967296 → goodRights w ≡ true → (214
 good-range w b g = elim (decLt w 2147483648) [
   | yes h ↦ absurd (false≢true (sym (good-low w h) ∙ g))
   | no h ↦ (omega arith, ltb-true w 2147549184 (sym (good-high w (omega arith) b) ∙ g))
+]
+
+pub good-small : (w : ℕ) → goodRights w ≡ true → w < 4294967296
+good-small w g = elim (decLt w 4294967296) [
+  | yes h ↦ h
+  | no h ↦ absurd (false≢true (sym (ap (λ b. b && eqb (w / 65536 % 32768) 0) (ne-eqb (w / 2147483648) 1 (λ e. omega arith))) ∙ g))
 ]
 
 pub range-good : (w : ℕ) → 2147483648 ≤ w → w < 2147549184 → goodRights w ≡ true

@@ -1,3 +1,4 @@
 -- The definitions that the contracts cite: rights inside a word, and regions.
 pub mod Rights
+pub mod Passing
 pub mod Region

@@ -1,8 +1,11 @@
 // What the rest is counted in: memory bytes and pool words kept apart, rights inside a 32-bit word, and regions rounded to memory words.
 ghost use mathlib.Core.Path.{_≡_};
-ghost use Prim.Native.Nat.{_+_, _<_};
+ghost use mathlib.Core.Bool.{true};
+ghost use Prim.Native.Nat.{_+_, _<_, _≤_};
+ghost use lib.ListN.{length};
 ghost use Rattle.words.specs.Rights.{rightAt, eightOf, sixteenOf, goodRights};
 ghost use Rattle.words.specs.Region.{regionOf};
+ghost use Rattle.words.specs.Passing.{Passed, SkipsRights};
 
 // A byte address of the memory that the table protects.
 pub struct ByteAddr(pub u32);
@@ -90,6 +93,55 @@ pub fn good_rights(w: u32) -> bool
         return false;
     }
     w < 0x8001_0000
+}
+
+// 1 where the word is eight rights, else 0.
+fn one_if_rights(w: u32) -> u32
+    ensures { λ r. ⌜ (r ≤ 1) × (r ≡ 1 → goodRights w ≡ true) ⌝ }
+{
+    if good_rights(w) {
+        return 1;
+    }
+    0
+}
+
+// Whether the 32 words from `at` on are all eight rights. They are counted with no way out of the loop: so the compiler tests four at a time.
+fn all_rights(pool: &[u32], at: usize) -> bool
+    requires { ⌜ at + 32 ≤ length (now pool) ⌝ }
+    ensures { λ r. ⌜ (r ≡ true → Passed (now (pool .entry)) at (at + 32)) ⌝ }
+{
+    let mut n: u32 = 0;
+    let mut i: usize = 0;
+    while i < 32 {
+        let w = pool[at + i];
+        n += one_if_rights(w);
+        i += 1;
+    }
+    n == 32
+}
+
+// The first of the words `from ≤ k < to` that is not eight rights, or `to`. Most entries are: they are passed over 32 at a time.
+pub fn skip_rights(pool: &[u32], from: usize, to: usize) -> usize
+    requires { ⌜ (from ≤ to) × (to ≤ length (now pool)) ⌝ }
+    ensures { λ r. ⌜ SkipsRights (now (pool .entry)) from to r ⌝ }
+{
+    let mut at = from;
+    while 32 <= to - at {
+        let all = all_rights(pool, at);
+        if !all {
+            break;
+        }
+        at += 32;
+    }
+    while at < to {
+        let w = pool[at];
+        let good = good_rights(w);
+        if !good {
+            return at;
+        }
+        at += 1;
+    }
+    to
 }
 
 // The words of a start and a length in bytes. The length's remainder is rounded by itself, since `length + 3` could wrap.

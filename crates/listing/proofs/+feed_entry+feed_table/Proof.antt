@@ -14,7 +14,7 @@ use Rattle.listing.specs.Runs.{memoryWords}
 use Rattle.listing.specs.Sheets.{sheet}
 use Rattle.listing.specs.Levels.{tableRight, EntryAt}
 use Rattle.listing.proofs.SheetLaws.{Along, along-start, along-end}
-use Rattle.listing.proofs.LevelLaws.{whole-table, entry-inside, entry-not-bad, entry-up, entry-table, rights-fed, leads-fed}
+use Rattle.listing.proofs.LevelLaws.{whole-table, entry-inside, entry-not-bad, entry-up, entry-table, rights-fed, leads-fed, leaf-fed}
 use Rattle.listing.proofs.LevelLaws.{entry-at, entry-room, entry-next}
 use Rattle.listing.proofs.feed_entry.Reads as feed-entry
 use Rattle.listing.proofs.feed_entry.Kinds as feed-entry-kinds
@@ -23,6 +23,7 @@ use Rattle.listing.proofs.feed_table.Reads as feed-table
 use Rattle.listing.proofs.feed_table.Kinds as feed-table-kinds
 use Rattle.listing.proofs.+feed_entry+feed_table.Lts-feed_table as b
 use Rattle.listing.proofs.feed_rights.Reads as feed-rights-reads
+use Rattle.listing.proofs.feed_leaf.Reads as feed-leaf-reads
 use Rattle.listing.proofs.level_of.Reads as level-of-reads
 use Rattle.table.proofs.decode.Reads as decode-reads
 use Rattle.words.proofs.pool_index.Reads as pool-index-reads
@@ -58,6 +59,8 @@ e-calls t = (
   decode-reads.Learnt,
   feed-rights-reads.Asked,
   feed-rights-reads.Learnt,
+  feed-leaf-reads.Asked,
+  feed-leaf-reads.Learnt,
   and 2 feed-table-kinds.ps (falls 2 feed-table-kinds.ps _<_ μ-feed-table t) feed-table.Pre,
   feed-table.Post,
 )
@@ -112,14 +115,21 @@ module _ (t : ℕ) where
   enum-known-e-2 : e.Need-enum-known-e-2 (e-calls t) (e-at t) feed-entry.Post
   enum-known-e-2 c = search needs
 
+  feed-leaf-requires : e.Need-feed-leaf-requires (e-calls t) (e-at t) feed-entry.Post
+  feed-leaf-requires c κs =
+      let d = c .before .before .before in
+      let s = d .before .before .before .before .before .before .before in
+      let z : s .args .height - 1 ≡ 0 = omega (arith, c .before .if1 .taken) in
+      (rw z at (entry-table _ _ _ _ _ _ _ (s .pre .1 .0) (led d)), s .pre .1 .1)
+
   sub-feed-table : e.Need-sub-feed-table (e-calls t) (e-at t) feed-entry.Post
   sub-feed-table c =
-      let d = c .before in
+      let d = c .before .before in
       omega (arith, entry-up _ _ _ _ _ _ _ (d .before .before .before .before .before .before .before .pre .1 .0) (led d))
 
   feed-table-requires : e.Need-feed-table-requires (e-calls t) (e-at t) feed-entry.Post
   feed-table-requires c κs =
-      let d = c .before .before in
+      let d = c .before .before .before in
       let x = d .before .before .before .before .before .before .before .pre .1 in
       let up = entry-up _ _ _ _ _ _ _ (x .0) (led d) in
       (omega arith, (entry-table _ _ _ _ _ _ _ (x .0) (led d), x .1))
@@ -141,12 +151,21 @@ module _ (t : ℕ) where
 
   e-returns-2 : e.Need-returns-2 (e-calls t) (e-at t) feed-entry.Post
   e-returns-2 c =
-      let d = c .before .before .before .before .before in
-      let x = d .before .before .before .before .before .before .before .pre .1 .0 in
-      c .before .before .feed-table .ensures ∙ leads-fed _ _ _ _ _ _ _ _ x (led d)
+      let d = c .before .before .before .before .before .before in
+      let s = d .before .before .before .before .before .before .before in
+      c .before .before .feed-leaf .ensures ∙ leaf-fed _ _ _ _ _ _ _ _ (s .pre .1 .0) (led d) (c .before .before .before .before .if1 .taken)
+
+  same-length-3 : e.Need-same-length-3 (e-calls t) (e-at t) feed-entry.Post
+  same-length-3 c = search needs
 
   e-returns-3 : e.Need-returns-3 (e-calls t) (e-at t) feed-entry.Post
   e-returns-3 c =
+      let d = c .before .before .before .before .before .before in
+      let x = d .before .before .before .before .before .before .before .pre .1 .0 in
+      c .before .before .feed-table .ensures ∙ leads-fed _ _ _ _ _ _ _ _ x (led d)
+
+  e-returns-4 : e.Need-returns-4 (e-calls t) (e-at t) feed-entry.Post
+  e-returns-4 c =
       let x = c .before .before .before .before .before .before .before .pre .1 .0 in
       absurd (entry-not-bad _ _ _ _ _ x (sym (decoded (c .before .before)) ∙ c .enum-told .given .1))
 
@@ -219,6 +238,7 @@ pub +feed-entry+feed-table-spec : {M : Type 1} → statement M
     (enum-known-e t)
     (feed-rights-requires t)
     (enum-known-e-2 t)
+    (feed-leaf-requires t)
     (sub-feed-table t)
     (feed-table-requires t)
     (enum-told t)
@@ -226,7 +246,9 @@ pub +feed-entry+feed-table-spec : {M : Type 1} → statement M
     (e-returns t)
     (same-length-2 t)
     (e-returns-2 t)
-    (e-returns-3 t))
+    (same-length-3 t)
+    (e-returns-3 t)
+    (e-returns-4 t))
     (λ t. b.spec (b-calls t) (b-at t) feed-table.Post Inv μ-loop
     (level-of-requires t)
     (loop-holds t)

@@ -5,22 +5,22 @@ use borrow.Author.Needs.{needs}
 use Rattle.listing.proofs.close.Statement.{statement}
 use Rattle.listing.proofs.close.Tie as tie
 
-returns : tie.Need-returns
-unfolding closed
-returns c = simp (eq-eqb _ _ (c .if1 .taken))
-
 put-run-requires : tie.Need-put-run-requires
-put-run-requires c κs = (c .before .before .before .pre .1 .some (c .before .if1 .left), c .before .before .before .pre .0)
+put-run-requires c κs = (c .before .before .before .pre .1 .some (c .before .if1 .taken), c .before .before .before .pre .0)
 
-add-result : tie.Need-add-result
-add-result c = search needs
+add-n : tie.Need-add-n
+add-n c = search needs
 
 same-length : tie.Need-same-length
 same-length c = search needs
 
+returns : tie.Need-returns
+unfolding closed
+returns c = simp (ne-eqb _ _ (c .before .before .before .before .if1 .taken), c .before .before .put-run .ensures)
+
 returns-2 : tie.Need-returns-2
 unfolding closed
-returns-2 c = simp (ne-eqb _ _ (c .before .before .before .before .if1 .left), c .before .before .put-run .ensures)
+returns-2 c = simp (eq-eqb _ _ (c .if1 .left))
 
 pub close-spec : {M : Type 1} → statement M
-close-spec = tie.close (tie.spec returns put-run-requires add-result same-length returns-2)
+close-spec = tie.close (tie.spec put-run-requires add-n same-length returns returns-2)

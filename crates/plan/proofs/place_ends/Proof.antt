@@ -1,9 +1,8 @@
 -- `plan::place_ends` meets its contract.
-use mathlib.Core.Path.{_≡_, sym, _∙_}
-use mathlib.Core.Bool.{true≢false}
+use mathlib.Core.Path.{_≡_}
 use native.Mathlib.Omega.{arith}
 use borrow.Author.Needs.{needs}
-use Rattle.plan.proofs.GiveLaws.{given-none, given-one, given-second-none, given-two, taken-low, taken-plain}
+use Rattle.plan.proofs.GiveLaws.{given-none, given-one, given-second-none, given-two, taken-low}
 use Rattle.plan.proofs.place_ends.Statement.{statement}
 use Rattle.plan.proofs.place_ends.Tie as tie
 
@@ -19,12 +18,12 @@ enum-told c = search needs
 returns : tie.Need-returns
 returns c =
     let n = rw (c .enum-told .given .1) at (c .before .before .take-place .ensures) in
-    ((λ s d paint P h G. given-none G n), (λ z. absurd (true≢false (sym (n .0) ∙ z .0))))
+    λ s d paint P h G. given-none G n
 
 returns-2 : tie.Need-returns-2
 returns-2 c =
     let k = rw (c .before .before .one .given .1) at (c .before .before .before .before .take-place .ensures) in
-    ((λ s d paint P h G. given-one G _ _ (c .if1 .taken) k), (λ z f s d paint P h G. given-one G _ _ (c .if1 .taken) (taken-plain (z .0) k)))
+    λ s d paint P h G. given-one G _ _ (c .if1 .taken) k
 
 take-place-requires-2 : tie.Need-take-place-requires-2
 take-place-requires-2 c κs =
@@ -43,16 +42,14 @@ returns-3 c =
     let e = c .before .before .before in
     let k = rw (e .before .before .one .given .1) at (e .before .before .before .before .take-place .ensures) in
     let l = rw (c .enum-told2 .given .1) at (c .before .before .take-place2 .ensures) in
-    ((λ s d paint P h G. given-second-none G _ _ (e .if1 .left) k l), (λ z. absurd (true≢false (sym (l .0) ∙ z .1))))
+    λ s d paint P h G. given-second-none G _ _ (e .if1 .left) k l
 
 returns-4 : tie.Need-returns-4
 returns-4 c =
     let e = c .before .before .before .before in
     let k = rw (e .before .before .one .given .1) at (e .before .before .before .before .take-place .ensures) in
-    let l = rw (c .before .two .given .1) at (c .before .before .before .take-place2 .ensures) in (
-      (λ s d paint P h G. given-two G _ _ _ _ (e .if1 .left) k l),
-      (λ z f s d paint P h G. given-two G _ _ _ _ (e .if1 .left) (taken-plain (z .0) k) (taken-plain (z .1) l)),
-    )
+    let l = rw (c .before .two .given .1) at (c .before .before .before .take-place2 .ensures) in
+    λ s d paint P h G. given-two G _ _ _ _ (e .if1 .left) k l
 
 pub place-ends-spec : {M : Type 1} → statement M
 place-ends-spec =

@@ -1,47 +1,42 @@
 -- `plan::plan_change` meets its contract.
 use mathlib.Core.Path.{_≡_, subst}
-use mathlib.Core.Logic.{⊎-elim}
 use native.Mathlib.Omega.{arith}
 use borrow.Author.Needs.{needs}
 use Rattle.theory.specs.Pool.{words, rightOf}
 use Rattle.table.specs.Map.{formOf}
 use Rattle.plan.specs.Edges.{draftOf, EndsAre}
 use Rattle.plan.proofs.DraftLaws.{pool-root, pool-gives}
-use Rattle.plan.proofs.KeptLaws.{kept-exists}
+use Rattle.plan.proofs.KeptLaws.{marked-all}
 use Rattle.plan.proofs.PlanLaws.{told-blocks, told-pages, giving-middles, giving-leaves, plan-ready, full-middles, full-leaves}
 use Rattle.plan.proofs.plan_change.Statement.{statement}
 use Rattle.plan.proofs.plan_change.Tie as tie
 
 mul-first-middle : tie.Need-mul-first-middle
-mul-first-middle c = let r = c .before .pre .0 .range in omega arith
+mul-first-middle c = search needs
 
 mul-first-leaf : tie.Need-mul-first-leaf
-mul-first-leaf c = let r = c .before .pre .0 .range in omega arith
+mul-first-leaf c = search needs
 
 add-first-leaf : tie.Need-add-first-leaf
-add-first-leaf c = let r = c .before .pre .0 .range in omega arith
+add-first-leaf c = search needs
 
 draft-plan-requires : tie.Need-draft-plan-requires
 draft-plan-requires c κs =
-    let s = c .before in
+    let s = c .before .before in
     let r = s .pre .0 .range in
-    let b = s .pre .1 .1 .0 in
-    (pool-root (s .args .shape) (s .args .pool .now) (s .args .domain) (s .pre .0) (s .pre .1 .0) b, (omega arith, s .pre .1 .1 .1))
+    let b = s .pre .1 .1 .1 .0 in
+    (pool-root (s .args .shape) (s .args .pool .now) (s .args .domain) (s .pre .0) (s .pre .1 .0) b, (omega arith, s .pre .1 .1 .1 .1))
 
 -- The draft, by the rights of the pool.
-draft-is : (c : tie.After-draft-plan) → let a = c .before .before .args in
+draft-is : (c : tie.After-draft-plan) → let a = c .before .before .before .args in
     c .draft-plan .result ≡ draftOf (words (a .pool .now)) (a .domain) (a .paint) (rightOf (formOf (a .shape)) (words (a .pool .now)) (a .domain))
-draft-is c = let a = c .before .before .args in c .draft-plan .ensures _ (pool-gives (a .shape) (words (a .pool .now)) (a .domain))
+draft-is c = let a = c .before .before .before .args in c .draft-plan .ensures _ (pool-gives (a .shape) (words (a .pool .now)) (a .domain))
 
-kept-middles-requires : tie.Need-kept-middles-requires
-kept-middles-requires c κs =
-    let f = c .before .before .before .before in
-    let s = f .before .before in
-    let a = s .args in
-    (s .pre .0, (s .pre .1 .0, told-blocks (a .shape) (a .domain) (a .paint) (words (a .pool .now)) (s .pre .1 .1 .1) (draft-is f)))
+kept-places-requires : tie.Need-kept-places-requires
+kept-places-requires c κs = search needs
 
 place-ends-requires : tie.Need-place-ends-requires
-place-ends-requires c κs = let r = c .before .before .before .before .before .before .before .pre .0 .range in (omega arith, omega arith, omega arith)
+place-ends-requires c κs = search needs
 
 enum-known-at-blocks : tie.Need-enum-known-at-blocks
 enum-known-at-blocks c = search needs
@@ -50,36 +45,36 @@ enum-told : tie.Need-enum-told
 enum-told c = search needs
 
 -- The middle tables have their places, or are too many.
-middles : (c : tie.After-place-ends) → let a = c .before .before .before .before .before .before .before .before .args in
+middles : (c : tie.After-place-ends) → let a = c .before .before .before .before .before .before .before .before .before .args in
     EndsAre (a .shape) (a .domain) (a .paint) (words (a .pool .now)) 1 (c .place-ends .result)
 middles c =
     let f = c .before .before .before .before .before .before in
-    let s = f .before .before in
+    let s = f .before .before .before in
     let a = s .args in
-    let told = told-blocks (a .shape) (a .domain) (a .paint) (words (a .pool .now)) (s .pre .1 .1 .1) (draft-is f) in
-    ⊎-elim
-    (λ z. let (x, k) = kept-exists (a .shape) _ _ (s .pre .0 .range) (s .pre .1 .0) 1 (omega arith) told _ (omega arith) in
-    c .place-ends .ensures .1 z (x .on) (a .shape) (a .domain) (a .paint) (words (a .pool .now)) 1 (giving-middles (a .shape) (a .domain) (a .paint) (words (a .pool .now)) (s .pre .1 .1 .1) (draft-is f) (s .pre .0 .range) (s .pre .1 .0) (s .pre .1 .1 .0) _ k))
-    (λ k. c .place-ends .ensures .0 (a .shape) (a .domain) (a .paint) (words (a .pool .now)) 1 (giving-middles (a .shape) (a .domain) (a .paint) (words (a .pool .now)) (s .pre .1 .1 .1) (draft-is f) (s .pre .0 .range) (s .pre .1 .0) (s .pre .1 .1 .0) _ k))
-    (c .before .kept-middles .ensures)
+    let P = words (a .pool .now) in
+    let pre = s .pre .1 .1 in
+    let told = told-blocks (a .shape) (a .domain) (a .paint) P (pre .1 .1) (draft-is f) in
+    let kept = marked-all (a .pool .now) (a .shape) (a .domain) (a .paint) (s .pre .0) (s .pre .1 .0) (a .owners .now) (pre .0) 1 (omega arith) told
+    (c .before .kept-places .ensures) in
+    c .place-ends .ensures (a .shape) (a .domain) (a .paint) P 1
+    (giving-middles (a .shape) (a .domain) (a .paint) P (pre .1 .1) (draft-is f) (s .pre .0 .range) (s .pre .1 .0) (pre .1 .0) _ kept)
 
 returns : tie.Need-returns
 returns c =
     let e = c .before .before in
-    let a = e .before .before .before .before .before .before .before .before .args in
+    let a = e .before .before .before .before .before .before .before .before .before .args in
     full-middles (a .shape) (a .domain) (a .paint) (words (a .pool .now))
     (subst (EndsAre (a .shape) (a .domain) (a .paint) (words (a .pool .now)) 1) (c .enum-told .given .1) (middles e))
 
-kept-leaves-requires : tie.Need-kept-leaves-requires
-kept-leaves-requires c κs =
-    let f = c .before .before .before .before .before .before .before .before .before in
-    let s = f .before .before in
-    let a = s .args in
-    (s .pre .0, (s .pre .1 .0, told-pages (a .shape) (a .domain) (a .paint) (words (a .pool .now)) (s .pre .1 .1 .1) (draft-is f)))
+kept-places-requires-2 : tie.Need-kept-places-requires-2
+kept-places-requires-2 c κs =
+    let s = c .before .before .before .before .before .before .before .before .before .before .before .before in
+    let r = s .pre .0 .range in
+    (s .pre .1 .1 .0 .long, (omega arith, omega arith))
 
 place-ends-requires-2 : tie.Need-place-ends-requires-2
 place-ends-requires-2 c κs =
-    let s = c .before .before .before .before .before .before .before .before .before .before .before .before in
+    let s = c .before .before .before .before .before .before .before .before .before .before .before .before .before in
     let r = s .pre .0 .range in
     (omega arith, omega arith, omega arith)
 
@@ -91,23 +86,24 @@ enum-told-2 c = search needs
 
 -- The leaves have their places, or are too many.
 leaves : (c : tie.After-place-ends2)
-    → let a = c .before .before .before .before .before .before .before .before .before .before .before .before .before .args in
+    → let a = c .before .before .before .before .before .before .before .before .before .before .before .before .before .before .args in
     EndsAre (a .shape) (a .domain) (a .paint) (words (a .pool .now)) 0 (c .place-ends2 .result)
 leaves c =
     let f = c .before .before .before .before .before .before .before .before .before .before .before in
-    let s = f .before .before in
+    let s = f .before .before .before in
     let a = s .args in
-    let told = told-pages (a .shape) (a .domain) (a .paint) (words (a .pool .now)) (s .pre .1 .1 .1) (draft-is f) in
-    ⊎-elim
-    (λ z. let (x, k) = kept-exists (a .shape) _ _ (s .pre .0 .range) (s .pre .1 .0) 0 (omega arith) told _ (omega arith) in
-    c .place-ends2 .ensures .1 z (x .on) (a .shape) (a .domain) (a .paint) (words (a .pool .now)) 0 (giving-leaves (a .shape) (a .domain) (a .paint) (words (a .pool .now)) (s .pre .1 .1 .1) (draft-is f) (s .pre .0 .range) (s .pre .1 .0) (s .pre .1 .1 .0) _ k))
-    (λ k. c .place-ends2 .ensures .0 (a .shape) (a .domain) (a .paint) (words (a .pool .now)) 0 (giving-leaves (a .shape) (a .domain) (a .paint) (words (a .pool .now)) (s .pre .1 .1 .1) (draft-is f) (s .pre .0 .range) (s .pre .1 .0) (s .pre .1 .1 .0) _ k))
-    (c .before .kept-leaves .ensures)
+    let P = words (a .pool .now) in
+    let pre = s .pre .1 .1 in
+    let told = told-pages (a .shape) (a .domain) (a .paint) P (pre .1 .1) (draft-is f) in
+    let kept = marked-all (a .pool .now) (a .shape) (a .domain) (a .paint) (s .pre .0) (s .pre .1 .0) (a .owners .now) (pre .0) 0 (omega arith) told
+    (c .before .kept-places2 .ensures) in
+    c .place-ends2 .ensures (a .shape) (a .domain) (a .paint) P 0
+    (giving-leaves (a .shape) (a .domain) (a .paint) P (pre .1 .1) (draft-is f) (s .pre .0 .range) (s .pre .1 .0) (pre .1 .0) _ kept)
 
 returns-2 : tie.Need-returns-2
 returns-2 c =
     let e = c .before .before in
-    let a = e .before .before .before .before .before .before .before .before .before .before .before .before .before .args in
+    let a = e .before .before .before .before .before .before .before .before .before .before .before .before .before .before .args in
     full-leaves (a .shape) (a .domain) (a .paint) (words (a .pool .now))
     (subst (EndsAre (a .shape) (a .domain) (a .paint) (words (a .pool .now)) 0) (c .enum-told2 .given .1) (leaves e))
 
@@ -115,7 +111,7 @@ returns-3 : tie.Need-returns-3
 returns-3 c =
     let e = c .before .before .before in
     let k = e .before .before in
-    let a = k .before .before .before .before .before .before .before .before .before .before .before .args in
+    let a = k .before .before .before .before .before .before .before .before .before .before .before .before .args in
     plan-ready (a .shape) (a .domain) (a .paint) (words (a .pool .now))
     (subst (EndsAre (a .shape) (a .domain) (a .paint) (words (a .pool .now)) 1) (k .before .at-blocks .given .1) (middles (k .before .before .before)))
     (subst (EndsAre (a .shape) (a .domain) (a .paint) (words (a .pool .now)) 0) (c .before .at-pages .given .1) (leaves e))
@@ -128,12 +124,12 @@ plan-change-spec =
     mul-first-leaf
     add-first-leaf
     draft-plan-requires
-    kept-middles-requires
+    kept-places-requires
     place-ends-requires
     enum-known-at-blocks
     enum-told
     returns
-    kept-leaves-requires
+    kept-places-requires-2
     place-ends-requires-2
     enum-known-at-pages
     enum-told-2

@@ -13,10 +13,10 @@ use lib.ListN.{length, take, drop}
 use denote.Ref.{now}
 use Rattle.theory.specs.Pool.{words}
 use Rattle.table.proofs.EntryLaws.{decoded-leads}
-use Rattle.soundness.specs.Check.{through, entrySeen}
+use Rattle.soundness.specs.Check.{seen, through, entrySeen, tableSeen}
 use Rattle.soundness.proofs.PlaceLaws.{PlaceAt, decoded-place}
-use Rattle.soundness.proofs.SeenLaws.{through-step, through-none, upper-size, table-leaf, table-through}
-use Rattle.soundness.proofs.SeenLaws.{enter-rights, enter-bad, enter-down, enter-stop, rights-pass}
+use Rattle.soundness.proofs.SeenLaws.{through-first, through-next, upper-size, table-leaf, table-through}
+use Rattle.soundness.proofs.SeenLaws.{enter-rights, enter-bad, enter-down, enter-stop}
 use Rattle.soundness.proofs.entry_check.Reads as entry-check
 use Rattle.soundness.proofs.entry_check.Kinds as entry-check-kinds
 use Rattle.soundness.proofs.+entry_check+table_check.Lts-entry_check as e
@@ -25,30 +25,30 @@ use Rattle.soundness.proofs.table_check.Kinds as table-check-kinds
 use Rattle.soundness.proofs.+entry_check+table_check.Lts-table_check as b
 use Rattle.soundness.proofs.mark.Reads as mark-reads
 use Rattle.table.proofs.decode.Reads as decode-reads
-use Rattle.words.proofs.good_rights.Reads as good-rights-reads
+use Rattle.words.proofs.skip_rights.Reads as skip-rights-reads
 use Rattle.words.proofs.pool_index.Reads as pool-index-reads
 use Rattle.soundness.proofs.+entry_check+table_check.{statement}
 use Rattle.soundness.proofs.+entry_check+table_check.Tie.{close}
 
-abbrev μ-entry-check : Measures 1 entry-check-kinds.ps ℕ
+abbrev μ-entry-check : Measures 2 entry-check-kinds.ps ℕ
 μ-entry-check κs a = 2 * a .1 .1 .0
 
-abbrev μ-table-check : Measures 1 table-check-kinds.ps ℕ
+abbrev μ-table-check : Measures 2 table-check-kinds.ps ℕ
 μ-table-check κs a = 2 * a .1 .1 .0 + 1
 
 abbrev Inv : b.InvT-loop
-Inv pool shape height at s₀ i₀ s i =
-    (i ≤ 1024) × (at + 1024 ≤ length pool) × (s ≡ through (entrySeen shape pool height) (take i (drop at pool)) s₀)
+Inv pool shape height before met₀ at to ok₀ k₀ met ok k =
+    (at ≤ k) × (k ≤ to) × (to ≤ length pool) × (seen ok met ≡ through (entrySeen shape pool height) (take (k - at) (drop at pool)) (seen before met₀))
 
 abbrev μ-loop : b.MeasureT-loop
-μ-loop pool shape height at s₀ i₀ s i = 1024 - i
+μ-loop pool shape height before met₀ at to ok₀ k₀ met ok k = to - k
 
 -- What a member is given at the measure `t`, and what it calls: a member of the cycle is asked below `t`.
-abbrev e-at : ℕ → In 1 entry-check-kinds.ps
-e-at t = and 1 entry-check-kinds.ps (is 1 entry-check-kinds.ps μ-entry-check t) entry-check.Pre
+abbrev e-at : ℕ → In 2 entry-check-kinds.ps
+e-at t = and 2 entry-check-kinds.ps (is 2 entry-check-kinds.ps μ-entry-check t) entry-check.Pre
 
-abbrev b-at : ℕ → In 1 table-check-kinds.ps
-b-at t = and 1 table-check-kinds.ps (is 1 table-check-kinds.ps μ-table-check t) table-check.Pre
+abbrev b-at : ℕ → In 2 table-check-kinds.ps
+b-at t = and 2 table-check-kinds.ps (is 2 table-check-kinds.ps μ-table-check t) table-check.Pre
 
 abbrev e-calls : ℕ → e.Claims
 e-calls t = (
@@ -56,7 +56,7 @@ e-calls t = (
   decode-reads.Learnt,
   mark-reads.Asked,
   mark-reads.Learnt,
-  and 1 table-check-kinds.ps (falls 1 table-check-kinds.ps _<_ μ-table-check t) table-check.Pre,
+  and 2 table-check-kinds.ps (falls 2 table-check-kinds.ps _<_ μ-table-check t) table-check.Pre,
   table-check.Post,
 )
 
@@ -64,9 +64,9 @@ abbrev b-calls : ℕ → b.Claims
 b-calls t = (
   pool-index-reads.Asked,
   pool-index-reads.Learnt,
-  good-rights-reads.Asked,
-  good-rights-reads.Learnt,
-  and 1 entry-check-kinds.ps (falls 1 entry-check-kinds.ps _<_ μ-entry-check t) entry-check.Pre,
+  skip-rights-reads.Asked,
+  skip-rights-reads.Learnt,
+  and 2 entry-check-kinds.ps (falls 2 entry-check-kinds.ps _<_ μ-entry-check t) entry-check.Pre,
   entry-check.Post,
 )
 
@@ -93,14 +93,14 @@ module _ (t : ℕ) where
       (sym (c .before .before .decode .ensures) ∙ c .e .given .1)
 
   mark-requires : e.Need-mark-requires (e-calls t) (e-at t) entry-check.Post
-  mark-requires c κs = place (c .before) .below
+  mark-requires c κs = place (c .before .before) .below
 
   sub-table-check : e.Need-sub-table-check (e-calls t) (e-at t) entry-check.Post
   sub-table-check c = search needs
 
   table-check-requires : e.Need-table-check-requires (e-calls t) (e-at t) entry-check.Post
   table-check-requires c κs =
-      let d = c .before .before .before in
+      let d = c .before .before .before .before .before in
       let s = d .before .before .before .before in
       let (u, g, l, room) = decoded-leads (s .args .shape) (s .args .height) _ _ _ (s .pre .1 .1 .0) (s .pre .1 .1 .1)
       (sym (d .before .before .decode .ensures) ∙ d .e .given .1) in
@@ -114,18 +114,19 @@ module _ (t : ℕ) where
 
   e-returns-3 : e.Need-returns-3 (e-calls t) (e-at t) entry-check.Post
   e-returns-3 c =
-      let m = c .before .before in
-      let d = m .before .before in
+      let m = c .before .before .before in
+      let d = m .before .before .before in
       let k = m .mark .ensures in
       c .table-check .ensures
-      ∙ (rw k (sym (enter-down _ _ (sym (d .before .before .decode .ensures) ∙ d .e .given .1) (rw k at (c .before .if1 .taken)))))
+      ∙ ap (tableSeen _ _ _ _) k
+      ∙ sym (enter-down _ _ (sym (d .before .before .decode .ensures) ∙ d .e .given .1) (ap (λ r. r .ok) (sym k) ∙ c .before .before .if1 .taken))
 
   e-returns-4 : e.Need-returns-4 (e-calls t) (e-at t) entry-check.Post
   e-returns-4 c =
       let m = c .before in
-      let d = m .before .before in
+      let d = m .before .before .before in
       let k = m .mark .ensures in
-      k ∙ sym (enter-stop _ _ (sym (d .before .before .decode .ensures) ∙ d .e .given .1) (rw k at (c .if1 .left)))
+      k ∙ sym (enter-stop _ _ (sym (d .before .before .decode .ensures) ∙ d .e .given .1) (ap (λ r. r .ok) (sym k) ∙ c .if1 .left))
 
   b-returns : b.Need-returns (b-calls t) (b-at t) table-check.Post Inv μ-loop
   b-returns c = sym (table-leaf _ _ _ _ _ (c .if1 .taken))
@@ -133,14 +134,23 @@ module _ (t : ℕ) where
   pool-index-requires : b.Need-pool-index-requires (b-calls t) (b-at t) table-check.Post Inv μ-loop
   pool-index-requires c κs = search needs
 
-  loop-holds : b.Need-loop-holds (b-calls t) (b-at t) table-check.Post Inv μ-loop
-  loop-holds c =
+  add-to : b.Need-add-to (b-calls t) (b-at t) table-check.Post Inv μ-loop
+  add-to c = search needs
+
+  skip-rights-requires : b.Need-skip-rights-requires (b-calls t) (b-at t) table-check.Post Inv μ-loop
+  skip-rights-requires c κs =
       let s = c .before .before .before in
       let size = upper-size (s .args .height) (pos-of-ne-zero (c .before .if1 .left)) in
-      (omega arith, omega (arith, s .pre .1 .1 .1), sym (through-none _ _))
+      (omega arith, omega (arith, s .pre .1 .1 .1))
 
-  add-w : b.Need-add-w (b-calls t) (b-at t) table-check.Post Inv μ-loop
-  add-w c = search needs
+  loop-holds : b.Need-loop-holds (b-calls t) (b-at t) table-check.Post Inv μ-loop
+  loop-holds c =
+      let s = c .before .before .before .before in
+      let lo : 0 < s .args .height = pos-of-ne-zero (c .before .before .if1 .left) in
+      let size = upper-size (s .args .height) lo in
+      let k = c .skip-rights .ensures in
+      let room : c .before .pool-index .result + 1024 ≤ length (s .args .pool .now) = omega (arith, s .pre .1 .1 .1) in
+      (k .low, k .high, room, sym (through-first _ _ _ lo _ _ _ (k .low) (omega arith) (k .passed)))
 
   mul-w : b.Need-mul-w (b-calls t) (b-at t) table-check.Post Inv μ-loop
   mul-w c = search needs
@@ -148,42 +158,40 @@ module _ (t : ℕ) where
   read-w : b.Need-shared-slice-read-w (b-calls t) (b-at t) table-check.Post Inv μ-loop
   read-w c = search needs
 
-  good-rights-requires : b.Need-good-rights-requires (b-calls t) (b-at t) table-check.Post Inv μ-loop
-  good-rights-requires c κs = search needs
-
   entry-check-requires : b.Need-entry-check-requires (b-calls t) (b-at t) table-check.Post Inv μ-loop
   entry-check-requires c κs = search needs
 
-  add-i : b.Need-add-i (b-calls t) (b-at t) table-check.Post Inv μ-loop
-  add-i c = search needs
+  add-skip-rights : b.Need-add-skip-rights (b-calls t) (b-at t) table-check.Post Inv μ-loop
+  add-skip-rights c = search needs
+
+  skip-rights-requires-2 : b.Need-skip-rights-requires-2 (b-calls t) (b-at t) table-check.Post Inv μ-loop
+  skip-rights-requires-2 c κs = search needs
 
   loop-less : b.Need-loop-less (b-calls t) (b-at t) table-check.Post Inv μ-loop
   loop-less c = search needs
 
   loop-again : b.Need-loop-again (b-calls t) (b-at t) table-check.Post Inv μ-loop
   loop-again c =
-      let k = c .before .before in
-      let l = k .before .before in
-      let s = l .before .before .before .before in
+      let l = c .before .before .before .before .before in
+      let s = l .before .before .before .before .before in
       let p = s .args .pool .now in
       let F = entrySeen (s .args .shape) p (s .args .height) in
-      let at = l .before .pool-index .result in
-      let step = through-step F p at (l .loop .i) (s .args .seen) (omega arith) in
-      let lo : 0 < s .args .height = pos-of-ne-zero (l .before .before .if1 .left) in (
-        omega arith,
-        omega arith,
-        ⊎-elim
-            (λ (if2, called, e). e ∙ called .ensures ∙ ap (F (words p (at + l .loop .i))) (l .loop .inv .2) ∙ sym step)
-            (λ (if2, e). e ∙ l .loop .inv .2 ∙ sym (rights-pass _ _ _ _ _ lo (omega (arith, k .shared-slice-known2 .given (at + l .loop .i)))
-            (sym (c .before .good-rights .ensures) ∙ not-false _ (if2 .left))) ∙ sym step)
-            (c .if2 .came),
+      let lo : 0 < s .args .height = pos-of-ne-zero (l .before .before .before .if1 .left) in
+      let k = c .skip-rights2 .ensures in (
+        omega (arith, k .low),
+        k .high,
+        l .loop .inv .2,
+        c .before .entry-check .ensures
+            ∙ ap (F (words p (l .loop .k))) (l .loop .inv .3)
+            ∙ sym (through-next _ _ _ lo _ _ _ _ (l .loop .inv .0) (omega (arith, k .low)) (omega (arith, k .high)) (k .passed)),
       )
 
   b-returns-2 : b.Need-returns-2 (b-calls t) (b-at t) table-check.Post Inv μ-loop
   b-returns-2 c =
       let l = c .before in
-      let all : l .loop .i ≡ 1024 = omega arith in
-      l .loop .inv .2 ∙ rw (all, l .before .pool-index .ensures) (sym (table-through _ _ _ _ _ (pos-of-ne-zero (l .before .before .if1 .left))))
+      let lo = pos-of-ne-zero (l .before .before .before .if1 .left) in
+      let all : l .loop .k - l .before .before .pool-index .result ≡ 1024 = omega arith in
+      l .loop .inv .3 ∙ rw (all, l .before .before .pool-index .ensures) (sym (table-through _ _ _ _ _ lo))
 
 pub +entry-check+table-check-spec : {M : Type 1} → statement M
 +entry-check+table-check-spec =
@@ -203,13 +211,14 @@ pub +entry-check+table-check-spec : {M : Type 1} → statement M
     (λ t. b.spec (b-calls t) (b-at t) table-check.Post Inv μ-loop
     (b-returns t)
     (pool-index-requires t)
+    (add-to t)
+    (skip-rights-requires t)
     (loop-holds t)
-    (add-w t)
     (mul-w t)
     (read-w t)
-    (good-rights-requires t)
     (entry-check-requires t)
-    (add-i t)
+    (add-skip-rights t)
+    (skip-rights-requires-2 t)
     (loop-less t)
     (loop-again t)
     (b-returns-2 t))

@@ -5,17 +5,17 @@ use native.Mathlib.Omega.{arith}
 use native.Mathlib.Numerals.{add-one}
 use borrow.Author.Needs.{needs}
 use Rattle.theory.specs.Pool.{words}
-use Rattle.soundness.specs.Check.{rootsSeen}
+use Rattle.soundness.specs.Check.{seen, rootsSeen}
 use Rattle.soundness.specs.Soundness.{Soundness}
 use Rattle.soundness.proofs.SoundnessLaws.{fine-soundness, failed-soundness}
 use Rattle.soundness.proofs.check_sound.Statement.{statement}
 use Rattle.soundness.proofs.check_sound.Tie as tie
 
 abbrev Inv-loop : tie.InvT-loop
-Inv-loop pool shape domains s₀ d₀ s d = (d ≤ domains) × (s ≡ rootsSeen shape pool d)
+Inv-loop pool shape domains ok₀ met₀ d₀ ok met d = (d ≤ domains) × (seen ok met ≡ rootsSeen shape pool d)
 
 abbrev μ-loop : tie.MeasureT-loop
-μ-loop pool shape domains s₀ d₀ s d = domains - d
+μ-loop pool shape domains ok₀ met₀ d₀ ok met d = domains - d
 
 -- Every word of the pool is one of 32 bits.
 small : (c : tie.After-shared-slice-known Inv-loop μ-loop) (k : ℕ) → words (c .before .args .pool .now) k < 4294967296
@@ -33,8 +33,9 @@ pool-word-requires c κs = search needs
 
 table-check-requires : tie.Need-table-check-requires Inv-loop μ-loop
 table-check-requires c κs =
-    let s = c .before .before .before .before in
-    let e : c .pool-word .result .0 ≡ 1024 * c .before .before .loop .d = ap (λ w. w .0) (c .pool-word .ensures) in
+    let w = c .before in
+    let s = w .before .before .before .before in
+    let e : w .pool-word .result .0 ≡ 1024 * w .before .before .loop .d = ap (λ w. w .0) (w .pool-word .ensures) in
     (s .pre, (omega arith, omega (arith, s .pre .long)))
 
 add-d : tie.Need-add-d Inv-loop μ-loop
@@ -46,12 +47,13 @@ loop-less c = search needs
 loop-again : tie.Need-loop-again Inv-loop μ-loop
 unfolding rootsSeen
 loop-again c =
-    let l = c .before .before .before in
-    (omega arith, c .table-check .ensures ∙ rw (c .before .pool-word .ensures, add-one, l .loop .inv .1) refl)
+    let w = c .before .before in
+    let l = w .before .before in
+    (omega arith, c .table-check .ensures ∙ rw (w .pool-word .ensures, add-one, l .loop .inv .1) refl)
 
 -- After the loop all roots were seen.
 whole : (c : tie.After-loop Inv-loop μ-loop)
-    → c .before .loop .s
+    → seen (c .before .loop .ok) (c .before .loop .met)
     ≡ rootsSeen (c .before .before .before .args .shape) (c .before .before .before .args .pool .now) (c .before .before .before .args .shape .domains)
 whole c =
     let all : c .before .loop .d ≡ c .before .before .before .args .shape .domains = omega arith in

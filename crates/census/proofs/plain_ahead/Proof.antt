@@ -1,0 +1,57 @@
+-- `census::plain_ahead` meets its contract.
+use Prim.Native.Nat.{_+_}
+use native.Mathlib.Omega.{arith}
+use borrow.Author.Needs.{needs}
+use Rattle.census.proofs.plain_ahead.Statement.{statement}
+use Rattle.census.proofs.plain_ahead.Tie as tie
+
+mul-w : tie.Need-mul-w
+mul-w c = search needs
+
+shared-slice-read-w : tie.Need-shared-slice-read-w
+shared-slice-read-w c = search needs
+
+good-rights-requires : tie.Need-good-rights-requires
+good-rights-requires c κs = search needs
+
+returns : tie.Need-returns
+returns c = (omega arith, λ j b. absurd (omega arith))
+
+sub-rest : tie.Need-sub-rest
+sub-rest c = search needs
+
+cast-end : tie.Need-cast-end
+cast-end c = search needs
+
+add-end : tie.Need-add-end
+add-end c = search needs
+
+skip-rights-requires : tie.Need-skip-rights-requires
+skip-rights-requires c κs = (omega arith, omega arith)
+
+sub-n : tie.Need-sub-n
+sub-n c = c .skip-rights .ensures .low
+
+cast-result : tie.Need-cast-result
+cast-result c = search needs
+
+returns-2 : tie.Need-returns-2
+returns-2 c =
+    let s = c .skip-rights .ensures in
+    (omega (arith, s .low, s .high), λ j b. s .passed (c .before .before .before .before .before .args .k + j) (omega arith) (omega (arith, s .low)))
+
+pub plain-ahead-spec : {M : Type 1} → statement M
+plain-ahead-spec =
+    tie.close
+    (tie.spec
+    mul-w
+    shared-slice-read-w
+    good-rights-requires
+    returns
+    sub-rest
+    cast-end
+    add-end
+    skip-rights-requires
+    sub-n
+    cast-result
+    returns-2)

@@ -1,0 +1,92 @@
+-- `change::plan_region` meets its contract.
+use mathlib.Core.Path.{sym, _∙_}
+use mathlib.Core.Bool.{true≢false}
+use borrow.Author.Needs.{needs}
+use borrow.Author.Tests.{not-true, not-false}
+use Rattle.theory.specs.Pool.{words}
+use Rattle.theory.specs.Settled.{Settled}
+use Rattle.table.specs.Map.{formOf}
+use Rattle.change.specs.Answers.{unsound, unsettled, no-room}
+use Rattle.change.proofs.RegionLaws.{plan-ready, planning-ready, planning-none}
+use Rattle.change.proofs.plan_region.Statement.{statement}
+use Rattle.change.proofs.plan_region.Tie as tie
+
+slice-aggregate-census : tie.Need-slice-aggregate-census
+slice-aggregate-census c = search needs
+
+census-requires : tie.Need-census-requires
+census-requires c κs = search needs
+
+returns : tie.Need-returns
+returns c = λ n. unsound (λ z. true≢false (sym (c .before .before .census .ensures .whole z) ∙ not-true _ (c .if1 .taken)))
+
+slice-aggregate-settled : tie.Need-slice-aggregate-settled
+slice-aggregate-settled c = search needs
+
+settled-requires : tie.Need-settled-requires
+settled-requires c κs =
+    let e = c .before in
+    let k = e .before .before in
+    let sound = not-false _ (e .if1 .left) in
+    (k .before .before .before .pre .0, (k .census .ensures .sound sound, k .census .ensures .owners sound))
+
+returns-2 : tie.Need-returns-2
+returns-2 c =
+    let e = c .before .before .before in
+    λ n. unsettled (e .before .before .census .ensures .sound (not-false _ (e .if1 .left)))
+    (λ z. true≢false (sym (c .before .settled .ensures .passes z) ∙ not-true _ (c .if2 .taken)))
+
+slice-aggregate-plan-change : tie.Need-slice-aggregate-plan-change
+slice-aggregate-plan-change c = search needs
+
+-- Past the second test the pool is settled.
+settled-here : (c : tie.After-owners4) → let a = c .before .before .before .before .before .before .before .before .before .args in
+    Settled (formOf (a .shape)) (words (a .pool .now))
+settled-here c = c .before .before .settled .ensures .holds (not-false _ (c .before .if2 .left))
+
+plan-change-requires : tie.Need-plan-change-requires
+plan-change-requires c κs =
+    let e = c .before .before .before .before in
+    let k = e .before .before in
+    let s = k .before .before .before in
+    (s .pre .0, (settled-here c, (k .census .ensures .owners (not-false _ (e .if1 .left)), (s .pre .1 .0, s .pre .1 .1))))
+
+enum-known-planning : tie.Need-enum-known-planning
+enum-known-planning c = search needs
+
+enum-told : tie.Need-enum-told
+enum-told c = search needs
+
+returns-3 : tie.Need-returns-3
+returns-3 c =
+    let k = c .before .before in
+    let a = k .before .before .before .before .before .before .before .before .before .before .args in
+    λ n. no-room (settled-here (k .before)) (planning-none (a .pool .now) (a .shape) (a .domain) (a .paint) _ (k .plan-change .ensures) (c .enum-told .given .1))
+
+returns-4 : tie.Need-returns-4
+returns-4 c =
+    let k = c .before .before .before in
+    let s = k .before .before .before .before .before .before .before .before .before .before in
+    let a = s .args in
+    let t = settled-here (k .before) in (
+      t,
+      plan-ready (a .pool .now) (a .shape) (a .domain) (a .paint) _ (s .pre .0) t (s .pre .1 .0) (s .pre .1 .1)
+          (planning-ready (a .pool .now) (a .shape) (a .domain) (a .paint) _ _ (k .plan-change .ensures) (c .before .planning .given .1)),
+    )
+
+pub plan-region-spec : {M : Type 1} → statement M
+plan-region-spec =
+    tie.close
+    (tie.spec
+    slice-aggregate-census
+    census-requires
+    returns
+    slice-aggregate-settled
+    settled-requires
+    returns-2
+    slice-aggregate-plan-change
+    plan-change-requires
+    enum-known-planning
+    enum-told
+    returns-3
+    returns-4)
