@@ -46,13 +46,13 @@ one-from-6 (cut f q h) (done g x k) = absurd (done-not-cut k h)
 one-from-6 (cut f q h) (cut g x k) = (refl, one-cut h k)
 
 -- A region is rounded in one way.
-same-region : (start len : ℕ) {g h : Region} → regionOf start len ≡ Covers g → regionOf start len ≡ Covers h → g ≡ h
+pub same-region : (start len : ℕ) {g h : Region} → regionOf start len ≡ Covers g → regionOf start len ≡ Covers h → g ≡ h
 same-region start len e f = cc
 
 same-refusal : (start len : ℕ) {k m : ℕ} → regionOf start len ≡ NoRegion k → regionOf start len ≡ NoRegion m → k ≡ m
 same-refusal start len e f = cc
 
-not-both : (start len : ℕ) {g : Region} {k : ℕ} → regionOf start len ≡ Covers g → regionOf start len ≡ NoRegion k → ⊥
+pub not-both : (start len : ℕ) {g : Region} {k : ℕ} → regionOf start len ≡ Covers g → regionOf start len ≡ NoRegion k → ⊥
 not-both start len e f = let z : _≡_ {A = ℕ} 0 1 = cc in omega arith
 
 pub one-change : {p : List ℕ} {s : Shape} {d start len r n : ℕ} {a b : Answer} {x y : List ℕ} → Changes p s d start len r n a x

@@ -20,3 +20,5 @@ pub mod TidiesLaws
 pub mod ChangesLaws
 pub mod Witness
 pub mod EndLaws
+pub mod StoreListLaws
+pub mod SteerLaws

@@ -77,7 +77,7 @@ module _ (P Q ph : ℕ → ℕ) (j : ℕ) where
   ]
 
 -- There is one test of what is kept.
-one-test : (F : Form) {P Q : ℕ → ℕ} {t u : ℕ → Bool} → Tells F P Q t → Tells F P Q u → (j : ℕ) → t j ≡ u j
+pub one-test : (F : Form) {P Q : ℕ → ℕ} {t u : ℕ → Bool} → Tells F P Q t → Tells F P Q u → (j : ℕ) → t j ≡ u j
 one-test F {t = t} {u = u} a b j = by-cases (t j)
     (λ e. e ∙ sym (b .is _ j (a .are j e)))
     (λ e. by-cases (u j) (λ f. a .is _ j (b .are j f) ∙ sym f) (λ f. e ∙ sym f))

@@ -4,3 +4,4 @@ pub mod Runs
 pub mod Requests
 pub mod Ahead
 pub mod Tidying
+pub mod StoreList
