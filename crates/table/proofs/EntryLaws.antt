@@ -133,6 +133,21 @@ module _ (s : Shape) where
   decoded-rights (suc (suc zero)) w r lo hi e = upper-rights (firstMiddle (s .domains)) 1024 (s .middles) 0 w r e
   decoded-rights (suc (suc (suc h))) w r lo hi e = absurd (omega arith)
 
+  -- Every word below 2^32 is good rights in a leaf, so that this holds of every height.
+  pub decoded-any-rights : (h w r : ℕ) → w < 4294967296 → h ≤ 2 → decodeOf s h w ≡ Rights r
+      → (r ≡ w) × (formOf s .good h w ≡ true) × (formOf s .leads h w ≡ false)
+  decoded-any-rights zero w r b hi e = (cc, lt-ltb w 4294967296 b, refl)
+  decoded-any-rights (suc h) w r b hi e = decoded-rights (suc h) w r (omega arith) hi e
+
+  -- A leaf entry is never bad and never leads.
+  pub bad-above : (h w : ℕ) → decodeOf s h w ≡ Bad → 0 < h
+  bad-above zero w e = absurd (not-rights (sym e))
+  bad-above (suc h) w e = omega arith
+
+  pub leads-above : (h w : ℕ) (t : PoolWord) (n : ℕ) → decodeOf s h w ≡ Leads t n → 0 < h
+  leads-above zero w t n e = absurd (never-both e)
+  leads-above (suc h) w t n e = omega arith
+
   -- An entry that leads is a good one, and the table to which it leads lies in the pool.
   pub decoded-leads : (h w : ℕ) (t : PoolWord) (n : ℕ) → 0 < h → h ≤ 2 → decodeOf s h w ≡ Leads t n
       → (t .0 ≡ w) × (formOf s .good h w ≡ true) × (formOf s .leads h w ≡ true)

@@ -14,20 +14,43 @@ use Rattle.theory.specs.Settled.{Together, Says}
 use Rattle.theory.proofs.RightLaws.{by-cases}
 use Rattle.theory.proofs.ReachLaws.{entry-reach}
 use Rattle.theory.proofs.WalkLaws.{walk-down, decides-low, decides-right, decides-says, sound-decides}
+use Rattle.words.specs.declared.PoolWord.{PoolWord}
 use Rattle.table.specs.declared.Shape.{Shape}
+use Rattle.table.specs.declared.Entry.the-variants.{Leads}
 use Rattle.table.specs.declared.Found.{Found}
 use Rattle.table.specs.declared.Found.the-variants.{Right, Refused}
 use Rattle.table.specs.Shape.{Fits, fitsOf}
-use Rattle.table.specs.Map.{addresses, formOf}
+use Rattle.table.specs.Map.{addresses, index, formOf}
+use Rattle.table.specs.Entries.{decodeOf}
 use Rattle.table.specs.Lookup.{foundAt, lookupOf, LooksUp}
 use Rattle.table.proofs.ShapeLaws.{fits-test}
 use Rattle.table.proofs.FormLaws.{lawful}
+use Rattle.table.proofs.EntryLaws.{index-below, leads-above, decoded-leads}
 
 -- One step of a walk, by a height that is not 0.
 pub walk-leads : (F : Form) (P : ℕ → ℕ) (a h k : ℕ) → 0 < h → F .good h (P k) ≡ true → F .leads h (P k) ≡ true
     → walk F P a h k ≡ walk F P a (h - 1) (F .target h (P k) + F .index (h - 1) a)
 walk-leads F P a zero k lo g l = absurd (omega arith)
 walk-leads F P a (suc h) k lo g l = let e : suc h - 1 ≡ h = omega arith in walk-down F P a h k g l ∙ rw e refl
+
+-- A walk that stands at word `k`, which leads, goes on in the table below; that lies in the pool.
+pub record GoesOn (s : Shape) (p : List ℕ) (a h k t : ℕ) : Type 0 where
+  pub above : 0 < h
+  pub inside : t + index (h - 1) a < length p
+  pub rest : walk (formOf s) (words p) a (h - 1) (t + index (h - 1) a) ≡ walk (formOf s) (words p) a h k
+
+pub goes-on : (s : Shape) (p : List ℕ) (a h k : ℕ) (t : PoolWord) (n : ℕ) → Fits s (length p) → h ≤ 2
+    → decodeOf s h (words p k) ≡ Leads t n → GoesOn s p a h k (t .0)
+goes-on s p a h k t n f hi e =
+    let lo = leads-above s h (words p k) t n e in
+    let (q, g, l, b) = decoded-leads s h (words p k) t n lo hi e in
+    let i = index-below (h - 1) a in
+    let long = f .long in
+    record {
+      above = lo;
+      inside = omega arith;
+      rest = rw q (sym (walk-leads (formOf s) (words p) a h k lo g l));
+    }
 
 -- The three cases of a lookup.
 module _ (p : List ℕ) (s : Shape) (d a : ℕ) where

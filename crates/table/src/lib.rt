@@ -43,6 +43,12 @@ pub enum Entry {
     Bad,
 }
 
+// A word of the pool that a walk has read, and how many it has read with it.
+pub struct Loaded {
+    pub word: u32,
+    pub loads: u32,
+}
+
 pub enum Made {
     Done,
     Refused(u32),
@@ -174,7 +180,18 @@ pub fn fresh(pool: &mut [u32], shape: Shape) -> Made
     Made::Done
 }
 
-// The walk from word `at` of a height down to the entry that decides.
+// The one read of a walk, and its count: the loads that a lookup reports are the reads that it makes.
+fn load(pool: &[u32], at: PoolWord, before: u32) -> Loaded
+    requires { ⌜ (at .0 < length (now pool)) × (before < 3) ⌝ }
+    ensures { λ r. ⌜ (r .word ≡ words (now (pool .entry)) (at .0)) × (r .word < 4294967296) × (r .loads ≡ before + 1) ⌝ }
+{
+    let i = words::pool_index(at);
+    let word = pool[i];
+    let loads = before + 1;
+    Loaded { word, loads }
+}
+
+// The walk from the root word of an address down to the entry that decides.
 fn walk_down(pool: &[u32], shape: Shape, domain: u32, address: ByteAddr) -> Found
     requires { ⌜ Fits shape (length (now pool)) ⌝ }
     requires { ⌜ domain < shape .domains ⌝ }
@@ -182,11 +199,14 @@ fn walk_down(pool: &[u32], shape: Shape, domain: u32, address: ByteAddr) -> Foun
         (walk (formOf shape) (words (now (pool .entry))) (address .0) 2 (1024 * domain + index 2 (address .0))) ⌝ }
 {
     let mut height: u32 = 2;
-    let root = 1024 * domain;
+    let mut loads: u32 = 0;
+    let root = words::pool_word(1024 * domain);
     let first = index_in(2, address);
-    let mut at = root as usize + first;
-    while 0 < height {
-        let w = pool[at];
+    let mut at = words::word_after(root, first);
+    loop {
+        let got = load(pool, at, loads);
+        let w = got.word;
+        loads = got.loads;
         let e = decode(shape, height, w);
         match e {
             Entry::Bad => {
@@ -198,24 +218,15 @@ fn walk_down(pool: &[u32], shape: Shape, domain: u32, address: ByteAddr) -> Foun
                 return Found::Right {
                     right,
                     entry: r,
-                    loads: 3 - height,
+                    loads,
                 };
             }
             Entry::Leads(t, _) => {
                 height -= 1;
                 let i = index_in(height, address);
-                let from = words::pool_index(t);
-                at = from + i;
+                at = words::word_after(t, i);
             }
         }
-    }
-    let w = pool[at];
-    let i = part_in(0, address);
-    let right = words::right_at(w, i);
-    Found::Right {
-        right,
-        entry: w,
-        loads: 3,
     }
 }
 
