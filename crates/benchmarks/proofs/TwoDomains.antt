@@ -22,7 +22,7 @@ use Rattle.table.proofs.FreshWordLaws.{fresh-right, fresh-settled}
 use Rattle.places.specs.Count.{count, Room}
 use Rattle.places.proofs.CountLaws.{count-into, count-all}
 use Rattle.places.proofs.ChangedLaws.{changed-uncovered}
-use Rattle.places.proofs.Final.{blocks, domainOf, addressOf, want}
+use Rattle.places.specs.Final.{blocks, domainOf, addressOf, want}
 use Rattle.places.proofs.NumberLaws.{number-first}
 use Rattle.targets.specs.declared.Paint.{Paint}
 use Rattle.targets.specs.Targets.{region}

@@ -9,7 +9,7 @@ use native.Mathlib.Decide.{ℕ-discrete}
 use lib.Dec.{eqb}
 use lib.ListN.{length, getD, set, replicate, length-set, length-replicate, getD-replicate}
 use lib.Seq.{getD-set-same, getD-set-other}
-use borrow.Author.Tests.{eq-eqb, ne-eqb}
+use borrow.Author.Tests.{lt-ltb, eq-eqb, ne-eqb}
 use Rattle.theory.specs.Form.{Form}
 use Rattle.theory.specs.Pool.{words}
 use Rattle.theory.specs.Check.{Answer, met, mark, each, entryCheck, tableCheck, rootsCheck}
@@ -22,13 +22,39 @@ use Rattle.table.specs.Shape.{Fits}
 use Rattle.table.specs.Map.{size, leads, formOf}
 use Rattle.table.specs.Entries.{decodeOf}
 use Rattle.table.proofs.EntryLaws.{decoded-bad, decoded-rights, decoded-leads}
-use Rattle.soundness.specs.Places.{maxPlaces, placeWord}
-use Rattle.soundness.proofs.PlaceLaws.{hasPlace, place-apart, PlaceAt, decoded-place}
-use Rattle.soundness.proofs.AlikeLaws.{check-bad, check-rights, check-again, check-down, leaf-fine}
+use Rattle.census.specs.Places.{maxPlaces, placeWord}
+use Rattle.census.proofs.PlaceLaws.{hasPlace, place-apart, PlaceAt, decoded-place}
 use Rattle.census.specs.Tally.{Tally, refused, owned, andThen, none, taken, give, enter, through, tableTally, rootsTally}
 use Rattle.census.specs.Census.{StandsAt}
 use Rattle.census.proofs.TallyLaws.{enter-rights, enter-bad, enter-given, enter-again}
 use Rattle.census.proofs.StandLaws.{EntryOf, TableOf, root-table, entry-table, block-few, stands-at}
+
+-- The theory's check of an entry, case by case.
+module _ (F : Form) (P : ℕ → ℕ) (h k : ℕ) (u : ℕ → Bool) where
+  pub check-bad : F .good (suc h) (P k) ≡ false → entryCheck F P (suc h) k u ≡ Check.refused
+  unfolding entryCheck
+  check-bad g = rw g
+
+  module _ (g : F .good (suc h) (P k) ≡ true) where
+    pub check-rights : F .leads (suc h) (P k) ≡ false → entryCheck F P (suc h) k u ≡ met u
+    unfolding entryCheck
+    check-rights l = rw (g, l)
+
+    module _ (l : F .leads (suc h) (P k) ≡ true) where
+      pub check-again : u (F .target (suc h) (P k)) ≡ true → entryCheck F P (suc h) k u ≡ Check.refused
+      unfolding entryCheck
+      check-again e = rw (g, l, e)
+
+      pub check-down : u (F .target (suc h) (P k)) ≡ false
+          → entryCheck F P (suc h) k u ≡ tableCheck F P h (F .target (suc h) (P k)) (mark u (F .target (suc h) (P k)))
+      unfolding entryCheck
+      check-down e = rw (g, l, e)
+
+-- A leaf is fine whatever it holds.
+leaf-fine : (F : Form) (P : ℕ → ℕ) → ((k : ℕ) → F .good 0 (P k) ≡ true) → (n t : ℕ) (u : ℕ → Bool) → each (entryCheck F P 0) t n u ≡ met u
+unfolding each entryCheck
+leaf-fine F P good zero t u = refl
+leaf-fine F P good (suc n) t u = rw (good t) (leaf-fine F P good n (t + 1) u)
 
 -- The places that have an owner are those where a table of the set `u` begins, and the owner is the block whose table stands there.
 pub record Alike (p : List ℕ) (s : Shape) (o : List ℕ) (u : ℕ → Bool) : Type 0 where
@@ -161,7 +187,7 @@ module _ (p : List ℕ) (s : Shape) (fits : Fits s (length p)) (small : (k : ℕ
   pub table-alike : (h t i : ℕ) → h ≤ 2 → t + size h ≤ length p → TableOf (s .domains) (words p) h t i → (o : List ℕ) (u : ℕ → Bool) → Alike p s o u
       → Matches p s (tableTally s p h t i o) (tableCheck F (words p) h t u)
   unfolding tableTally
-  table-alike zero t i hi b y o u a = rw (leaf-fine s p fits small 64 t u) a
+  table-alike zero t i hi b y o u a = rw (leaf-fine (formOf s) (words p) (λ k. lt-ltb (words p k) 4294967296 (small k)) 64 t u) a
   table-alike (suc h) t i hi b y o u a =
       through-alike p s (λ k j. enter (tableTally s p h) (decodeOf s (suc h) (words p k)) j) (entryCheck F (words p) (suc h)) 1024 t (1024 * i)
       (λ e c. entry-alike h (t + e) (1024 * i + e) (omega arith) (y e c) (λ x r z. table-alike h x (1024 * i + e) (omega arith) r z)) o u a

@@ -16,15 +16,15 @@ use Rattle.theory.specs.Check as Check
 use Rattle.theory.proofs.RightLaws.{by-cases}
 use Rattle.theory.proofs.CheckLaws.{CheckedPool, roots-check-sound, sound-roots-check}
 use Rattle.table.specs.declared.Shape.{Shape}
-use Rattle.table.specs.Shape.{Fits}
+use Rattle.table.specs.Shape.{Fits, firstPlace}
 use Rattle.table.specs.Map.{size, leads, formOf}
 use Rattle.table.proofs.ShapeLaws.{and-both}
-use Rattle.table.proofs.FormLaws.{firstPlace, lawful}
-use Rattle.places.proofs.Final.{blocks, entryOf, oldMiddle, old}
+use Rattle.table.proofs.FormLaws.{lawful}
+use Rattle.places.specs.Final.{blocks, entryOf, oldMiddle, old}
 use Rattle.places.proofs.OldLaws.{old-one}
-use Rattle.soundness.specs.Places.{maxPlaces, placeHeight, placeWord}
-use Rattle.soundness.proofs.PlaceLaws.{hasPlace, place-kinds, led-place}
-use Rattle.soundness.proofs.ReadableLaws.{Reached}
+use Rattle.census.specs.Places.{maxPlaces, placeHeight, placeWord}
+use Rattle.census.proofs.PlaceLaws.{hasPlace, place-kinds, led-place}
+use Rattle.census.proofs.ReadableLaws.{Reached}
 use Rattle.census.specs.Tally.{Tally, refused, owned, none, taken, rootsTally}
 use Rattle.census.specs.Census.{StandsAt, Owners, Census}
 use Rattle.census.proofs.AlikeLaws.{Alike, Matches, roots-alike}

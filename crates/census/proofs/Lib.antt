@@ -4,3 +4,5 @@ pub mod StandLaws
 pub mod AlikeLaws
 pub mod CensusLaws
 pub mod OwnerLaws
+pub mod PlaceLaws
+pub mod ReadableLaws

@@ -10,14 +10,13 @@ use lib.ListN.{length, getD}
 use borrow.Author.Tests.{eq-eqb, ne-eqb}
 use Rattle.theory.specs.Pool.{words, SoundPool}
 use Rattle.table.specs.declared.Shape.{Shape}
-use Rattle.table.specs.Shape.{Fits}
+use Rattle.table.specs.Shape.{Fits, firstPlace, places}
 use Rattle.table.specs.Map.{size, formOf}
-use Rattle.table.proofs.FormLaws.{firstPlace, places}
-use Rattle.places.proofs.Final.{blocks, entryOf, old, was, placeAt}
+use Rattle.places.specs.Final.{blocks, entryOf, old, was, placeAt}
 use Rattle.places.proofs.OldLaws.{old-at}
 use Rattle.places.proofs.OldLaws as Old
-use Rattle.soundness.specs.Places.{placeHeight}
-use Rattle.soundness.proofs.PlaceLaws.{firstNumber, PlaceAt, place-number}
+use Rattle.census.specs.Places.{placeHeight, firstNumber}
+use Rattle.census.proofs.PlaceLaws.{PlaceAt, place-number}
 use Rattle.census.specs.Tally.{none, taken}
 use Rattle.census.specs.Census.{StandsAt, Owners}
 use Rattle.census.proofs.StandLaws.{EntryOf, block-few, stands-at}

@@ -7,9 +7,9 @@ use native.Mathlib.Omega.{arith}
 use Rattle.theory.specs.Pool.{words}
 use Rattle.table.specs.declared.Shape.{Shape}
 use Rattle.table.specs.Map.{leads}
-use Rattle.places.proofs.Final.{blocks, entryOf, old}
-use Rattle.soundness.specs.Places.{placeHeight, placeWord}
-use Rattle.soundness.proofs.PlaceLaws.{PlaceAt}
+use Rattle.places.specs.Final.{blocks, entryOf, old}
+use Rattle.census.specs.Places.{placeHeight, placeWord}
+use Rattle.census.proofs.PlaceLaws.{PlaceAt}
 use Rattle.census.specs.Tally.{none}
 use Rattle.census.specs.Census.{StandsAt}
 

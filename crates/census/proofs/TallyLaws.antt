@@ -10,12 +10,13 @@ use Rattle.words.specs.Rights.{goodRights}
 use Rattle.words.specs.declared.PoolWord.{PoolWord}
 use Rattle.words.proofs.RightsLaws.{good-range}
 use Rattle.table.specs.declared.Shape.{Shape}
+use Rattle.table.specs.Map.{size}
 use Rattle.table.specs.declared.Entry.{Entry}
 use Rattle.table.specs.declared.Entry.the-variants.{Rights, Leads, Bad}
 use Rattle.table.specs.Entries.{decodeOf}
 use Rattle.table.proofs.EntryLaws.{decode-rights}
-use Rattle.places.proofs.Final.{blocks}
-use Rattle.soundness.proofs.PlaceLaws.{firstNumber}
+use Rattle.places.specs.Final.{blocks}
+use Rattle.census.specs.Places.{firstNumber}
 use Rattle.census.specs.Tally.{Tally, refused, owned, andThen, give, enter, through, tableTally, entryTally, rootsTally, Answers, tables}
 
 -- What an answer tells.
@@ -147,3 +148,7 @@ upper-blocks (suc h) e = refl
 pub upper-number : (h : ℕ) → (h ≡ 0 → ⊥) → firstNumber h ≡ 0
 upper-number zero e = absurd (e refl)
 upper-number (suc h) e = refl
+
+pub upper-size : (h : ℕ) → 0 < h → size h ≡ 1024
+upper-size zero lo = absurd (omega arith)
+upper-size (suc h) lo = refl

@@ -8,8 +8,8 @@ use lib.ListN.{length, getD}
 use Rattle.theory.specs.Pool.{words, SoundPool}
 use Rattle.table.specs.declared.Shape.{Shape}
 use Rattle.table.specs.Map.{formOf}
-use Rattle.places.proofs.Final.{blocks, entryOf, old}
-use Rattle.soundness.specs.Places.{maxPlaces, placeHeight, placeWord}
+use Rattle.places.specs.Final.{blocks, entryOf, old}
+use Rattle.census.specs.Places.{maxPlaces, placeHeight, placeWord}
 use Rattle.census.specs.Tally.{none}
 
 -- Block `i`, of the blocks that may have a table of place `n`'s height, has its table there.

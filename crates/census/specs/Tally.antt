@@ -12,7 +12,7 @@ use Rattle.table.specs.declared.Shape.{Shape}
 use Rattle.table.specs.declared.Entry.{Entry}
 use Rattle.table.specs.declared.Entry.the-variants.{Rights, Leads, Bad}
 use Rattle.table.specs.Entries.{decodeOf}
-use Rattle.soundness.specs.Places.{maxPlaces}
+use Rattle.census.specs.Places.{maxPlaces}
 
 -- The owner of a place where no table stands: a number that no block has.
 abbrev pub none : ℕ

@@ -14,7 +14,7 @@ use Rattle.table.specs.declared.Shape.{Shape}
 use Rattle.table.specs.Shape.{Fits, firstMiddle, firstLeaf}
 use Rattle.table.specs.Map.{leads, formOf}
 use Rattle.table.proofs.ShapeLaws.{and-both}
-use Rattle.soundness.proofs.PlaceLaws.{middle-number}
+use Rattle.census.proofs.PlaceLaws.{middle-number}
 use Rattle.census.specs.Tally.{AllPlain}
 use Rattle.census.specs.Census.{Owners}
 use Rattle.targets.specs.declared.Target.{Target}

@@ -19,7 +19,7 @@ use Rattle.table.proofs.WantLaws.{pool-rights}
 use Rattle.places.specs.Count.{wantMiddle, wantLeaf, Room}
 use Rattle.places.proofs.ChangedLaws.{changed-rights}
 use Rattle.places.proofs.Exists.{sound-fits}
-use Rattle.places.proofs.Final.{oldMiddle, oldLeaf, wasMiddle, wasLeaf, final, keptWord}
+use Rattle.places.specs.Final.{oldMiddle, oldLeaf, wasMiddle, wasLeaf, final, keptWord}
 use Rattle.places.proofs.FinalLaws.{final-finished}
 use Rattle.places.proofs.FinalWordLaws.{final-past}
 use Rattle.places.proofs.KeepLaws.{owners}

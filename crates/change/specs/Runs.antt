@@ -10,7 +10,7 @@ use Rattle.theory.specs.Phase.{phase, midway}
 use Rattle.table.specs.declared.Shape.{Shape}
 use Rattle.table.specs.Shape.{Fits, firstMiddle}
 use Rattle.table.specs.Map.{formOf}
-use Rattle.soundness.specs.Places.{maxPlaces}
+use Rattle.census.specs.Places.{maxPlaces}
 use Rattle.targets.specs.declared.Paint.{Paint}
 use Rattle.plan.specs.Plan.{PlanFits}
 use Rattle.plan.specs.Goals.{Goal, Planned}

@@ -17,7 +17,7 @@ use Rattle.table.specs.Map.{part, parts, size, index, formOf}
 use Rattle.table.specs.Wants.{wordsIn}
 use Rattle.table.specs.Entries.{decodeOf}
 use Rattle.table.proofs.BlockLaws.{first-word}
-use Rattle.soundness.proofs.ReadableLaws.{Readable, sound-readable, reached-not-bad, reached-rights-right, reached-leads}
+use Rattle.census.proofs.ReadableLaws.{Readable, sound-readable, reached-not-bad, reached-rights-right, reached-leads}
 use Rattle.listing.specs.declared.Level.{Level}
 use Rattle.listing.specs.Runs.{memoryWords}
 use Rattle.listing.specs.Sheets.{Sheet, feed, fed}

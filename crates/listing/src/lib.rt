@@ -316,9 +316,9 @@ pub fn list_runs(pool: &[u32], shape: Shape, from: usize, runs: &mut [u32]) -> L
     if !table::shape_fits(shape, long) {
         return Listed::Refused(1);
     }
-    let seen = soundness::check_sound(pool, shape);
-    let ok = seen.ok;
-    if !ok {
+    let mut owners = [0u32; 72];
+    let sound = census::census(pool, shape, &mut owners);
+    if !sound {
         return Listed::Refused(6);
     }
     let n = list_domains(pool, shape, from, runs);

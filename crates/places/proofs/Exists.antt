@@ -12,15 +12,15 @@ use Rattle.theory.proofs.RightLaws.{by-cases}
 use Rattle.theory.proofs.SettledLaws.{wants-table}
 use Rattle.theory.proofs.FinishedLaws.{one-finished}
 use Rattle.words.specs.declared.Region.{Region}
-use Rattle.table.specs.Shape.{InRange}
+use Rattle.table.specs.Shape.{InRange, places}
 use Rattle.table.specs.Map.{addresses, form}
 use Rattle.table.specs.Wants.{WordRights}
-use Rattle.table.proofs.FormLaws.{places, lawful, exact}
+use Rattle.table.proofs.FormLaws.{lawful, exact}
 use Rattle.table.proofs.WantLaws.{wants-divided, divided-wants, wanting, pool-rights}
 use Rattle.places.specs.Count.{count, wantMiddle, wantLeaf, Room, changed}
 use Rattle.places.proofs.CountLaws.{count-into, count-all}
 use Rattle.places.proofs.KeepLaws.{owners}
-use Rattle.places.proofs.Final.{blocks, number, domainOf, addressOf, want, oldMiddle, oldLeaf, old, wasMiddle, wasLeaf, was, final}
+use Rattle.places.specs.Final.{blocks, number, domainOf, addressOf, want, oldMiddle, oldLeaf, old, wasMiddle, wasLeaf, was, final}
 use Rattle.places.proofs.NumberLaws.{number-below, number-first, want-number}
 use Rattle.places.proofs.OldLaws.{led-old, old-led, old-below, old-one}
 use Rattle.places.proofs.FinalLaws.{final-finished}

@@ -12,18 +12,18 @@ use Rattle.theory.specs.Finished.{Place, Before, Finished}
 use Rattle.theory.proofs.BlockLaws.{led-low}
 use Rattle.theory.proofs.Encodes.{Gets, Placing, Encodes, Fresh, Follows}
 use Rattle.theory.proofs.EncodesLaws.{gets-above, wants-gets, encodes-finished}
-use Rattle.table.specs.Shape.{InRange}
+use Rattle.table.specs.Shape.{InRange, places}
 use Rattle.table.specs.Map.{addresses, block, size, index, form}
 use Rattle.table.specs.Wants.{wantsOf, WordRights}
 use Rattle.table.proofs.EntryLaws.{index-below}
 use Rattle.table.proofs.BlockLaws.{block-together, together-block}
-use Rattle.table.proofs.FormLaws.{places, leads-place, place-leads, lawful, exact}
+use Rattle.table.proofs.FormLaws.{leads-place, place-leads, lawful, exact}
 use Rattle.table.proofs.WantLaws.{wants-divided, wants-says, wanting, tells-wants}
 use Rattle.places.specs.Count.{wantMiddle, wantLeaf}
-use Rattle.places.proofs.Owners.{seek, Owned}
+use Rattle.places.specs.Owners.{seek, Owned}
 use Rattle.places.proofs.OwnedLaws.{seek-owner, owner-seek, seek-apart, seek-keeps, seek-order, seek-lowest}
-use Rattle.places.proofs.Final.{blocks, number, domainOf, addressOf, want, either, oldMiddle, oldLeaf, old, wasMiddle, wasLeaf, was}
-use Rattle.places.proofs.Final.{placeAt, tableOf, place, entryWord, tableWord, final}
+use Rattle.places.specs.Final.{blocks, number, domainOf, addressOf, want, either, oldMiddle, oldLeaf, old, wasMiddle, wasLeaf, was}
+use Rattle.places.specs.Final.{placeAt, tableOf, place, entryWord, tableWord, final}
 use Rattle.places.proofs.NumberLaws.{number-below, number-same, number-of, number-order, page-number, root-number, address-index}
 use Rattle.places.proofs.NumberLaws.{offset-below, want-number, said-number, said-leaf}
 use Rattle.places.proofs.OldLaws.{place-one, place-less, place-order, led-old, not-led-old, old-at}

@@ -6,12 +6,11 @@ use mathlib.Core.Bool.{Bool, true, false, cond, not}
 use native.Mathlib.Omega.{arith}
 use native.Mathlib.Decide.{decLt}
 use borrow.Author.Tests.{lt-ltb, le-ltb}
-use Rattle.table.specs.Shape.{firstMiddle, firstLeaf, poolLength}
+use Rattle.table.specs.Shape.{firstMiddle, firstLeaf, poolLength, places}
 use Rattle.table.specs.Map.{size}
 use Rattle.table.specs.Wants.{saidOf}
-use Rattle.table.proofs.FormLaws.{places}
-use Rattle.places.proofs.Final.{blocks, number, domainOf, addressOf, want, either, placeAt, tableOf, place, entryWord, tableWord}
-use Rattle.places.proofs.Final.{placeWord, final, keptWord}
+use Rattle.places.specs.Final.{blocks, number, domainOf, addressOf, want, either, placeAt, tableOf, place, entryWord, tableWord}
+use Rattle.places.specs.Final.{placeWord, final, keptWord}
 
 module _ (D M L : ℕ) where
   -- Word `k` is entry `e` of place `p` of height `h`.

@@ -7,7 +7,7 @@ use native.Mathlib.Omega.{arith}
 use native.Mathlib.Decide.{ℕ-discrete, decLt}
 use Rattle.theory.proofs.RightLaws.{by-cases}
 use Rattle.places.specs.Count.{count}
-use Rattle.places.proofs.Owners.{fresh, Held, Owned, Handing}
+use Rattle.places.specs.Owners.{fresh, Held, Owned, Handing}
 use Rattle.places.proofs.CountLaws.{count-yes, count-none, count-less, count-flat, count-all, count-split, count-into}
 use Rattle.places.proofs.OwnedLaws.{fresh-is, fresh-wants, fresh-old, one-place, held-taken}
 

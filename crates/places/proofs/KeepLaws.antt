@@ -10,7 +10,7 @@ use borrow.Author.Tests.{eq-eqb, ne-eqb, lt-ltb, le-ltb}
 use Rattle.theory.proofs.RightLaws.{by-cases}
 use Rattle.table.proofs.ShapeLaws.{and-both}
 use Rattle.places.specs.Count.{count}
-use Rattle.places.proofs.Owners.{fresh, Owned, Handing, Keeping, vacant}
+use Rattle.places.specs.Owners.{fresh, Owned, Handing, Keeping, vacant}
 use Rattle.places.proofs.HandLaws.{hand-start, hand-skip, hand-take, hand-done, hand-full}
 
 -- One place given to `i`.

@@ -1,9 +1,7 @@
 pub mod CountLaws
-pub mod Owners
 pub mod OwnedLaws
 pub mod HandLaws
 pub mod KeepLaws
-pub mod Final
 pub mod NumberLaws
 pub mod OldLaws
 pub mod SameLaws

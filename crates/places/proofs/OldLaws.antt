@@ -11,8 +11,9 @@ use Rattle.theory.proofs.FinishedLaws.{led-place}
 use Rattle.table.specs.Map.{addresses, size, index, form}
 use Rattle.table.proofs.ShapeLaws.{and-both}
 use Rattle.table.proofs.BlockLaws.{together-block}
-use Rattle.table.proofs.FormLaws.{firstPlace, places, leads-place, lawful}
-use Rattle.places.proofs.Final.{blocks, number, domainOf, addressOf, entryOf, oldMiddle, oldLeaf, old, was, placeAt}
+use Rattle.table.specs.Shape.{firstPlace, places}
+use Rattle.table.proofs.FormLaws.{leads-place, lawful}
+use Rattle.places.specs.Final.{blocks, number, domainOf, addressOf, entryOf, oldMiddle, oldLeaf, old, was, placeAt}
 use Rattle.places.proofs.NumberLaws.{number-first, page-block, root-number}
 
 -- Places are numbered in order.

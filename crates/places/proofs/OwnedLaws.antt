@@ -7,7 +7,7 @@ use native.Mathlib.Decide.{ℕ-discrete, decLt}
 use borrow.Author.Tests.{eq-eqb, ne-eqb}
 use Rattle.theory.proofs.RightLaws.{by-cases}
 use Rattle.places.specs.Count.{count}
-use Rattle.places.proofs.Owners.{seek, fresh, Held, Owned}
+use Rattle.places.specs.Owners.{seek, fresh, Held, Owned}
 use Rattle.places.proofs.CountLaws.{count-mono, count-less, same-rank, ranked, count-all, count-into}
 
 -- A fresh block wants a table and had none.

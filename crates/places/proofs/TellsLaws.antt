@@ -15,17 +15,17 @@ use Rattle.theory.proofs.EncodesLaws.{visits-gets, gets-visits}
 use Rattle.theory.proofs.ReadyLaws.{kept-met}
 use Rattle.theory.specs.Phase.{phase, midway, Tells}
 use Rattle.theory.proofs.PhaseLaws.{phase-ready, midway-cut}
-use Rattle.table.specs.Shape.{InRange, firstMiddle}
+use Rattle.table.specs.Shape.{InRange, firstMiddle, places}
 use Rattle.table.specs.Map.{index, form}
 use Rattle.table.specs.Wants.{wantsOf, WordRights}
 use Rattle.table.proofs.EntryLaws.{index-below}
-use Rattle.table.proofs.FormLaws.{places, lawful, exact}
+use Rattle.table.proofs.FormLaws.{lawful, exact}
 use Rattle.table.proofs.WantLaws.{tells-wants}
 use Rattle.places.specs.Count.{wantMiddle, wantLeaf}
-use Rattle.places.proofs.Owners.{seek, Owned}
+use Rattle.places.specs.Owners.{seek, Owned}
 use Rattle.places.proofs.OwnedLaws.{held-taken, seek-keeps}
-use Rattle.places.proofs.Final.{blocks, number, want, either, oldMiddle, oldLeaf, old, wasMiddle, wasLeaf, was, placeAt, place}
-use Rattle.places.proofs.Final.{final, keptWord}
+use Rattle.places.specs.Final.{blocks, number, want, either, oldMiddle, oldLeaf, old, wasMiddle, wasLeaf, was, placeAt, place}
+use Rattle.places.specs.Final.{final, keptWord}
 use Rattle.places.proofs.NumberLaws.{number-below}
 use Rattle.places.proofs.OldLaws.{led-old, old-led}
 use Rattle.places.proofs.FinalWordLaws.{InPlace, which-word, place-table, kept-root, kept-place, kept-past}

@@ -12,7 +12,7 @@ use Rattle.table.proofs.WantLaws.{divided-wants, none-rights, painted-rights, w
 use Rattle.table.proofs.Witness.{painted, after, two-of-each-finished, MadeAt, two-of-each-made}
 use Rattle.places.specs.Count.{wantMiddle, wantLeaf, Room}
 use Rattle.places.proofs.CountLaws.{count-less}
-use Rattle.places.proofs.Final.{number, want}
+use Rattle.places.specs.Final.{number, want}
 use Rattle.places.proofs.NumberLaws.{want-number}
 use Rattle.places.proofs.Exists.{finished-fits}
 

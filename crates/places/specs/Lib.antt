@@ -1,1 +1,3 @@
 pub mod Count
+pub mod Owners
+pub mod Final

@@ -7,11 +7,11 @@ use lib.Dec.{leb, ltb}
 use borrow.Author.Tests.{leb-true, ltb-true, le-leb, lt-ltb}
 use Rattle.table.specs.declared.Shape.{Shape}
 use Rattle.table.specs.Map.{size}
-use Rattle.table.proofs.FormLaws.{places}
+use Rattle.table.specs.Shape.{places}
 use Rattle.table.proofs.ShapeLaws.{and-both}
-use Rattle.places.proofs.Owners.{seek}
+use Rattle.places.specs.Owners.{seek}
 use Rattle.places.proofs.OwnedLaws.{seek-owner, owner-seek}
-use Rattle.places.proofs.Final.{blocks, want, either, old, placeAt}
+use Rattle.places.specs.Final.{blocks, want, either, old, placeAt}
 use Rattle.places.proofs.FinalWordLaws.{InPlace, entry-leads}
 use Rattle.targets.specs.declared.Paint.{Paint}
 use Rattle.plan.specs.declared.Edge.{Edge}

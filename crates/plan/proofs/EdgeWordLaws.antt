@@ -17,7 +17,7 @@ use Rattle.table.specs.Wants.{saidOf}
 use Rattle.table.proofs.BlockLaws.{block-together}
 use Rattle.table.proofs.FormLaws.{lawful}
 use Rattle.table.proofs.WantLaws.{wants-says, wants-leaf}
-use Rattle.places.proofs.Final.{blocks, domainOf, addressOf, either, old, entryWord, tableWord, final}
+use Rattle.places.specs.Final.{blocks, domainOf, addressOf, either, old, entryWord, tableWord, final}
 use Rattle.places.proofs.FinalWordLaws.{InPlace, final-place, place-owned}
 use Rattle.places.proofs.ChangedLaws.{changed-uncovered}
 use Rattle.targets.specs.declared.Paint.{Paint}

@@ -12,9 +12,9 @@ use Rattle.theory.specs.Settled.{Settled}
 use Rattle.theory.proofs.RightLaws.{by-cases}
 use Rattle.table.specs.declared.Shape.{Shape}
 use Rattle.table.specs.Map.{formOf}
-use Rattle.places.proofs.Owners.{fresh}
+use Rattle.places.specs.Owners.{fresh}
 use Rattle.places.proofs.OwnedLaws.{fresh-wants, fresh-old}
-use Rattle.places.proofs.Final.{blocks, domainOf, want, old}
+use Rattle.places.specs.Final.{blocks, domainOf, want, old}
 use Rattle.places.proofs.ChangedLaws.{changed-uncovered, changed-other}
 use Rattle.targets.specs.declared.Paint.{Paint}
 use Rattle.targets.specs.Targets.{region}

@@ -13,16 +13,15 @@ use borrow.Author.Tests.{eq-eqb, ne-eqb, lt-ltb}
 use Rattle.theory.proofs.RightLaws.{by-cases}
 use Rattle.words.specs.Rights.{rightAt, eightOf}
 use Rattle.table.specs.declared.Shape.{Shape}
-use Rattle.table.specs.Shape.{InRange}
+use Rattle.table.specs.Shape.{InRange, firstPlace, places}
 use Rattle.table.specs.Wants.{saidOf}
 use Rattle.table.proofs.ShapeLaws.{and-both}
-use Rattle.table.proofs.FormLaws.{firstPlace, places}
 use Rattle.places.specs.Count.{count}
-use Rattle.places.proofs.Owners.{seek, fresh, Owned, Handing}
+use Rattle.places.specs.Owners.{seek, fresh, Owned, Handing}
 use Rattle.places.proofs.OwnedLaws.{fresh-wants, fresh-old, owner-seek, seek-keeps}
 use Rattle.places.proofs.HandLaws.{hand-skip, hand-skip-to, hand-take, hand-done, hand-full}
 use Rattle.places.proofs.OldLaws.{old-at}
-use Rattle.places.proofs.Final.{blocks, domainOf, addressOf, want, entryOf, old, was, placeAt}
+use Rattle.places.specs.Final.{blocks, domainOf, addressOf, want, entryOf, old, was, placeAt}
 use Rattle.targets.specs.declared.Paint.{Paint}
 use Rattle.plan.specs.declared.Edge.{Edge}
 use Rattle.plan.specs.declared.Taken.the-variants.{At, None}

@@ -13,15 +13,14 @@ use Rattle.theory.specs.Pool.{words}
 use Rattle.theory.specs.Settled.{Settled}
 use Rattle.theory.proofs.RightLaws.{by-cases}
 use Rattle.table.specs.declared.Shape.{Shape}
-use Rattle.table.specs.Shape.{Fits}
+use Rattle.table.specs.Shape.{Fits, places}
 use Rattle.table.specs.Map.{formOf}
 use Rattle.table.proofs.ShapeLaws.{and-both}
-use Rattle.table.proofs.FormLaws.{places}
-use Rattle.places.proofs.Owners.{Handing, vacant}
+use Rattle.places.specs.Owners.{Handing, vacant}
 use Rattle.places.proofs.KeepLaws.{keep-done}
 use Rattle.places.proofs.OldLaws.{old-below, old-one}
-use Rattle.places.proofs.Final.{blocks, want, old, was}
-use Rattle.soundness.proofs.PlaceLaws.{firstNumber}
+use Rattle.places.specs.Final.{blocks, want, old, was}
+use Rattle.census.specs.Places.{firstNumber}
 use Rattle.census.specs.Tally.{none}
 use Rattle.census.specs.Census.{Owners}
 use Rattle.census.proofs.OwnerLaws.{was-owner, was-taken, owner-stands}

@@ -10,7 +10,7 @@ use Rattle.theory.proofs.RightLaws.{by-cases, right-down, right-says}
 use Rattle.words.specs.Rights.{rightAt, eightOf}
 use Rattle.words.proofs.RightsLaws.{right-small, eight-right}
 use Rattle.table.specs.Map.{addresses, block, part, index, form}
-use Rattle.places.proofs.Final.{blocks, old}
+use Rattle.places.specs.Final.{blocks, old}
 use Rattle.plan.specs.Plan.{isLead}
 use Rattle.plan.specs.Edges.{entryAt}
 

@@ -10,7 +10,7 @@ use Rattle.table.specs.declared.Shape.{Shape}
 use Rattle.table.specs.Shape.{InRange, firstMiddle, firstLeaf}
 use Rattle.table.specs.Map.{formOf}
 use Rattle.places.specs.Count.{count, Room}
-use Rattle.places.proofs.Final.{want}
+use Rattle.places.specs.Final.{want}
 use Rattle.targets.specs.declared.Paint.{Paint}
 use Rattle.plan.specs.declared.Edge.{Edge}
 use Rattle.plan.specs.declared.Plan.{Plan}

@@ -17,7 +17,7 @@ use Rattle.table.specs.declared.Shape.{Shape}
 use Rattle.table.specs.Shape.{Fits, poolLength}
 use Rattle.table.specs.Map.{formOf, size}
 use Rattle.table.proofs.ShapeLaws.{and-both}
-use Rattle.places.proofs.Final.{blocks, domainOf, either, old, entryWord, tableWord, final, keptWord}
+use Rattle.places.specs.Final.{blocks, domainOf, either, old, entryWord, tableWord, final, keptWord}
 use Rattle.places.proofs.FinalWordLaws.{InPlace, which-word, final-root, final-place, final-past, place-idle, kept-root, kept-place}
 use Rattle.places.proofs.FinalLaws.{final-finished}
 use Rattle.places.proofs.TellsLaws.{final-tells}

@@ -9,14 +9,13 @@ use Rattle.theory.specs.Pool.{rightOf}
 use Rattle.theory.proofs.RightLaws.{by-cases}
 use Rattle.words.specs.Rights.{eightOf}
 use Rattle.table.specs.declared.Shape.{Shape}
-use Rattle.table.specs.Shape.{InRange}
+use Rattle.table.specs.Shape.{InRange, places}
 use Rattle.table.specs.Map.{formOf}
 use Rattle.table.specs.Wants.{WordRights}
-use Rattle.table.proofs.FormLaws.{places}
 use Rattle.table.proofs.WantLaws.{wants-says, pool-rights}
-use Rattle.places.proofs.Owners.{Owned}
+use Rattle.places.specs.Owners.{Owned}
 use Rattle.places.proofs.OwnedLaws.{seek-owner}
-use Rattle.places.proofs.Final.{blocks, domainOf, addressOf, want, either, old, was, placeAt, tableOf, entryWord}
+use Rattle.places.specs.Final.{blocks, domainOf, addressOf, want, either, old, was, placeAt, tableOf, entryWord}
 use Rattle.places.proofs.NumberLaws.{number-first}
 use Rattle.places.proofs.ChangedLaws.{changed-rights}
 use Rattle.places.proofs.FinalWordLaws.{entry-leads, entry-says}

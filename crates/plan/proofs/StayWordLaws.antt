@@ -13,7 +13,7 @@ use Rattle.table.specs.Wants.{saidOf, wantsOf}
 use Rattle.table.proofs.BlockLaws.{block-above}
 use Rattle.table.proofs.FormLaws.{lawful}
 use Rattle.table.proofs.WantLaws.{wants-unsaid, says-said, pool-rights}
-use Rattle.places.proofs.Final.{blocks, domainOf, addressOf, want, either, old, placeAt, entryOf, entryWord, tableWord}
+use Rattle.places.specs.Final.{blocks, domainOf, addressOf, want, either, old, placeAt, entryOf, entryWord, tableWord}
 use Rattle.places.proofs.NumberLaws.{number-first, number-of, offset-below, address-index, root-number}
 use Rattle.places.proofs.OldLaws.{led-old, old-led, old-at}
 use Rattle.places.proofs.OwnedLaws.{seek-keeps}

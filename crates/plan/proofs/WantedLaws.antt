@@ -11,7 +11,7 @@ use Rattle.table.specs.declared.Shape.{Shape}
 use Rattle.table.specs.Map.{block, formOf}
 use Rattle.table.proofs.WantLaws.{pool-rights}
 use Rattle.places.proofs.Exists.{settled-middle, settled-leaf}
-use Rattle.places.proofs.Final.{blocks, domainOf, addressOf, want, old}
+use Rattle.places.specs.Final.{blocks, domainOf, addressOf, want, old}
 use Rattle.places.proofs.NumberLaws.{number-first}
 use Rattle.targets.specs.declared.Paint.{Paint}
 use Rattle.plan.specs.Aims.{aims}

@@ -10,14 +10,13 @@ use Rattle.theory.specs.Pool.{words}
 use Rattle.words.specs.Rights.{rightAt, eightOf}
 use Rattle.table.specs.declared.Shape.{Shape}
 use Rattle.theory.specs.Settled.{Settled}
-use Rattle.table.specs.Shape.{InRange}
+use Rattle.table.specs.Shape.{InRange, firstPlace, places}
 use Rattle.table.specs.Map.{block, size, formOf}
 use Rattle.table.specs.Wants.{saidOf}
-use Rattle.table.proofs.FormLaws.{firstPlace, places}
 use Rattle.places.specs.Count.{count, Room}
-use Rattle.places.proofs.Owners.{seek, Owned, Keeping}
-use Rattle.places.proofs.Final.{blocks, domainOf, addressOf, want, old, was, placeAt, entryWord}
-use Rattle.soundness.proofs.PlaceLaws.{firstNumber}
+use Rattle.places.specs.Owners.{seek, Owned, Keeping}
+use Rattle.places.specs.Final.{blocks, domainOf, addressOf, want, old, was, placeAt, entryWord}
+use Rattle.census.specs.Places.{firstNumber}
 use Rattle.census.specs.Tally.{none}
 use Rattle.targets.specs.declared.Paint.{Paint}
 use Rattle.targets.specs.declared.Target.{Target}

@@ -2,8 +2,7 @@
 ghost use mathlib.Core.Path.{_≡_};
 ghost use Prim.Native.Nat.{_+_, _≤_};
 ghost use lib.ListN.{length};
-ghost use Rattle.soundness.specs.Places.{maxPlaces};
-ghost use Rattle.soundness.proofs.PlaceLaws.{firstNumber};
+ghost use Rattle.census.specs.Places.{maxPlaces, firstNumber};
 ghost use Rattle.plan.specs.Edges.{staysOf, ownerStays, Marked};
 use crate::Edge;
 use crate::Marks;

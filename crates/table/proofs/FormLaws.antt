@@ -12,7 +12,7 @@ use Rattle.theory.specs.Lawful.{Lawful, Exact}
 use Rattle.theory.proofs.RightLaws.{by-cases}
 use Rattle.words.specs.Rights.{rightAt, goodRights}
 use Rattle.words.proofs.RightsLaws.{good-low, digits-equal, good-digits-equal}
-use Rattle.table.specs.Shape.{firstMiddle, firstLeaf}
+use Rattle.table.specs.Shape.{firstMiddle, firstLeaf, firstPlace, places}
 use Rattle.table.specs.Map.{addresses, block, part, parts, size, index, leads, isPlace, good, zone, form}
 use Rattle.table.specs.Wants.{wordAt, wordsIn}
 use Rattle.table.proofs.BlockLaws.{block-together, first-word, word-below, word-block, word-number, entryAt, entry-below}
@@ -44,18 +44,9 @@ nth-place from long n p b h =
     (eq-eqb _ 0 (ap (λ x. x % long) (add-sub-cancel-left from (long * p)) ∙ mul-mod-right long p))
 
 module _ (D M L : ℕ) where
-  -- Where the places of tables of a height begin, and how many they are.
-  abbrev pub firstPlace : ℕ → ℕ
-  firstPlace zero = firstLeaf D M
-  firstPlace (suc h) = firstMiddle D
-
-  abbrev pub places : ℕ → ℕ
-  places zero = L
-  places (suc h) = M
-
   -- A good entry that leads is the first word of a place one height below ..
   pub leads-place : (h w : ℕ) → good D M L (suc h) w ≡ true → leads (suc h) w ≡ true
-      → (h < 2) × (p : ℕ) × (p < places h) × (w ≡ firstPlace h + size h * p)
+      → (h < 2) × (p : ℕ) × (p < places D M L h) × (w ≡ firstPlace D M L h + size h * p)
   leads-place zero w g l =
       let (p, b, e) = place-nth (firstLeaf D M) 64 L w (omega arith) (rw l at g) in
       (omega arith, p, b, e)
@@ -65,8 +56,8 @@ module _ (D M L : ℕ) where
   leads-place (suc (suc h)) w g l = absurd (false≢true g)
 
   -- .. and each such word below 2^31 is one.
-  pub place-leads : (h p : ℕ) → h < 2 → p < places h → firstPlace h + size h * p < 2147483648
-      → (good D M L (suc h) (firstPlace h + size h * p) ≡ true) × (leads (suc h) (firstPlace h + size h * p) ≡ true)
+  pub place-leads : (h p : ℕ) → h < 2 → p < places D M L h → firstPlace D M L h + size h * p < 2147483648
+      → (good D M L (suc h) (firstPlace D M L h + size h * p) ≡ true) × (leads (suc h) (firstPlace D M L h + size h * p) ≡ true)
   place-leads zero p hi b low =
       let l = lt-ltb (firstLeaf D M + 64 * p) 2147483648 low in
       (rw l (nth-place (firstLeaf D M) 64 L p (omega arith) b), l)
@@ -105,7 +96,7 @@ module _ (D M L : ℕ) where
   zone-leaf : (i : ℕ) → firstLeaf D M ≤ i → zone D M L i ≡ 0
   zone-leaf i h = rw (le-ltb i (firstMiddle D) (omega arith), le-ltb i (firstLeaf D M) h)
 
-  zone-place : (h p i : ℕ) → h < 2 → p < places h → i < size h → zone D M L (firstPlace h + size h * p + i) ≡ h
+  zone-place : (h p i : ℕ) → h < 2 → p < places D M L h → i < size h → zone D M L (firstPlace D M L h + size h * p + i) ≡ h
   zone-place zero p i hi b c = zone-leaf _ (omega arith)
   zone-place (suc zero) p i hi b c = zone-middle _ (omega arith) (omega arith)
   zone-place (suc (suc h)) p i hi b c = absurd (omega arith)
@@ -125,7 +116,7 @@ module _ (D M L : ℕ) where
     target-apart = λ h w i x j g l k m b c e.
         let (_, p, _, f) = leads-place h w g l in
         let (_, q, _, s) = leads-place h x k m in
-        f ∙ places-apart h (firstPlace h) p i q j b c (ap (λ y. y + i) (sym f) ∙ e ∙ ap (λ y. y + j) s) ∙ sym s;
+        f ∙ places-apart h (firstPlace D M L h) p i q j b c (ap (λ y. y + i) (sym f) ∙ e ∙ ap (λ y. y + j) s) ∙ sym s;
   }
 
   -- Rights and places settle the words.

@@ -1,5 +1,5 @@
 -- The shape of a pool: how many roots, middle places and leaf places it has, and where they begin.
-use Prim.Native.Nat.{ℕ, _+_, _*_, _≤_}
+use Prim.Native.Nat.{ℕ, zero, suc, _+_, _*_, _≤_}
 use mathlib.Core.Path.{_≡_}
 use mathlib.Core.Bool.{Bool, _&&_}
 use mathlib.Core.List.{List}
@@ -26,6 +26,15 @@ firstMiddle D = 1024 * D
 -- The pool word where the leaf places begin: after M middle places of 1,024 words.
 abbrev pub firstLeaf : ℕ → ℕ → ℕ
 firstLeaf D M = 1024 * D + 1024 * M
+
+-- Where the places for tables of a height begin, and how many they are.
+abbrev pub firstPlace : (D M L : ℕ) → ℕ → ℕ
+firstPlace D M L zero = firstLeaf D M
+firstPlace D M L (suc h) = firstMiddle D
+
+abbrev pub places : (D M L : ℕ) → ℕ → ℕ
+places D M L zero = L
+places D M L (suc h) = M
 
 -- The length of the pool: L leaf places of 64 words come last.
 abbrev pub poolLength : ℕ → ℕ → ℕ → ℕ

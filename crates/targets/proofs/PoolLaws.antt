@@ -11,7 +11,7 @@ use Rattle.theory.proofs.RightLaws.{by-cases, right-down, right-says}
 use Rattle.words.specs.Rights.{rightAt, goodRights, eightOf}
 use Rattle.words.proofs.RightsLaws.{right-small, eight-right, eight-good}
 use Rattle.table.specs.declared.Shape.{Shape}
-use Rattle.table.specs.Shape.{Fits}
+use Rattle.table.specs.Shape.{Fits, firstPlace, places}
 use Rattle.table.specs.Map.{block, part, parts, size, index, leads, form, formOf}
 use Rattle.table.proofs.FormLaws.{leads-place, good-eight}
 use Rattle.table.proofs.FormLaws as FormLaws
@@ -66,8 +66,8 @@ module _ (s : Shape) (p : List ℕ) (f : Fits s (length p)) (q : SoundPool (form
       let (hi, n, b, e) = leads-place (s .domains) (s .middles) (s .leaves) h (words p k) (q .good r) l in
       inside h hi n b e
     where
-      inside : (h : ℕ) → h < 2 → (n : ℕ) → n < FormLaws.places (s .domains) (s .middles) (s .leaves) h
-          → words p k ≡ FormLaws.firstPlace (s .domains) (s .middles) (s .leaves) h + size h * n → words p k + size h ≤ length p
+      inside : (h : ℕ) → h < 2 → (n : ℕ) → n < places (s .domains) (s .middles) (s .leaves) h
+          → words p k ≡ firstPlace (s .domains) (s .middles) (s .leaves) h + size h * n → words p k + size h ≤ length p
       inside zero hi n b e = omega (arith, f .long)
       inside (suc zero) hi n b e = omega (arith, f .long)
       inside (suc (suc h)) hi n b e = absurd (omega arith)

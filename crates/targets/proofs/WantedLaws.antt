@@ -19,10 +19,10 @@ use Rattle.table.specs.Map.{addresses, block, formOf}
 use Rattle.table.specs.Wants.{wantsOf, WordRights}
 use Rattle.table.proofs.ShapeLaws.{and-both}
 use Rattle.table.proofs.WantLaws.{wants-block, wants-up, pool-rights}
-use Rattle.places.proofs.Final.{blocks, domainOf, entryOf, oldMiddle, old, want}
+use Rattle.places.specs.Final.{blocks, domainOf, entryOf, oldMiddle, old, want}
 use Rattle.places.proofs.Exists as Exists
-use Rattle.soundness.specs.Places.{maxPlaces, placeHeight, placeWord}
-use Rattle.soundness.proofs.PlaceLaws.{middle-number, leaf-number}
+use Rattle.census.specs.Places.{maxPlaces, placeHeight, placeWord}
+use Rattle.census.proofs.PlaceLaws.{middle-number, leaf-number}
 use Rattle.census.specs.Tally.{none, taken}
 use Rattle.census.specs.Census.{StandsAt, Owners}
 use Rattle.census.proofs.CensusLaws.{place-low, old-reached}

@@ -9,7 +9,7 @@ use Rattle.words.specs.Rights.{rightAt, goodRights}
 use Rattle.table.specs.Shape.{maxMiddles}
 use Rattle.table.specs.Map.{block, leads}
 use Rattle.table.specs.Wants.{wordsIn}
-use Rattle.soundness.specs.Places.{maxPlaces}
+use Rattle.census.specs.Places.{maxPlaces}
 use Rattle.targets.specs.Targets.{painted, given, targetOf, Gives}
 use Rattle.targets.specs.declared.Paint.{Paint}
 use Rattle.targets.specs.declared.Cover.{Cover}

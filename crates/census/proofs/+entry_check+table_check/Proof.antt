@@ -14,9 +14,9 @@ use Rattle.theory.specs.Pool.{words}
 use Rattle.table.specs.declared.Entry.the-variants.{Leads}
 use Rattle.table.specs.Entries.{decodeOf}
 use Rattle.table.proofs.EntryLaws.{decoded-leads}
-use Rattle.soundness.specs.Places.{maxPlaces}
-use Rattle.soundness.proofs.PlaceLaws.{decoded-place}
-use Rattle.soundness.proofs.SeenLaws.{upper-size}
+use Rattle.census.specs.Places.{maxPlaces}
+use Rattle.census.proofs.PlaceLaws.{decoded-place}
+use Rattle.census.proofs.TallyLaws.{upper-size}
 use Rattle.census.specs.Tally.{Tally, through, entryTally, tableTally}
 use Rattle.census.proofs.TallyLaws.{answers-owned, answers-refused, same-answers, owned-answers, refused-answers}
 use Rattle.census.proofs.TallyLaws.{through-step, through-stop, through-pass, through-start, through-end, table-leaf, table-through}

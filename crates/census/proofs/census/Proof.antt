@@ -7,7 +7,7 @@ use borrow.Author.Needs.{needs}
 use borrow.Author.Tests.{not-true, not-false}
 use lib.ListN.{length, replicate, length-replicate}
 use Rattle.theory.specs.Pool.{words}
-use Rattle.soundness.specs.Places.{maxPlaces}
+use Rattle.census.specs.Places.{maxPlaces}
 use Rattle.census.specs.Tally.{none, owned, tableTally, rootsTally}
 use Rattle.census.proofs.TallyLaws.{answers-owned, answers-refused, roots-next, roots-refused}
 use Rattle.census.proofs.CensusLaws.{fine-census, failed-census}

@@ -16,8 +16,8 @@ use Rattle.table.specs.Shape.{Fits}
 use Rattle.table.specs.Map.{size, index, part, parts, leads, formOf}
 use Rattle.table.specs.Entries.{decodeOf}
 use Rattle.table.proofs.EntryLaws.{index-below, decoded-bad, decoded-rights, decoded-leads}
-use Rattle.soundness.specs.Places.{InUse}
-use Rattle.soundness.proofs.PlaceLaws.{PlaceAt, decoded-place, led-room}
+use Rattle.census.specs.Places.{InUse}
+use Rattle.census.proofs.PlaceLaws.{PlaceAt, decoded-place, led-room}
 
 -- The roots reach word `k`, as an entry of the height `h`.
 abbrev pub Reached : List ℕ → Shape → ℕ → ℕ → Type 0

@@ -10,17 +10,12 @@ use Rattle.theory.proofs.RightLaws.{by-cases}
 use Rattle.words.specs.declared.PoolWord.{PoolWord}
 use Rattle.table.specs.declared.Shape.{Shape}
 use Rattle.table.specs.declared.Entry.the-variants.{Leads, Bad}
-use Rattle.table.specs.Shape.{InRange, maxMiddles, poolLength}
+use Rattle.table.specs.Shape.{InRange, maxMiddles, poolLength, firstPlace, places}
 use Rattle.table.specs.Map.{isPlace, size, leads, formOf}
 use Rattle.table.specs.Entries.{leadsTo, decodeOf}
-use Rattle.table.proofs.FormLaws.{firstPlace, places, leads-place}
+use Rattle.table.proofs.FormLaws.{leads-place}
 use Rattle.table.proofs.EntryLaws.{decode-middle, decode-root, decoded-leads}
-use Rattle.soundness.specs.Places.{maxPlaces, placeHeight, placeWord}
-
--- The number of the first place for tables of a height.
-abbrev pub firstNumber : ℕ → ℕ
-firstNumber zero = maxMiddles
-firstNumber (suc h) = 0
+use Rattle.census.specs.Places.{maxPlaces, placeHeight, firstNumber, placeWord}
 
 bad-leads : {t : PoolWord} {n : ℕ} → Bad ≡ Leads t n → ⊥
 bad-leads e = let z : _≡_ {A = ℕ} 0 1 = cc in omega arith

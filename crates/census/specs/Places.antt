@@ -1,5 +1,5 @@
 -- The places of a pool by number, as a decoded entry names them: the middle places from 0 on, the leaf places from 8 on.
-use Prim.Native.Nat.{ℕ, suc, _+_, _*_, _-_}
+use Prim.Native.Nat.{ℕ, zero, suc, _+_, _*_, _-_}
 use mathlib.Core.Path.{_≡_}
 use mathlib.Core.Bool.{true, cond}
 use mathlib.Core.List.{List}
@@ -16,6 +16,11 @@ maxPlaces = maxMiddles + maxLeaves
 -- The height of the tables that place `n` is for.
 abbrev pub placeHeight : ℕ → ℕ
 placeHeight n = cond (ltb n maxMiddles) 1 0
+
+-- The number of the first place for tables of a height.
+abbrev pub firstNumber : ℕ → ℕ
+firstNumber zero = maxMiddles
+firstNumber (suc h) = 0
 
 -- The pool word where place `n` begins.
 abbrev pub placeWord : Shape → ℕ → ℕ

@@ -3,11 +3,10 @@
 use Prim.Native.Nat.{ℕ, zero, suc, _+_, _*_, _-_, _/_, _%_}
 use mathlib.Core.Bool.{Bool, true, false, cond, _&&_, not}
 use lib.Dec.{ltb}
-use Rattle.table.specs.Shape.{firstMiddle, firstLeaf, poolLength}
+use Rattle.table.specs.Shape.{firstMiddle, firstLeaf, poolLength, firstPlace, places}
 use Rattle.table.specs.Map.{block, size}
 use Rattle.table.specs.Wants.{wantsOf, saidOf}
-use Rattle.table.proofs.FormLaws.{firstPlace, places}
-use Rattle.places.proofs.Owners.{seek}
+use Rattle.places.specs.Owners.{seek}
 
 -- How many blocks a domain has that may want a table of height `h`: pages, and 4 MB blocks.
 abbrev pub blocks : ℕ → ℕ
