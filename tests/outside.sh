@@ -1,5 +1,5 @@
 #!/usr/bin/env bash
-# The library from outside, on what the proof built: the C example with its expected output, and the tests of the Rust workspace,
+# The library from outside, on what the proof built: the C examples with their expected outputs, and the tests of the Rust workspace,
 # which compare the library with an independent model. The last line counts them, 'outside: N passed, M failed'.
 set -u
 cd "$(dirname "$0")/.." || exit 1
@@ -66,6 +66,8 @@ workspace() {
 library
 example first_steps
 example brown_out
+example day_of_a_module
+example no_results
 workspace
 
 echo "outside: $passed passed, $failed failed"
