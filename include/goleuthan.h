@@ -12,14 +12,14 @@
  * multiple of 4, and its words are the caller's to lend: readable, and for a pointer that is not const writable, for
  * as long as the call runs. Where the length is 0 the pointer is not used, and may be NULL. Two memories lent to one
  * call do not overlap, unless both are const. No other thread writes a lent memory, or reads one that is not const,
- * during the call. No call asks for more; what a check and a reset are worth rests on BUFFERS and STORES below, too.
+ * during the call. No call asks for more; BUFFERS and STORES below say what checks and recovery rest on besides.
  *
  * THE POOL holds D roots of 1,024 words, then M middle places of 1,024 words, then L leaf places of 64 words, with D 1
  * to 4, M 0 to 8 and L 0 to 64. `words` is exactly 1024*D + 1024*M + 64*L, which is GOL_POOL_WORDS(d, m, l). The pool
  * does not hold D, M and L: give each call the same three that it was made fresh with.
  *
  * RESULTS go into the lent words `out`, in the order given at each call, as many of them as `out_len` has room for.
- * Words of `out` past the results stay as they were. An `out_len` of 0 asks for no result.
+ * Words of `out` past the results stay as they were. An `out_len` of 0 asks for no result; `out` may be NULL then.
  *
  * NUMBERS. Each call returns 0 where it is done, or one of the numbers below. Each call names the numbers that it may
  * return, in their order: where several fit, the first is returned. On every refusal, that is on every number but 0 and
@@ -56,16 +56,17 @@
  *   current domain is an empty stack.
  *
  * BUFFERS AND THEIR POOL. A slot that matches answers without a look at the pool. So that it says what the pool says:
- *   - a buffer serves one pool of one shape: the same pool, D, M and L at every check. Empty it before another;
+ *   - a buffer serves one pool of one shape: the same pool, D, M and L at every check. To serve another, empty it;
  *   - gol_fresh makes every buffer of the pool stale, and so does a reset: empty them all;
- *   - gol_change, done or cut, makes each slot of its domain stale whose block meets its region: flush that region
- *     (gol_flush_region) in every buffer of the pool before the next check. A refusal and gol_tidy need none;
+ *   - gol_change, done or cut, may make each slot of its domain stale whose block meets its region: flush that region
+ *     (gol_flush_region) in every buffer of the pool before the next check. A refusal and gol_tidy need no flush;
  *   - whatever but these calls writes the pool's memory, or the buffer's, makes the buffer stale: empty it.
  * A stale slot gives verdicts by rights that the pool no longer gives. gol_flush_all empties a buffer; zeros do too.
  *
  * STORES. gol_change and gol_tidy write each word of the pool by a single aligned 32-bit store, one after the other in
  * program order, and what RECOVERY says holds after each of them. gol_fresh writes in any order and width. The box must
- * see to it that they reach the memory that keeps the pool without power: each whole, one by one, in this order.
+ * see to it that the stores of a change or a tidying reach the memory that keeps the pool without power: each whole,
+ * one by one, in this order.
  *   - On a microcontroller without a cache or write buffer before that memory nothing is needed, but that the write of
  *     a word is all or nothing when the power goes. A bus or memory that takes a word in halves does not give that.
  *   - With a cache or a write buffer before it, map the pool uncached, or write-through where no write joins or

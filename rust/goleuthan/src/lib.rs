@@ -1,8 +1,8 @@
 //! A safe face of Goleuthan, the proved table of word-level rights, for Rust.
 //!
 //! The pool is the caller's memory, borrowed as a slice of words for as long as a [`Table`] lives. Nothing is kept
-//! elsewhere, and nothing allocated but the list that [`Table::runs`] gives. What the memory owes so that the table
-//! outlives a loss of power is told in `include/goleuthan.h`, and what a buffer's user owes at [`LookasideBuffer`].
+//! elsewhere, and only [`Table::runs`] allocates. What the memory must do for the table to outlive a loss of power is
+//! told in `include/goleuthan.h`, and what a buffer's user owes at [`LookasideBuffer`].
 //!
 //! ```
 //! use goleuthan::{Answer, Request, Right, Shape, Table};
