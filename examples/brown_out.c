@@ -1,10 +1,12 @@
 /*
  * A brown-out, told: a supervisor gives two modules their rights, loses power in the middle of a change, and goes on.
  *
- * Domain 0 is a radio, domain 1 a logger. The radio owns a ring of packets, which the logger may read, and has a block of
- * settings of which it may write one word. The supervisor lets the ring grow over the settings and beyond. All places for
- * tables are in use, so the change must give up the table of the settings, write a new one where it stood, and only then
- * lead to it. The power goes while it writes.
+ * Domain 0 is a radio, domain 1 a logger. The radio owns a ring of packets, which the logger may read, and has a block
+ * of settings: it may write the first 512 KB of them, but for one locked word, and read the others. The supervisor
+ * lets the ring grow over all that the radio may write, the locked word too, and a little beyond. All places for
+ * tables are in use, so the change must give up the leaf of the locked word, write a new leaf where it stood, and only
+ * then lead to it. The power goes while it writes. No 512 KB of the settings has two rights then, so their middle
+ * table is not wanted: the pool is sound but not settled, and is tidied before the change is made again.
  */
 #include "goleuthan.h"
 
@@ -15,8 +17,8 @@
 enum { D = 2, M = 3, L = 3, POOL = GOL_POOL_WORDS(D, M, L), RADIO = 0, LOGGER = 1 };
 
 static const uint32_t CODE = 0x00000000, CODE_LENGTH = 0x80000;
-static const uint32_t RING = 0x203FFF80, SHORT_RING = 0x80, LONG_RING = 0x800280;
-static const uint32_t SETTINGS = 0x20400000, SETTINGS_LENGTH = 0x400000, SETTING = 0x20500000;
+static const uint32_t RING = 0x203FFF80, SHORT_RING = 0x80, LONG_RING = 0x80840;
+static const uint32_t SETTINGS = 0x20400000, SETTINGS_LENGTH = 0x400000, WRITABLE = 0x80000, LOCKED = 0x20410000;
 static const uint32_t ENOUGH = 0xFFFFFFFF;
 
 static const char *const RIGHTS[] = {"none", "read", "read and write", "execute and read"};
@@ -62,7 +64,8 @@ static int shown(const uint32_t *cut, uint32_t address) {
 /* Cuts the change after every number of stores, on copies, and looks up words around every edge. */
 static uint32_t try_every_cut(void) {
     static uint32_t copy[POOL];
-    const uint32_t edges[] = {RING, SETTINGS, SETTING, SETTINGS + SETTINGS_LENGTH, 0x20C00000, RING + LONG_RING};
+    const uint32_t past = SETTINGS + SETTINGS_LENGTH;
+    const uint32_t edges[] = {RING, SETTINGS, LOCKED, SETTINGS + WRITABLE, RING + LONG_RING, past};
     uint32_t stores = 0, seen_old = 0, seen_new = 0;
     memcpy(copy, pool, sizeof pool);
     must(grow(copy, ENOUGH, &stores) == GOL_DONE, "there is room for the change");
@@ -91,10 +94,10 @@ static void show(const char *where, uint32_t address) {
 static void show_all(void) {
     show("the ring as it was", RING);
     show("the settings", SETTINGS);
-    show("the one setting", SETTING);
-    show("past the settings", SETTINGS + SETTINGS_LENGTH);
+    show("the locked word", LOCKED);
     show("the long ring's last word", RING + LONG_RING - 4);
     show("past the long ring", RING + LONG_RING);
+    show("past the settings", SETTINGS + SETTINGS_LENGTH);
 }
 
 static void list(void) {
@@ -106,7 +109,7 @@ static void list(void) {
                RIGHTS[runs[4 * i + 3]]);
 }
 
-int main(void) {
+static void set_rights(void) {
     printf("The supervisor makes a fresh table of %u words and sets rights:\n", (unsigned)POOL);
     must(gol_fresh(pool, POOL, D, M, L) == GOL_DONE, "a fresh pool");
     grant(RADIO, CODE, CODE_LENGTH, GOL_EXECUTE);
@@ -114,24 +117,38 @@ int main(void) {
     grant(RADIO, RING, SHORT_RING, GOL_WRITE);
     grant(LOGGER, RING, SHORT_RING, GOL_READ);
     grant(RADIO, SETTINGS, SETTINGS_LENGTH, GOL_READ);
-    grant(RADIO, SETTING, 4, GOL_WRITE);
+    grant(RADIO, SETTINGS, WRITABLE, GOL_WRITE);
+    grant(RADIO, LOCKED, 4, GOL_READ);
     show_all();
+}
 
-    printf("The ring is to grow from %u to %u bytes. What a loss of power could do:\n", SHORT_RING, LONG_RING);
-    uint32_t stores = try_every_cut();
-
-    uint32_t allowance = stores - 2, none;
+/* Makes the change up to the store after which the power goes. */
+static void lose_power(uint32_t allowance) {
+    uint32_t none;
     printf("The change begins. After %u stores the power goes.\n", allowance);
     must(grow(pool, allowance, &none) == GOL_CUT, "a cut");
     printf("The power is back. Each word has its old right or its new one:\n");
     show_all();
+    printf("A table stands that no right wants, so that the change is refused:\n");
+    printf("  the change again: number %u\n", grow(pool, ENOUGH, &none));
+}
 
+static void recover(void) {
+    uint32_t stores = 0;
     printf("The supervisor tidies the table and makes the change again:\n");
     must(gol_tidy(pool, POOL, D, M, L, ENOUGH, &stores, 1) == GOL_DONE, "a tidying");
     printf("  tidied: %u stores\n", stores);
+    show_all();
     grant(RADIO, RING, LONG_RING, GOL_WRITE);
     show_all();
+}
 
+int main(void) {
+    set_rights();
+    printf("The ring is to grow from %u to %u bytes. What a loss of power could do:\n", SHORT_RING, LONG_RING);
+    uint32_t stores = try_every_cut();
+    lose_power(stores - 16); /* in the middle of the new leaf */
+    recover();
     printf("The listing for the field engineer:\n");
     list();
     return 0;

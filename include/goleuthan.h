@@ -6,19 +6,20 @@
  * library keeps nothing between calls, allocates nothing, and calls nothing but memcpy and memset. Every call returns,
  * whatever the numbers are and whatever the words hold. Each is proved to do what is said here.
  *
- * BUILDING. `rt staticlib goleuthan` proves the library and writes target/staticlib/libgoleuthan.a, for x86-64 programs.
+ * BUILDING. `rt staticlib goleuthan` proves the library and writes target/staticlib/libgoleuthan.a, for x86-64.
  *
- * POINTERS. A lent memory is a pointer and a length, counted in words of four bytes. The pointer is not null (also where
- * the length is 0), is a multiple of 4, and its words are the caller's to lend: readable, and for a pointer that is not
- * const writable, for as long as the call runs. Two memories lent to one call do not overlap, unless both are const. No
- * other thread writes a lent memory, or reads one that is not const, during the call. This is all that a caller owes.
+ * POINTERS. A lent memory is a pointer and a length, counted in words of four bytes. The pointer is not NULL, is a
+ * multiple of 4, and its words are the caller's to lend: readable, and for a pointer that is not const writable, for
+ * as long as the call runs. Where the length is 0 the pointer is not used, and may be NULL. Two memories lent to one
+ * call do not overlap, unless both are const. No other thread writes a lent memory, or reads one that is not const,
+ * during the call. No call asks for more; BUFFERS and STORES below say what checks and recovery rest on besides.
  *
- * THE POOL holds D roots of 1,024 words, then M middle places of 1,024 words, then L leaf places of 64 words, with D 1 to
- * 4, M 0 to 8 and L 0 to 64. `words` is exactly 1024*D + 1024*M + 64*L, which is GOL_POOL_WORDS(d, m, l). The pool does not
- * hold D, M and L: give each call the same three that it was made fresh with.
+ * THE POOL holds D roots of 1,024 words, then M middle places of 1,024 words, then L leaf places of 64 words, with D 1
+ * to 4, M 0 to 8 and L 0 to 64. `words` is exactly 1024*D + 1024*M + 64*L, which is GOL_POOL_WORDS(d, m, l). The pool
+ * does not hold D, M and L: give each call the same three that it was made fresh with.
  *
- * RESULTS go into the lent words `out`, in the order given at each call, as many of them as `out_len` has room for. Words
- * of `out` past the results stay as they were. An `out_len` of 0 asks for no result.
+ * RESULTS go into the lent words `out`, in the order given at each call, as many of them as `out_len` has room for.
+ * Words of `out` past the results stay as they were. An `out_len` of 0 asks for no result; `out` may be NULL then.
  *
  * NUMBERS. Each call returns 0 where it is done, or one of the numbers below. Each call names the numbers that it may
  * return, in their order: where several fit, the first is returned. On every refusal, that is on every number but 0 and
@@ -36,29 +37,54 @@
  *   100 the allowance of stores ran out before the end: a cut (see RECOVERY)
  *   101 a lent state of the wrong length; this is looked at before all else
  *
- * STATES. A lookaside buffer, a gate set and a call stack are words of the caller too, of these lengths and layouts. Words
- * of any value may come in; what they mean is decided by the rules below and by the numbers above.
+ * STATES. A lookaside buffer, a gate set and a call stack are words of the caller too, of these lengths and layouts.
+ * Words of any value may come in; what they mean is decided by the rules below and by the numbers above.
  *
  *   Buffer, 257 words. Slot i, 0 to 63, is the four words from 4*i on: domain, level (1 root, 2 middle, 3 leaf), first
- *   byte of the block, entry. Word 256 is next, the slot that the next miss fills. All words 0 is an empty buffer. A slot
- *   whose level is not 1 to 3, or whose block is not a multiple of the level's size (4 MB, 4 KB, 64), counts as empty.
+ *   byte of the block, entry. Word 256 is next, the slot that the next miss fills. All words 0 is an empty buffer. A
+ *   slot whose level is not 1 to 3, or whose block is not a multiple of the level's size (4 MB, 4 KB, 64), counts as
+ *   empty. Any other matches when its domain is the one asked, the address lies in its block, and its entry is good
+ *   rights for its level: at level 1 and 2 bit 31 is set and bits 30 to 16 are zero, at level 3 any word is. The
+ *   lowest slot that matches answers; one that does not match answers nothing.
  *
  *   Gate set, 193 words. Gate i, 0 to 63, is the three words from 3*i on: domain, address, gate. The gate is
- *   0xFFFFFFFF for a return gate, else the destination of a switch gate. Word 192 is the count: gates from that number on
- *   are idle and keep their words. All words 0 is an empty set.
+ *   0xFFFFFFFF for a return gate, else the destination of a switch gate. Word 192 is the count: gates from that number
+ *   on are idle and keep their words. All words 0 is an empty set.
  *
- *   Call stack, 34 words. Frame i, 0 to 15, is the two words from 2*i on: caller's domain, return address. Word 32 is the
- *   depth, word 33 the current domain. Frames from the depth on are idle and keep their words. All words 0 but the
+ *   Call stack, 34 words. Frame i, 0 to 15, is the two words from 2*i on: caller's domain, return address. Word 32 is
+ *   the depth, word 33 the current domain. Frames from the depth on are idle and keep their words. All words 0 but the
  *   current domain is an empty stack.
+ *
+ * BUFFERS AND THEIR POOL. A slot that matches answers without a look at the pool. So that it says what the pool says:
+ *   - a buffer serves one pool of one shape: the same pool, D, M and L at every check. To serve another, empty it;
+ *   - gol_fresh makes every buffer of the pool stale, and so does a reset: empty them all;
+ *   - gol_change, done or cut, may make each slot of its domain stale whose block meets its region: flush that region
+ *     (gol_flush_region) in every buffer of the pool before the next check. A refusal and gol_tidy need no flush;
+ *   - whatever but these calls writes the pool's memory, or the buffer's, makes the buffer stale: empty it.
+ * A stale slot gives verdicts by rights that the pool no longer gives. gol_flush_all empties a buffer; zeros do too.
+ *
+ * STORES. gol_change and gol_tidy write each word of the pool by a single aligned 32-bit store, one after the other in
+ * program order, and what RECOVERY says holds after each of them. gol_fresh writes in any order and width. The box must
+ * see to it that the stores of a change or a tidying reach the memory that keeps the pool without power: each whole,
+ * one by one, in this order.
+ *   - On a microcontroller without a cache or write buffer before that memory nothing is needed, but that the write of
+ *     a word is all or nothing when the power goes. A bus or memory that takes a word in halves does not give that.
+ *   - With a cache or a write buffer before it, map the pool uncached, or write-through where no write joins or
+ *     overtakes another, or have the platform flush each store before the next. Else a reset may find a table that
+ *     is led to and not yet filled.
+ *   - On x86-64 with write-back memory this is the order that other processors see, and NOT what a loss of power
+ *     leaves in non-volatile memory behind a cache: the lines go back in any order. Map the pool uncached there.
+ * The proof is about the program's stores; the compiler that made the library is trusted to leave them single and in
+ * order, and so is any that compiles it for another machine.
  *
  * RECOVERY after a brown-out. A change or a tidying may stop after any of its stores, by its allowance or by a loss of
  * power. The pool is then sound: each word has its old right or, where the change covers it, its new one, and nothing
  * else. After a reset, in this order:
  *   1. empty each lookaside buffer (all words 0): it may hold entries that the pool no longer has;
- *   2. call gol_tidy with an allowance that suffices (0xFFFFFFFF always does): it gives no word another right, and after
- *      it the pool is settled, so that no change is refused 7;
+ *   2. call gol_tidy with an allowance that suffices (0xFFFFFFFF always does): it gives no word another right, and
+ *      after it the pool is settled, so that no change is refused 7;
  *   3. make the interrupted change again, if it is still wanted;
- *   4. rebuild gate sets and call stacks, or begin with empty ones: a call that was writing one may have written a part.
+ *   4. rebuild gate sets and call stacks, or begin with empty ones: one may have been written in part.
  * A cut without a reset asks for the same, but for 4: instead of 1, flushing what the change covers is enough.
  * A pool that was being made fresh when the power went must be made fresh again.
  */
@@ -99,15 +125,16 @@ extern "C" {
 
 /*
  * Makes the pool fresh: no domain has a right anywhere. Every root word becomes 0x80000000, every other word 0.
+ * Afterwards empty every lookaside buffer of this pool.
  * Returns 0, or 1.
  */
 uint32_t gol_fresh(uint32_t *pool, size_t words, uint32_t d, uint32_t m, uint32_t l);
 
 /*
- * Gives `domain` the right `right` on the bytes from `start`, `length` of them. The start is rounded down to a multiple of
- * 4 and the length up, each by itself. Words outside keep their rights, and other domains too.
+ * Gives `domain` the right `right` on the bytes from `start`, `length` of them. The start is rounded down to a
+ * multiple of 4 and the length up, each by itself. Words outside keep their rights, and other domains too.
  * At most `allowance` words of the pool are written, each once; the allowance does not alter which, nor in which order.
- * Afterwards, done or cut, flush the same region in every lookaside buffer that the domain uses.
+ * Afterwards, done or cut, flush the same region for the domain in every lookaside buffer of this pool.
  * out[0]: the number of words written; 0 where it was cut or refused.
  * Returns 0, 1 to 8 in this order, or 100 where more stores were wanted than allowed (exactly `allowance` were made).
  */
@@ -133,8 +160,9 @@ uint32_t gol_lookup(const uint32_t *pool, size_t words, uint32_t d, uint32_t m, 
 
 /*
  * The longest runs of one right other than none, by domain and then address, from run number `from` on (the first is
- * number 0). Each is four words of `runs`: domain, first byte, last byte, right. As many are written as have four whole
- * words; words of `runs` past them stay as they were. For a listing in parts, go on with `from` plus the runs that fitted.
+ * number 0). Each is four words of `runs`: domain, first byte, last byte, right. As many are written as have four
+ * whole words; words of `runs` past them stay as they were. For a listing in parts, go on with `from` plus the runs
+ * that fitted.
  * out[0]: how many runs there are in all, whatever `from` and `runs_len` are; 0xFFFFFFFF stands for that number and any
  * greater one. On a refusal `runs` is as it came.
  * Returns 0, 1, or 6.
@@ -143,8 +171,8 @@ uint32_t gol_list(const uint32_t *pool, size_t words, uint32_t d, uint32_t m, ui
                   size_t runs_len, uint32_t *out, size_t out_len);
 
 /*
- * Checks an access of `domain` through a lookaside buffer: the lowest slot that matches answers with 0 loads; else the pool
- * is walked, and the entry that decides is kept in slot next, which moves on, whether the access passes or not.
+ * Checks an access of `domain` through a lookaside buffer: the lowest slot that matches answers with 0 loads; else the
+ * pool is walked, and the entry that decides is kept in slot next, which moves on, whether the access passes or not.
  * kind: 0 load, 1 store, 2 fetch. size: 1, 2 or 4 bytes, 4 for a fetch. `address` is a multiple of the size.
  * A load passes on rights 1, 2 and 3, a store on 2, a fetch on 3.
  * out[0]: the verdict: 1 pass, 0 deny. out[1]: the loads made, 0 where a slot answered, else 1 to 3.
@@ -168,14 +196,15 @@ uint32_t gol_flush_domain(uint32_t *buffer, size_t buffer_len, uint32_t domain);
 
 /*
  * Empties the slots of `domain`, which may be any number, whose block meets the region, which is rounded as gol_change
- * rounds it. After a change in a domain this is the flush to make, with the same three numbers.
+ * rounds it. Left as they are: slots of other domains, slots whose block does not meet the region, slots that count as
+ * empty, and next. After a change in a domain this is the flush to make, with the same three numbers.
  * Returns 0, 101, 18, 4, or 5.
  */
 uint32_t gol_flush_region(uint32_t *buffer, size_t buffer_len, uint32_t domain, uint32_t start, uint32_t length);
 
 /*
- * Sets a switch gate for `domain` at `address`, to the domain `destination`: in the place of the gate that stands there,
- * else after the last. There is no pool; `d` is the number of domains.
+ * Sets a switch gate for `domain` at `address`, to the domain `destination`: in the place of the gate that stands
+ * there, else after the last. There is no pool; `d` is the number of domains.
  * Returns 0, 101, 1, 18, 2 (domain or destination), 11, 14, or 12.
  */
 uint32_t gol_set_switch_gate(uint32_t d, uint32_t *gates, size_t gates_len, uint32_t domain, uint32_t address,
@@ -188,23 +217,24 @@ uint32_t gol_set_switch_gate(uint32_t d, uint32_t *gates, size_t gates_len, uint
 uint32_t gol_set_return_gate(uint32_t d, uint32_t *gates, size_t gates_len, uint32_t domain, uint32_t address);
 
 /*
- * Removes the gate for `domain` at `address`, the earlier of two. Later gates move down by one; the place that comes free
- * keeps its words.
+ * Removes the gate for `domain` at `address`, the earlier of two. Later gates move down by one; the place that comes
+ * free keeps its words.
  * Returns 0, 101, 1, 18, 2, 11, or 13.
  */
 uint32_t gol_remove_gate(uint32_t d, uint32_t *gates, size_t gates_len, uint32_t domain, uint32_t address);
 
 /*
- * One fetch step at `address`, by the gate that stands there for the current domain. It walks the pool and uses no buffer.
+ * One fetch step at `address`, by the gate that stands there for the current domain. It walks the pool and uses no
+ * buffer.
  *   No gate: the fetch is checked in the current domain. `target` must be a multiple of 4 and is not used.
- *   Switch gate: the fetch is checked in the destination; on pass the current domain and `target`, the address to return
- *   to, are pushed, and the destination becomes current.
- *   Return gate: the fetch is checked in the current domain; on pass `target` must equal the top frame's return address;
- *   the frame is popped, and its domain becomes current.
+ *   Switch gate: the fetch is checked in the destination; on pass the current domain and `target`, the address to
+ *   return to, are pushed, and the destination becomes current.
+ *   Return gate: the fetch is checked in the current domain; on pass `target` must equal the top frame's return
+ *   address; the frame is popped, and its domain becomes current.
  * A deny leaves the stack as it came.
  * out[0]: the verdict: 1 pass, 0 deny.
- * Returns 0, 101, 1, 18, 2 (the current domain, or one in a frame or gate held), 10, then by the gate: 15, then 6 where the
- * walk meets a bad entry; on pass of a return gate 16, then 17. A deny returns 0.
+ * Returns 0, 101, 1, 18, 2 (the current domain, or one in a frame or gate held), 10, then by the gate: 15, then 6
+ * where the walk meets a bad entry; on pass of a return gate 16, then 17. A deny returns 0.
  */
 uint32_t gol_step(const uint32_t *pool, size_t words, uint32_t d, uint32_t m, uint32_t l, const uint32_t *gates,
                   size_t gates_len, uint32_t *stack, size_t stack_len, uint32_t address, uint32_t target, uint32_t *out,

@@ -1,6 +1,7 @@
 #!/usr/bin/env bash
-# The library from outside, on what the proof built: the C example with its expected output, and the tests of the Rust workspace,
-# which compare the library with an independent model. The last line counts them, 'outside: N passed, M failed'.
+# The library from outside, on what the proof built: the C examples with their expected outputs, and the tests of the
+# Rust workspace, which compare the library with an independent model. The last line counts them, 'outside: N passed,
+# M failed'.
 set -u
 cd "$(dirname "$0")/.." || exit 1
 log=$(mktemp) || exit 1
@@ -17,7 +18,8 @@ fail() {
     echo "outside: $1"
 }
 
-# The static library, made from the proved crates if it is not there or older than their code; without it there is nothing to test.
+# The static library, made from the proved crates if it is not there or older than their code; without it there is
+# nothing to test.
 library() {
     local made=target/staticlib/libgoleuthan.a
     if [ ! -f "$made" ] || [ -n "$(find crates -name '*.rt' -newer "$made")" ]; then
@@ -32,7 +34,8 @@ library() {
     fi
 }
 
-# example NAME: compiles examples/NAME.c without a warning, runs it, and compares what it prints with examples/NAME.expected.
+# example NAME: compiles examples/NAME.c without a warning, runs it, and compares what it prints with
+# examples/NAME.expected.
 example() {
     local program=target/outside/$1
     mkdir -p target/outside
@@ -51,7 +54,11 @@ example() {
 # The tests of the workspace; cargo says how many passed and failed for each of its test programs.
 workspace() {
     local line status
-    (cd rust && CARGO_TARGET_DIR=../target/cargo cargo test --release --offline --locked --no-fail-fast -- --show-output) 2>&1 | tee "$log"
+    (
+        cd rust || exit 1
+        export CARGO_TARGET_DIR=../target/cargo
+        cargo test --release --offline --locked --no-fail-fast -- --show-output
+    ) 2>&1 | tee "$log"
     status=${PIPESTATUS[0]}
     local before=$failed
     while read -r line; do
@@ -66,6 +73,8 @@ workspace() {
 library
 example first_steps
 example brown_out
+example day_of_a_module
+example no_results
 workspace
 
 echo "outside: $passed passed, $failed failed"

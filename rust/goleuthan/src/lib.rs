@@ -1,7 +1,8 @@
 //! A safe face of Goleuthan, the proved table of word-level rights, for Rust.
 //!
-//! The pool is the caller's memory, borrowed as a slice of words for as long as a [`Table`] lives. Nothing else is
-//! allocated or kept.
+//! The pool is the caller's memory, borrowed as a slice of words for as long as a [`Table`] lives. Nothing is kept
+//! elsewhere, and only [`Table::runs`] allocates. What the memory must do for the table to outlive a loss of power is
+//! told in `include/goleuthan.h`, and what a buffer's user owes at [`LookasideBuffer`].
 //!
 //! ```
 //! use goleuthan::{Answer, Request, Right, Shape, Table};
@@ -15,10 +16,13 @@
 //! assert_eq!((found.right, found.loads), (Right::ReadWrite, 3));
 //! # Ok::<(), goleuthan::Refusal>(())
 //! ```
-#![deny(unsafe_code)]
+#![deny(unsafe_code, missing_docs)]
 
+mod buffer;
+mod gates;
 mod refusal;
-mod states;
+mod runs;
+mod stack;
 mod table;
 
 #[cfg(linked)]
@@ -31,6 +35,9 @@ pub use emulated as words;
 /// Whether calls go straight into the library; where they do not, their times say nothing.
 pub const LINKED: bool = cfg!(linked);
 
+pub use buffer::{Level, LookasideBuffer, Slot};
+pub use gates::{Gate, GateKind, Gates};
 pub use refusal::Refusal;
-pub use states::{CallStack, Gates, LookasideBuffer};
-pub use table::{Access, Answer, Found, Request, Right, Run, Shape, Table, Verdict};
+pub use runs::Run;
+pub use stack::{CallStack, Frame};
+pub use table::{Access, Answer, Found, Request, Right, Shape, Table, Verdict};

@@ -1,8 +1,6 @@
 //! The table: a borrowed pool with its shape, and the calls on it.
 
-use crate::states::{CallStack, Gates, LookasideBuffer};
-use crate::words;
-use crate::Refusal;
+use crate::{runs, words, CallStack, Gates, LookasideBuffer, Refusal, Run};
 
 /// How many domains, middle places and leaf places a pool has. The pool does not hold these numbers: give each call
 /// those that it was made fresh with.
@@ -27,14 +25,18 @@ impl Shape {
 #[derive(Clone, Copy, Debug, PartialEq, Eq, Hash)]
 #[repr(u32)]
 pub enum Right {
+    /// Nothing.
     None = 0,
+    /// Load.
     Read = 1,
+    /// Load and store.
     ReadWrite = 2,
+    /// Fetch and load.
     ExecuteRead = 3,
 }
 
 impl Right {
-    fn of(number: u32) -> Right {
+    pub(crate) fn of(number: u32) -> Right {
         match number & 3 {
             0 => Right::None,
             1 => Right::Read,
@@ -47,9 +49,13 @@ impl Right {
 /// A change of rights: the start is rounded down to a multiple of 4, the length up.
 #[derive(Clone, Copy, Debug, PartialEq, Eq, Hash)]
 pub struct Request {
+    /// The domain that gets the right.
     pub domain: u32,
+    /// The first byte.
     pub start: u32,
+    /// The number of bytes.
     pub length: u32,
+    /// The right that it gets.
     pub right: Right,
 }
 
@@ -57,8 +63,11 @@ pub struct Request {
 #[derive(Clone, Copy, Debug, PartialEq, Eq, Hash)]
 #[must_use]
 pub enum Answer {
-    /// All is done; this many words were written.
-    Done { stores: u32 },
+    /// All is done.
+    Done {
+        /// How many words were written.
+        stores: u32,
+    },
     /// The allowance ran out: exactly as many words were written, and the pool is sound.
     Cut,
 }
@@ -66,6 +75,7 @@ pub enum Answer {
 /// What a lookup finds.
 #[derive(Clone, Copy, Debug, PartialEq, Eq, Hash)]
 pub struct Found {
+    /// The right.
     pub right: Right,
     /// The entry that decides.
     pub entry: u32,
@@ -76,9 +86,11 @@ pub struct Found {
 /// An access to be checked; the size is 1, 2 or 4 bytes.
 #[derive(Clone, Copy, Debug, PartialEq, Eq, Hash)]
 pub enum Access {
+    /// A load of so many bytes; it passes on every right but none.
     Load(u32),
+    /// A store of so many bytes; it passes on read and write.
     Store(u32),
-    /// A fetch of 4 bytes.
+    /// A fetch of 4 bytes; it passes on execute and read.
     Fetch,
 }
 
@@ -96,7 +108,9 @@ impl Access {
 #[derive(Clone, Copy, Debug, PartialEq, Eq, Hash)]
 #[must_use]
 pub enum Verdict {
+    /// The right allows it.
     Pass,
+    /// The right does not.
     Deny,
 }
 
@@ -110,15 +124,6 @@ impl Verdict {
     }
 }
 
-/// A longest run of one right other than none.
-#[derive(Clone, Copy, Debug, PartialEq, Eq, Hash)]
-pub struct Run {
-    pub domain: u32,
-    pub first_byte: u32,
-    pub last_byte: u32,
-    pub right: Right,
-}
-
 /// A pool of words, borrowed, and its shape.
 #[derive(Debug)]
 pub struct Table<'a> {
@@ -127,7 +132,6 @@ pub struct Table<'a> {
 }
 
 const CUT: u32 = 100;
-const RUNS_AT_ONCE: usize = 64;
 
 fn answer(number: u32, stores: u32) -> Result<Answer, Refusal> {
     if number == CUT {
@@ -138,7 +142,8 @@ fn answer(number: u32, stores: u32) -> Result<Answer, Refusal> {
 }
 
 impl<'a> Table<'a> {
-    /// Makes a pool fresh; refusal 1 where it does not have its shape's length.
+    /// Makes a pool fresh; refusal 1 where it does not have its shape's length. Every lookaside buffer that served the
+    /// pool is stale then: empty it.
     pub fn fresh(pool: &'a mut [u32], shape: Shape) -> Result<Table<'a>, Refusal> {
         Refusal::none_or(words::fresh(pool, shape.domains, shape.middles, shape.leaves))?;
         Ok(Table { pool, shape })
@@ -154,12 +159,13 @@ impl<'a> Table<'a> {
         self.pool
     }
 
+    /// The shape that every call is given.
     pub fn shape(&self) -> Shape {
         self.shape
     }
 
-    /// Gives a domain a right on a region, in at most `allowance` single-word stores. Flush the region afterwards in
-    /// every buffer that the domain uses, done or cut.
+    /// Gives a domain a right on a region, in at most `allowance` single-word stores. Flush the region afterwards,
+    /// done or cut, for the domain in every buffer of this pool.
     pub fn change(&mut self, request: Request, allowance: u32) -> Result<Answer, Refusal> {
         let Shape { domains, middles, leaves } = self.shape;
         let Request { domain, start, length, right } = request;
@@ -195,7 +201,8 @@ impl<'a> Table<'a> {
         Ok(Found { right: Right::of(out[0]), entry: out[1], loads: out[2] })
     }
 
-    /// Checks an access through a lookaside buffer: the verdict, and the loads made (0 where a slot answers).
+    /// Checks an access through a lookaside buffer: the verdict, and the loads made (0 where a slot answers). It is the
+    /// pool's verdict as long as [the buffer's user](LookasideBuffer#what-its-user-owes) keeps to the rules.
     pub fn check(
         &self,
         buffer: &mut LookasideBuffer,
@@ -224,30 +231,11 @@ impl<'a> Table<'a> {
 
     /// All longest runs of one right other than none, by domain and then address.
     pub fn runs(&self) -> Result<Vec<Run>, Refusal> {
-        let mut runs = Vec::new();
-        loop {
-            let (some, total) = self.runs_from(runs.len() as u32)?;
-            if some.is_empty() {
-                debug_assert_eq!(runs.len(), total as usize);
-                return Ok(runs);
-            }
-            runs.extend(some);
-        }
-    }
-
-    /// Some of the runs from a run number on, and how many there are in all.
-    fn runs_from(&self, from: u32) -> Result<(Vec<Run>, u32), Refusal> {
         let Shape { domains, middles, leaves } = self.shape;
-        let mut lent = [0; 4 * RUNS_AT_ONCE];
-        let mut out = [0];
-        Refusal::none_or(words::list(self.pool, domains, middles, leaves, from, &mut lent, &mut out))?;
-        let written = out[0].saturating_sub(from) as usize;
-        let runs = lent.chunks_exact(4).take(written).map(|run| Run {
-            domain: run[0],
-            first_byte: run[1],
-            last_byte: run[2],
-            right: Right::of(run[3]),
-        });
-        Ok((runs.collect(), out[0]))
+        runs::gather(|from, lent| {
+            let mut out = [0];
+            Refusal::none_or(words::list(self.pool, domains, middles, leaves, from, lent, &mut out))?;
+            Ok(out[0])
+        })
     }
 }

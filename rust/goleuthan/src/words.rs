@@ -2,8 +2,8 @@
 //! `include/goleuthan.h`. This is the only file with `unsafe` in it.
 //!
 //! Why it is safe: a slice is a pointer that is not null and is aligned, with the length of words that may be read (and
-//! written, where it is lent as mutable) while the call runs; two slices of one call never overlap where one is mutable.
-//! That is all that the header asks of a caller. The library is proved to touch nothing else, and to return.
+//! written, where it is lent as mutable) while the call runs; two slices of one call never overlap where one is
+//! mutable. No call asks for more. The library is proved to touch nothing else, and to return.
 #![allow(clippy::too_many_arguments)]
 
 mod c {

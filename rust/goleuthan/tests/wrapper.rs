@@ -1,6 +1,7 @@
 //! The safe face: each type's calls, once each way. What the library answers is compared elsewhere.
 
-use goleuthan::{Access, Answer, CallStack, Found, Gates, LookasideBuffer, Request, Right, Run, Shape, Table, Verdict};
+use goleuthan::{Access, Answer, CallStack, Found, Frame, Gate, GateKind, Gates, Level, LookasideBuffer};
+use goleuthan::{Request, Right, Run, Shape, Slot, Table, Verdict};
 
 const SHAPE: Shape = Shape { domains: 2, middles: 1, leaves: 1 };
 
@@ -51,6 +52,32 @@ fn more_runs_than_are_listed_at_once() {
 }
 
 #[test]
+fn every_word_of_64_leaves_a_run() {
+    let shape = Shape { domains: 1, middles: 1, leaves: 64 };
+    let mut pool = vec![0; shape.pool_words()];
+    Table::fresh(&mut pool, shape).unwrap();
+    pool[0] = 1024;
+    pool[1024..2048].fill(0x8000_0000);
+    (0..64).for_each(|leaf| pool[1024 + leaf] = 2048 + 64 * leaf as u32);
+    pool[2048..].fill(0xDDDD_DDDD);
+    let rights = [Right::Read, Right::ExecuteRead];
+    let words = (0..1 << 16).map(|word| 4 * word);
+    let runs = words.zip(rights.into_iter().cycle()).map(|(byte, right)| Run {
+        domain: 0,
+        first_byte: byte,
+        last_byte: byte + 3,
+        right,
+    });
+    assert_eq!(Table::resume(&mut pool, shape).runs(), Ok(runs.collect()));
+}
+
+#[test]
+fn an_unsound_pool_is_not_listed() {
+    let mut pool = vec![0; SHAPE.pool_words()];
+    assert_eq!(number(Table::resume(&mut pool, SHAPE).runs()), 6);
+}
+
+#[test]
 fn checks_and_flushes() {
     let mut pool = vec![0; SHAPE.pool_words()];
     let mut table = Table::fresh(&mut pool, SHAPE).unwrap();
@@ -92,4 +119,115 @@ fn gates_and_steps() {
     assert_eq!((stack.current(), stack.depth()), (0, 0));
     gates.remove(2, 0, 0x40).unwrap();
     assert_eq!(number(gates.remove(2, 0, 0x40)), 13);
+}
+
+#[test]
+fn slots_are_values() {
+    let mut pool = vec![0; SHAPE.pool_words()];
+    let mut table = Table::fresh(&mut pool, SHAPE).unwrap();
+    let _ = table.change(request(1, 0x1000, 64, Right::ReadWrite), u32::MAX).unwrap();
+    let mut buffer = LookasideBuffer::empty();
+    assert!(buffer.slots().eq([None; 64]));
+    for address in [0x1020, 0x2A00, 0xFFFF_FFFC] {
+        let _ = table.check(&mut buffer, 1, Access::Load(4), address).unwrap();
+    }
+    let slot = |level, block, entry| Some(Slot { domain: 1, level, block, entry });
+    let leaf = slot(Level::Leaf, 0x1000, 0xAAAA_AAAA);
+    let middle = slot(Level::Middle, 0x2000, 0x8000_0000);
+    let root = slot(Level::Root, 0xFFC0_0000, 0x8000_0000);
+    assert!(buffer.slots().take(4).eq([leaf, middle, root, None]));
+    assert_eq!((buffer.slots().len(), buffer.next_slot()), (64, 3));
+}
+
+/// The library empties a domain's slots and leaves what counts as empty: it and the wrapper must tell them apart alike.
+#[test]
+fn what_counts_as_empty_is_no_slot() {
+    let mut words = [7; 257];
+    let blocks = [0, 4, 32, 64, 2048, 4096, 4160, 1 << 21, 1 << 22, (1 << 22) + 4096, u32::MAX];
+    let kinds = [0, 1, 2, 3, 4, u32::MAX].into_iter().flat_map(|level| blocks.map(|block| [7, level, block, 5]));
+    words[..256].chunks_exact_mut(4).zip(kinds.skip(2)).for_each(|(slot, words)| slot.copy_from_slice(&words));
+    let before = LookasideBuffer::from_words(words);
+    let mut after = before.clone();
+    after.flush_domain(7).unwrap();
+    let left = before.words().chunks_exact(4).zip(after.words().chunks_exact(4)).map(|(old, new)| old == new);
+    assert!(before.slots().map(|slot| slot.is_none()).eq(left));
+    assert_eq!(before.slots().flatten().count(), 2 + 5 + 8);
+    assert_eq!(after.slots().flatten().count(), 0);
+}
+
+#[test]
+fn gates_are_values() {
+    let mut gates = Gates::none();
+    assert_eq!((gates.count(), gates.held().next(), gates.at(0, 0)), (0, None, None));
+    gates.set_switch(2, 0, 0x40, 1).unwrap();
+    gates.set_return(2, 1, 0x80).unwrap();
+    gates.set_return(2, 0, 0x80).unwrap();
+    let switch = Gate { domain: 0, address: 0x40, kind: GateKind::Switch(1) };
+    let back = Gate { domain: 1, address: 0x80, kind: GateKind::Return };
+    assert!(gates.held().eq([switch, back, Gate { domain: 0, ..back }]));
+    assert_eq!((gates.at(0, 0x40), gates.at(1, 0x80), gates.at(1, 0x40)), (Some(switch), Some(back), None));
+    gates.remove(2, 0, 0x40).unwrap();
+    assert_eq!((gates.count(), gates.held().len(), gates.at(0, 0x40)), (2, 2, None));
+}
+
+/// A set handed in may have two gates at one place, where the earlier counts, or a count that no set has.
+#[test]
+fn gates_handed_in() {
+    let mut words = [0; 193];
+    words[..9].copy_from_slice(&[0, 0x40, 1, 1, 0x40, 0, 0, 0x40, u32::MAX]);
+    words[192] = 3;
+    let mut gates = Gates::from_words(words);
+    let gate = |kind| Some(Gate { domain: 0, address: 0x40, kind });
+    assert_eq!(gates.at(0, 0x40), gate(GateKind::Switch(1)));
+    gates.remove(2, 0, 0x40).unwrap();
+    assert_eq!(gates.at(0, 0x40), gate(GateKind::Return));
+    words[192] = 65;
+    let mut gates = Gates::from_words(words);
+    assert_eq!((gates.count(), gates.held().len()), (65, 64));
+    assert_eq!(number(gates.remove(2, 0, 0x40)), 18);
+}
+
+#[test]
+fn frames_are_values() {
+    let mut pool = vec![0; SHAPE.pool_words()];
+    let mut table = Table::fresh(&mut pool, SHAPE).unwrap();
+    let _ = table.change(request(0, 0, 1 << 19, Right::ExecuteRead), u32::MAX).unwrap();
+    let _ = table.change(request(1, 0, 1 << 19, Right::ExecuteRead), u32::MAX).unwrap();
+    let mut gates = Gates::none();
+    gates.set_switch(2, 0, 0x40, 1).unwrap();
+    gates.set_switch(2, 1, 0x80, 0).unwrap();
+    gates.set_return(2, 0, 0xC0).unwrap();
+    let mut stack = CallStack::of(0);
+    assert_eq!((stack.frames().len(), stack.top()), (0, None));
+    assert_eq!(table.step(&gates, &mut stack, 0x40, 0x44), Ok(Verdict::Pass));
+    assert_eq!(table.step(&gates, &mut stack, 0x80, 0x84), Ok(Verdict::Pass));
+    let (first, second) = (Frame { domain: 0, return_address: 0x44 }, Frame { domain: 1, return_address: 0x84 });
+    assert!(stack.frames().eq([first, second]));
+    assert_eq!(stack.top(), Some(second));
+    assert_eq!(table.step(&gates, &mut stack, 0xC0, 0x84), Ok(Verdict::Pass));
+    assert_eq!((stack.top(), stack.current()), (Some(first), second.domain));
+    let mut words = *stack.words();
+    words[32] = 17;
+    let mut stack = CallStack::from_words(words);
+    assert_eq!((stack.depth(), stack.frames().len()), (17, 16));
+    assert_eq!(number(table.step(&gates, &mut stack, 0x40, 0x44)), 18);
+}
+
+/// What a buffer's user owes after a cut and after a pool is made fresh; a change that is done is told at the type.
+#[test]
+fn a_buffer_is_stale_until_it_is_flushed() {
+    let mut pool = vec![0; SHAPE.pool_words()];
+    let mut buffer = LookasideBuffer::empty();
+    let mut table = Table::fresh(&mut pool, SHAPE).unwrap();
+    let _ = table.change(request(0, 0, 1 << 23, Right::Read), u32::MAX).unwrap();
+    assert_eq!(table.check(&mut buffer, 0, Access::Load(4), 0), Ok((Verdict::Pass, 1)));
+    assert_eq!(table.change(request(0, 0, 1 << 23, Right::None), 1), Ok(Answer::Cut));
+    assert_eq!(table.check(&mut buffer, 0, Access::Load(4), 0), Ok((Verdict::Pass, 0)));
+    buffer.flush_region(0, 0, 1 << 23).unwrap();
+    assert_eq!(table.check(&mut buffer, 0, Access::Load(4), 0), Ok((Verdict::Deny, 1)));
+    assert_eq!(table.check(&mut buffer, 0, Access::Load(4), 1 << 22), Ok((Verdict::Pass, 1)));
+    let table = Table::fresh(&mut pool, SHAPE).unwrap();
+    assert_eq!(table.check(&mut buffer, 0, Access::Load(4), 1 << 22), Ok((Verdict::Pass, 0)));
+    buffer.flush_all().unwrap();
+    assert_eq!(table.check(&mut buffer, 0, Access::Load(4), 1 << 22), Ok((Verdict::Deny, 1)));
 }
