@@ -32,7 +32,7 @@ pub ahead-as : {k : ℕ} {best r : Span} {A B : ℕ → Type 0} → Ahead k best
 ahead-as a f = record { from = a .from; upto = a .upto; some = a .some; passed = λ j lo hi. f j (a .passed j lo hi) }
 
 -- Nothing is of a table that is not there.
-pub ahead-all : {k : ℕ} {best : Span} {A : ℕ → Type 0} → k ≤ best .from → ((j : ℕ) → A j) → Ahead k best A best
+pub ahead-all : {k : ℕ} {best : Span} {A : ℕ → Type 0} → k ≤ best .from .0 → ((j : ℕ) → A j) → Ahead k best A best
 ahead-all h f = record { from = h; upto = omega arith; some = inr refl; passed = λ j lo hi. f j }
 
 -- One more table was looked at.

@@ -30,7 +30,7 @@ pub record Midst (s : Shape) (o : List ℕ) (d : ℕ) (paint : Paint) (w : Work)
   pub goal : ℕ → ℕ
   pub kept : ℕ → Bool
   pub meant : Meant s d paint w old goal kept
-  pub at : At s d paint old goal kept n (from .phase) (from .word) x left
+  pub at : At s d paint old goal kept n (from .phase) (from .word .0) x left
   pub follows : Follows w from (length x)
   pub told : Told s w o old
 
@@ -40,7 +40,7 @@ midst-begin n r t = record { fits = r .fits; goal = r .goal; kept = r .kept; mea
 
 -- What the work was told still holds.
 told-now : (s : Shape) (o : List ℕ) (d : ℕ) (paint : Paint) (w : Work) (old : List ℕ) (Q : ℕ → ℕ) (kept : ℕ → Bool) (n : ℕ) (from : Cursor) (x : List ℕ) (left : ℕ)
-    → Fits s (length x) → Meant s d paint w old Q kept → Follows w from (length x) → At s d paint old Q kept n (from .phase) (from .word) x left
+    → Fits s (length x) → Meant s d paint w old Q kept → Follows w from (length x) → At s d paint old Q kept n (from .phase) (from .word .0) x left
     → Told s w o old → Told s w o x
 told-now s o d paint (Change q) old Q kept n from x left f m h a t = tt
 told-now s o d paint Tidying old Q kept n from x left f (e, g) h a t = owners-now f t (rw (h, e, g) at a)
@@ -90,7 +90,7 @@ module _ {s : Shape} {o : List ℕ} {d : ℕ} {paint : Paint} {w : Work} {old : 
   }
 
   -- There is no store to make.
-  module _ (e : NextIs s w x (from .phase) (from .word) None) where
+  module _ (e : NextIs s w x (from .phase) (from .word .0) None) where
     made : left + differing old x ≡ n
     made = rw (m .at .cut .count) (m .at .sum)
 
@@ -104,7 +104,7 @@ module _ {s : Shape} {o : List ℕ} {d : ℕ} {paint : Paint} {w : Work} {old : 
         rw y (all-made x (outcome-done s d paint old (m .goal) (m .kept) x n left (m .at .goal) (m .at .cut .long) (e run (m .at)) made))
 
   -- There is one.
-  module _ {k v : ℕ} {on : Cursor} (e : Wanted s w x (from .phase) (from .word) k v on) where
+  module _ {k v : ℕ} {on : Cursor} (e : Wanted s w x (from .phase) (from .word .0) k v on) where
     here : Stores s w run x (on .phase) k v
     here = e .stores run (m .at)
 

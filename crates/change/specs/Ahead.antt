@@ -17,10 +17,10 @@ use Rattle.change.specs.Runs.{Run, Stands}
 
 -- From word `k` on the next row is `r`, not after `best`: all words before it are as `Passed` says. It has a word, or is `best`.
 pub record Ahead (k : ℕ) (best : Span) (Passed : ℕ → Type 0) (r : Span) : Type 0 where
-  pub from : k ≤ r .from
-  pub upto : r .from ≤ best .from
-  pub some : (r .from < r .past) ⊎ (r ≡ best)
-  pub passed : (j : ℕ) → k ≤ j → j < r .from → Passed j
+  pub from : k ≤ r .from .0
+  pub upto : r .from .0 ≤ best .from .0
+  pub some : (r .from .0 < r .past .0) ⊎ (r ≡ best)
+  pub passed : (j : ℕ) → k ≤ j → j < r .from .0 → Passed j
 
 -- Word `j` is none of those from `start` up to `past`.
 abbrev pub Outside : ℕ → ℕ → ℕ → Type 0
@@ -57,11 +57,11 @@ Idle q c j = Stays q j ⊎ (newWord q j ≡ not (eqb c 2))
 
 -- After the cursor's row comes the row of the cursor `r`, in a pool of `n` words: of the same phase, or of the next one once this is through.
 pub record NextRow (q : Plan) (at : Cursor) (n : ℕ) (r : Cursor) : Type 0 where
-  pub row : (r .word ≤ r .past) × (r .past ≤ n)
+  pub row : (r .word .0 ≤ r .past .0) × (r .past .0 ≤ n)
   pub last : r .phase ≤ 4
-  pub moves : at .phase * 4294967296 + at .past < r .phase * 4294967296 + r .past
-  pub comes : (s : Shape) (u : Run s (Change q)) (x : List ℕ) → length x ≡ n → Stands s (Change q) u (at .phase) (at .past) x
-      → Stands s (Change q) u (r .phase) (r .word) x
+  pub moves : at .phase * 4294967296 + at .past .0 < r .phase * 4294967296 + r .past .0
+  pub comes : (s : Shape) (u : Run s (Change q)) (x : List ℕ) → length x ≡ n → Stands s (Change q) u (at .phase) (at .past .0) x
+      → Stands s (Change q) u (r .phase) (r .word .0) x
 
 -- Of the 1,024 pages from page `begin` on, `r` come before page `n`.
 pub record PagesBefore (begin n r : ℕ) : Type 0 where

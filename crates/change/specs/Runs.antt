@@ -58,7 +58,7 @@ Stands s w r c k x = At s (r .domain) (r .paint) (r .old) (r .goal) (r .kept) (r
 
 -- A cursor that the work can go on from, in a pool of `n` words: the plan is in its ranges and the row within the pool; a tidying has one phase.
 abbrev pub Follows : Work → Cursor → ℕ → Type 0
-Follows (Change q) c n = PlanFits q × (c .word ≤ c .past) × (c .past ≤ n)
+Follows (Change q) c n = PlanFits q × (c .word .0 ≤ c .past .0) × (c .past .0 ≤ n)
 Follows Tidying c n = c .phase ≡ 1
 
 -- What the next store of a work is looked for in.
@@ -91,7 +91,7 @@ pub record Stores (s : Shape) (w : Work) (r : Run s w) (x : List ℕ) (c k v : �
 -- Every run of the work that stands at word `i` of phase `c` makes, next, the store of `v` at word `k`, and goes on from the cursor `on`.
 pub record Wanted (s : Shape) (w : Work) (x : List ℕ) (c i k v : ℕ) (on : Cursor) : Type 0 where
   pub inside : k < length x
-  pub word : on .word ≡ k + 1
+  pub word : on .word .0 ≡ k + 1
   pub follows : Follows w on (length x)
   pub stores : (r : Run s w) → Stands s w r c i x → Stores s w r x (on .phase) k v
 
@@ -107,7 +107,7 @@ NextIn s w x c i to None = (r : Run s w) → Stands s w r c i x → Stands s w r
 
 -- Where every run begins.
 abbrev pub start : Cursor
-start = record { phase = 1; word = 0; past = 0 }
+start = record { phase = 1; word = record { 0 = 0 }; past = record { 0 = 0 } }
 
 -- The work is ready to be made on the pool `x`.
 pub record Ready (s : Shape) (d : ℕ) (paint : Paint) (w : Work) (x : List ℕ) : Type 0 where

@@ -13,43 +13,49 @@ use crate::phase_of;
 use plan::Edge;
 use plan::Plan;
 use table::Shape;
+use words::PoolWord;
 
 // The words from `from` up to `past`.
 pub struct Span {
-    pub from: u32,
-    pub past: u32,
+    pub from: PoolWord,
+    pub past: PoolWord,
 }
 
 // The first of two rows: the words from `k` on of those from `start` up to `past`, or `best` where that comes before them.
-fn nearer(k: u32, start: u32, past: u32, best: Span) -> Span
-    requires { ⌜ k ≤ best .from ⌝ }
-    ensures { λ r. ⌜ Ahead k best (Outside start past) r ⌝ }
+fn nearer(k: PoolWord, start: PoolWord, past: PoolWord, best: Span) -> Span
+    requires { ⌜ k .0 ≤ best .from .0 ⌝ }
+    ensures { λ r. ⌜ Ahead (k .0) best (Outside (start .0) (past .0)) r ⌝ }
 {
-    let from = best.from;
-    if past <= k {
+    let here = words::pool_index(k);
+    let first = words::pool_index(start);
+    let end = words::pool_index(past);
+    let limit = words::pool_index(best.from);
+    if end <= here {
         return best;
     }
-    if past <= start {
+    if end <= first {
         return best;
     }
-    if from <= start {
+    if limit <= first {
         return best;
     }
-    if start <= k {
+    if first <= here {
         return Span { from: k, past };
     }
     Span { from: start, past }
 }
 
 // The blocks that the region meets.
-fn near_root(plan: Plan, k: u32, best: Span) -> Span
-    requires { ⌜ PlanFits plan × (k ≤ best .from) ⌝ }
-    ensures { λ r. ⌜ Ahead k best (RootIdle plan) r ⌝ }
+fn near_root(plan: Plan, k: PoolWord, best: Span) -> Span
+    requires { ⌜ PlanFits plan × (k .0 ≤ best .from .0) ⌝ }
+    ensures { λ r. ⌜ Ahead (k .0) best (RootIdle plan) r ⌝ }
 {
     let first = plan.first_block;
     let last = plan.last_block;
-    let root = 1024 * plan.domain;
-    nearer(k, root + first.number, root + last.number + 1, best)
+    let root = words::pool_word(1024 * plan.domain);
+    let start = words::word_after(root, first.number as usize);
+    let past = words::word_after(root, last.number as usize + 1);
+    nearer(k, start, past, best)
 }
 
 // How many pages of the block that begins with page `begin` come before page `n`.
@@ -64,13 +70,13 @@ fn pages_before(begin: u32, n: u32) -> u32
 }
 
 // Of a middle table that stays, the pages that the region meets.
-fn near_middle(plan: Plan, block: Edge, k: u32, best: Span) -> Span
-    requires { ⌜ PlanFits plan × (block .number < 1024) × (k ≤ best .from) ⌝ }
-    ensures { λ r. ⌜ Ahead k best (MiddleIdle plan block) r ⌝ }
+fn near_middle(plan: Plan, block: Edge, k: PoolWord, best: Span) -> Span
+    requires { ⌜ PlanFits plan × (block .number < 1024) × (k .0 ≤ best .from .0) ⌝ }
+    ensures { λ r. ⌜ Ahead (k .0) best (MiddleIdle plan block) r ⌝ }
 {
-    let table = block.last;
+    let last = block.last;
     let old = block.old;
-    if table >= 0x8000_0000 {
+    if last >= 0x8000_0000 {
         return best;
     }
     if old >= 0x8000_0000 {
@@ -81,45 +87,52 @@ fn near_middle(plan: Plan, block: Edge, k: u32, best: Span) -> Span
     let begin = 1024 * block.number;
     let first = pages_before(begin, first_page.number);
     let past = pages_before(begin, last_page.number + 1);
-    nearer(k, table + first, table + past, best)
+    let table = words::pool_word(last);
+    let start = words::word_after(table, first as usize);
+    let end = words::word_after(table, past as usize);
+    nearer(k, start, end, best)
 }
 
 // A leaf that stays.
-fn near_leaf(page: Edge, k: u32, best: Span) -> Span
-    requires { ⌜ k ≤ best .from ⌝ }
-    ensures { λ r. ⌜ Ahead k best (LeafIdle page) r ⌝ }
+fn near_leaf(page: Edge, k: PoolWord, best: Span) -> Span
+    requires { ⌜ k .0 ≤ best .from .0 ⌝ }
+    ensures { λ r. ⌜ Ahead (k .0) best (LeafIdle page) r ⌝ }
 {
-    let table = page.last;
+    let last = page.last;
     let old = page.old;
-    if table >= 0x8000_0000 {
+    if last >= 0x8000_0000 {
         return best;
     }
     if old >= 0x8000_0000 {
         return best;
     }
-    nearer(k, table, table + 64, best)
+    let table = words::pool_word(last);
+    let end = words::word_after(table, 64);
+    nearer(k, table, end, best)
 }
 
 // A new table of `n` words.
-fn near_new(edge: Edge, n: u32, k: u32, best: Span) -> Span
-    requires { ⌜ (k ≤ best .from) × (n ≤ 1024) ⌝ }
-    ensures { λ r. ⌜ Ahead k best (NotNew edge n) r ⌝ }
+fn near_new(edge: Edge, n: usize, k: PoolWord, best: Span) -> Span
+    requires { ⌜ (k .0 ≤ best .from .0) × (n ≤ 1024) ⌝ }
+    ensures { λ r. ⌜ Ahead (k .0) best (NotNew edge n) r ⌝ }
 {
-    let table = edge.last;
+    let last = edge.last;
     let old = edge.old;
-    if table >= 0x8000_0000 {
+    if last >= 0x8000_0000 {
         return best;
     }
     if old < 0x8000_0000 {
         return best;
     }
-    nearer(k, table, table + n, best)
+    let table = words::pool_word(last);
+    let end = words::word_after(table, n);
+    nearer(k, table, end, best)
 }
 
 // The first row from `k` on, and before `best`, of the tables that stay.
-fn next_kept(plan: Plan, k: u32, best: Span) -> Span
-    requires { ⌜ PlanFits plan × (k ≤ best .from) ⌝ }
-    ensures { λ r. ⌜ Ahead k best (KeptIdle plan) r ⌝ }
+fn next_kept(plan: Plan, k: PoolWord, best: Span) -> Span
+    requires { ⌜ PlanFits plan × (k .0 ≤ best .from .0) ⌝ }
+    ensures { λ r. ⌜ Ahead (k .0) best (KeptIdle plan) r ⌝ }
 {
     let one = near_root(plan, k, best);
     let two = near_middle(plan, plan.first_block, k, one);
@@ -129,9 +142,9 @@ fn next_kept(plan: Plan, k: u32, best: Span) -> Span
 }
 
 // The same of the new tables.
-fn next_new(plan: Plan, k: u32, best: Span) -> Span
-    requires { ⌜ k ≤ best .from ⌝ }
-    ensures { λ r. ⌜ Ahead k best (NewIdle plan) r ⌝ }
+fn next_new(plan: Plan, k: PoolWord, best: Span) -> Span
+    requires { ⌜ k .0 ≤ best .from .0 ⌝ }
+    ensures { λ r. ⌜ Ahead (k .0) best (NewIdle plan) r ⌝ }
 {
     let one = near_new(plan.first_block, 1024, k, best);
     let two = near_new(plan.last_block, 1024, k, one);
@@ -140,9 +153,9 @@ fn next_new(plan: Plan, k: u32, best: Span) -> Span
 }
 
 // By the phase: new tables are filled in the second.
-fn next_in(plan: Plan, c: u32, k: u32, none: Span) -> Span
-    requires { ⌜ PlanFits plan × (k ≤ none .from) ⌝ }
-    ensures { λ r. ⌜ Ahead k none (Idle plan c) r ⌝ }
+fn next_in(plan: Plan, c: u32, k: PoolWord, none: Span) -> Span
+    requires { ⌜ PlanFits plan × (k .0 ≤ none .from .0) ⌝ }
+    ensures { λ r. ⌜ Ahead (k .0) none (Idle plan c) r ⌝ }
 {
     if c == 2 {
         return next_new(plan, k, none);
@@ -150,42 +163,54 @@ fn next_in(plan: Plan, c: u32, k: u32, none: Span) -> Span
     next_kept(plan, k, none)
 }
 
-// The row after the cursor's that has something to do; past the last word the next phase begins.
-fn next_row(plan: Plan, at: Cursor, n: u32) -> Cursor
-    requires { ⌜ PlanFits plan × (at .past ≤ n) × (at .phase < 4) ⌝ }
-    ensures { λ r. ⌜ NextRow plan at n r ⌝ }
+// The row after the cursor's that has something to do; past the last word, which `end` follows, the next phase begins.
+fn next_row(plan: Plan, at: Cursor, end: PoolWord) -> Cursor
+    requires { ⌜ PlanFits plan × (at .past .0 ≤ end .0) × (end .0 < 4294967296) × (at .phase < 4) ⌝ }
+    ensures { λ r. ⌜ NextRow plan at (end .0) r ⌝ }
 {
     let phase = at.phase;
     let k = at.past;
-    if k == n {
+    let here = words::pool_index(k);
+    let n = words::pool_index(end);
+    if here == n {
         return Cursor {
             phase: phase + 1,
-            word: 0,
-            past: 0,
+            word: words::FIRST_WORD,
+            past: words::FIRST_WORD,
         };
     }
-    let row = next_in(plan, phase, k, Span { from: n, past: n });
+    let row = next_in(
+        plan,
+        phase,
+        k,
+        Span {
+            from: end,
+            past: end,
+        },
+    );
     let word = row.from;
     let past = row.past;
-    if past < n {
+    let stop = words::pool_index(past);
+    if stop < n {
         return Cursor { phase, word, past };
     }
     Cursor {
         phase,
         word,
-        past: n,
+        past: end,
     }
 }
 
 // The store at the cursor's word, if the word changes in this phase.
 fn next_here(pool: &[u32], shape: Shape, plan: Plan, at: Cursor) -> Next
-    requires { ⌜ Looks shape (Work.Change plan) at (now pool) × (at .word < at .past) ⌝ }
-    ensures { λ r. ⌜ NextIn shape (Work.Change plan) (now (pool .entry)) (at .phase) (at .word) (at .word + 1) r ⌝ }
+    requires { ⌜ Looks shape (Work.Change plan) at (now pool) × (at .word .0 < at .past .0) ⌝ }
+    ensures { λ r. ⌜ NextIn shape (Work.Change plan) (now (pool .entry)) (at .phase) (at .word .0) (at .word .0 + 1) r ⌝ }
 {
     let phase = at.phase;
     let k = at.word;
     let past = at.past;
-    let x = pool[k as usize];
+    let i = words::pool_index(k);
+    let x = pool[i];
     let turn = phase_of(shape, plan, k, x);
     if turn != phase {
         return Next::None;
@@ -194,28 +219,27 @@ fn next_here(pool: &[u32], shape: Shape, plan: Plan, at: Cursor) -> Next
     if value == x {
         return Next::None;
     }
-    let on = Cursor {
-        phase,
-        word: k + 1,
-        past,
-    };
-    Next::Store(words::pool_word(k), value, on)
+    let word = words::word_after(k, 1);
+    Next::Store(k, value, Cursor { phase, word, past })
 }
 
 // The next store in the cursor's row.
 fn next_in_row(pool: &[u32], shape: Shape, plan: Plan, at: Cursor) -> Next
     requires { ⌜ Looks shape (Work.Change plan) at (now pool) ⌝ }
-    ensures { λ r. ⌜ NextIn shape (Work.Change plan) (now (pool .entry)) (at .phase) (at .word) (at .past) r ⌝ }
+    ensures { λ r. ⌜ NextIn shape (Work.Change plan) (now (pool .entry)) (at .phase) (at .word .0) (at .past .0) r ⌝ }
 {
     let phase = at.phase;
     let past = at.past;
-    let mut word = at.word;
-    while word < past {
+    let first = at.word;
+    let mut left = words::pool_index(past) - words::pool_index(first);
+    let mut word = first;
+    while 0 < left {
         let next = next_here(pool, shape, plan, Cursor { phase, word, past });
         let Next::None = next else {
             return next;
         };
-        word += 1;
+        word = words::word_after(word, 1);
+        left -= 1;
     }
     Next::None
 }
@@ -223,16 +247,16 @@ fn next_in_row(pool: &[u32], shape: Shape, plan: Plan, at: Cursor) -> Next
 // The next store of a change: row by row, and phase by phase.
 pub fn next_change(pool: &[u32], shape: Shape, plan: Plan, from: Cursor) -> Next
     requires { ⌜ Looks shape (Work.Change plan) from (now pool) ⌝ }
-    ensures { λ r. ⌜ NextIs shape (Work.Change plan) (now (pool .entry)) (from .phase) (from .word) r ⌝ }
+    ensures { λ r. ⌜ NextIs shape (Work.Change plan) (now (pool .entry)) (from .phase) (from .word .0) r ⌝ }
 {
-    let n = pool.len() as u32;
+    let end = words::pool_word(pool.len() as u32);
     let mut at = from;
     while at.phase < 4 {
         let next = next_in_row(pool, shape, plan, at);
         let Next::None = next else {
             return next;
         };
-        at = next_row(plan, at, n);
+        at = next_row(plan, at, end);
     }
     Next::None
 }

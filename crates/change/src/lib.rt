@@ -1,6 +1,6 @@
 // Changes and tidyings: a plan by value, stores that each leave a safe pool, and a cut wherever the allowance ends.
 ghost use mathlib.Core.Path.{_≡_};
-ghost use Prim.Native.Nat.{ℕ, _+_, _*_, _/_, _<_, _≤_};
+ghost use Prim.Native.Nat.{ℕ, _+_, _*_, _-_, _/_, _<_, _≤_};
 ghost use mathlib.Core.List.{List};
 ghost use mathlib.Core.Bool.{cond, _&&_};
 ghost use Rattle.words.specs.Rights.{rightAt, eightOf};
@@ -42,14 +42,14 @@ pub enum Work {
 // Where a run stands: the phase, and in it the word. The words from there up to `past` are a row, to be looked at one by one.
 pub struct Cursor {
     pub phase: u32,
-    pub word: u32,
-    pub past: u32,
+    pub word: PoolWord,
+    pub past: PoolWord,
 }
 
 const START: Cursor = Cursor {
     phase: 1,
-    word: 0,
-    past: 0,
+    word: words::FIRST_WORD,
+    past: words::FIRST_WORD,
 };
 
 // The next store: where, what, and where the run goes on; or there is none.
@@ -65,26 +65,48 @@ pub enum Request {
 }
 
 // Whether word `k` is one of the `n` words from `t` on.
-fn in_table(t: u32, n: u32, k: u32) -> bool
-    requires { ⌜ t + n < 4294967296 ⌝ }
-    ensures { λ r. ⌜ r ≡ InTable t n k ⌝ }
+fn in_table(t: PoolWord, n: usize, k: PoolWord) -> bool
+    requires { ⌜ t .0 + n < 4294967296 ⌝ }
+    ensures { λ r. ⌜ r ≡ InTable (t .0) n (k .0) ⌝ }
 {
-    if k < t {
+    let first = words::pool_index(t);
+    let i = words::pool_index(k);
+    if i < first {
         return false;
     }
-    k < t + n
+    i < first + n
+}
+
+// Which word of the table that begins at `t` word `k` is.
+fn entry_number(t: PoolWord, k: PoolWord) -> u32
+    requires { ⌜ (t .0 ≤ k .0) × (k .0 < t .0 + 1024) ⌝ }
+    ensures { λ r. ⌜ r ≡ k .0 - t .0 ⌝ }
+{
+    let first = words::pool_index(t);
+    let i = words::pool_index(k);
+    (i - first) as u32
 }
 
 // Whether word `k` is of the table to which the edge's new entry leads.
-fn of_table(edge: Edge, n: u32, k: u32) -> bool
+fn of_table(edge: Edge, n: usize, k: PoolWord) -> bool
     requires { ⌜ n ≤ 1024 ⌝ }
-    ensures { λ r. ⌜ r ≡ tableOf edge n k ⌝ }
+    ensures { λ r. ⌜ r ≡ tableOf edge n (k .0) ⌝ }
 {
     let last = edge.last;
     if last >= 0x8000_0000 {
         return false;
     }
-    in_table(last, n, k)
+    let table = words::pool_word(last);
+    in_table(table, n, k)
+}
+
+// Which word of the table to which the edge's new entry leads word `k` is.
+fn table_entry(edge: Edge, k: PoolWord) -> u32
+    requires { ⌜ (edge .last ≤ k .0) × (k .0 < edge .last + 1024) ⌝ }
+    ensures { λ r. ⌜ r ≡ k .0 - edge .last ⌝ }
+{
+    let table = words::pool_word(edge.last);
+    entry_number(table, k)
 }
 
 // What the root word of block `i` of the domain is to hold.
@@ -168,37 +190,37 @@ fn leaf_after(plan: Plan, page: Edge, i: u32, x: u32) -> u32
 }
 
 // What word `k`, which holds `x`, is to hold. A word that the plan does not know stays as it is.
-fn final_word(plan: Plan, k: u32, x: u32) -> u32
+fn final_word(plan: Plan, k: PoolWord, x: u32) -> u32
     requires { ⌜ PlanFits plan ⌝ }
-    ensures { λ r. ⌜ r ≡ after plan k x ⌝ }
+    ensures { λ r. ⌜ r ≡ after plan (k .0) x ⌝ }
 {
-    let root = 1024 * plan.domain;
+    let root = words::pool_word(1024 * plan.domain);
     if in_table(root, 1024, k) {
-        return root_after(plan, k - root, x);
+        return root_after(plan, entry_number(root, k), x);
     }
     let block = plan.first_block;
     if of_table(block, 1024, k) {
-        return page_after(plan, block, k - block.last, x);
+        return page_after(plan, block, table_entry(block, k), x);
     }
     let block2 = plan.last_block;
     if of_table(block2, 1024, k) {
-        return page_after(plan, block2, k - block2.last, x);
+        return page_after(plan, block2, table_entry(block2, k), x);
     }
     let page = plan.first_page;
     if of_table(page, 64, k) {
-        return leaf_after(plan, page, k - page.last, x);
+        return leaf_after(plan, page, table_entry(page, k), x);
     }
     let page2 = plan.last_page;
     if of_table(page2, 64, k) {
-        return leaf_after(plan, page2, k - page2.last, x);
+        return leaf_after(plan, page2, table_entry(page2, k), x);
     }
     x
 }
 
 // Whether word `k` is of the table of an edge that had none.
-fn of_new_table(edge: Edge, n: u32, k: u32) -> bool
+fn of_new_table(edge: Edge, n: usize, k: PoolWord) -> bool
     requires { ⌜ n ≤ 1024 ⌝ }
-    ensures { λ r. ⌜ r ≡ (isNew edge && InTable (edge .last) n k) ⌝ }
+    ensures { λ r. ⌜ r ≡ (isNew edge && InTable (edge .last) n (k .0)) ⌝ }
 {
     let old = edge.old;
     let last = edge.last;
@@ -208,11 +230,12 @@ fn of_new_table(edge: Edge, n: u32, k: u32) -> bool
     if old < 0x8000_0000 {
         return false;
     }
-    in_table(last, n, k)
+    let table = words::pool_word(last);
+    in_table(table, n, k)
 }
 
-fn new_word(plan: Plan, k: u32) -> bool
-    ensures { λ r. ⌜ r ≡ newWord plan k ⌝ }
+fn new_word(plan: Plan, k: PoolWord) -> bool
+    ensures { λ r. ⌜ r ≡ newWord plan (k .0) ⌝ }
 {
     let block = plan.first_block;
     if of_new_table(block, 1024, k) {
@@ -231,16 +254,17 @@ fn new_word(plan: Plan, k: u32) -> bool
 }
 
 // The phase in which word `k`, which holds `x`, is stored: words that lead are given up first, then new tables are filled, then the rest is linked.
-fn phase_of(shape: Shape, plan: Plan, k: u32, x: u32) -> u32
+fn phase_of(shape: Shape, plan: Plan, k: PoolWord, x: u32) -> u32
     requires { ⌜ InRange (shape .domains) (shape .middles) (shape .leaves) ⌝ }
-    ensures { λ r. ⌜ r ≡ phaseOf shape plan k x ⌝ }
+    ensures { λ r. ⌜ r ≡ phaseOf shape plan (k .0) x ⌝ }
 {
     let domains = shape.domains;
     let middles = shape.middles;
     if new_word(plan, k) {
         return 2;
     }
-    if k >= 1024 * domains + 1024 * middles {
+    let i = words::pool_index(k);
+    if i >= (1024 * domains + 1024 * middles) as usize {
         return 3;
     }
     if x < 0x8000_0000 {
@@ -263,7 +287,7 @@ fn put(pool: &mut [u32], shape: Shape, domain: u32, paint: Paint, at: PoolWord, 
 fn next_store(pool: &[u32], shape: Shape, owners: &[u32], work: Work, from: Cursor) -> Next
     requires { ⌜ Looks shape work from (now pool) ⌝ }
     requires { ⌜ Told shape work (now owners) (now pool) ⌝ }
-    ensures { λ r. ⌜ NextIs shape work (now (pool .entry)) (from .phase) (from .word) r ⌝ }
+    ensures { λ r. ⌜ NextIs shape work (now (pool .entry)) (from .phase) (from .word .0) r ⌝ }
 {
     match work {
         Work::Change(plan) => ahead::next_change(pool, shape, plan, from),
@@ -291,7 +315,8 @@ fn make_stores(
     loop {
         let next = next_store(pool, shape, owners, work, from);
         let Next::Store(at, value, on) = next else {
-            return Answer::Done(allowance - left);
+            let made = allowance - left;
+            return Answer::Done(made);
         };
         if left == 0 {
             return Answer::Cut;

@@ -16,46 +16,48 @@ use crate::make_stores;
 use table::Shape;
 use targets::Target;
 use targets::UNPAINTED;
+use words::PoolWord;
 
 // What word `i` of the table at `base` is to become, where the root word `owner` leads to a middle table. A word that does not lead stays: most
 // are eight rights, and searching for their target would say so too.
-fn target_at(pool: &[u32], shape: Shape, owner: u32, base: u32, i: u32) -> Target
+fn target_at(pool: &[u32], shape: Shape, owner: u32, base: PoolWord, i: u32) -> Target
     requires { ⌜ Fits shape (length (now pool)) × SoundPool (formOf shape) (words (now pool)) ⌝ }
-    requires { ⌜ Table shape (now pool) owner base × (i < 1024) ⌝ }
-    ensures { λ r. ⌜ AimedAt shape (base + i) (now (pool .entry)) r ⌝ }
+    requires { ⌜ Table shape (now pool) owner (base .0) × (i < 1024) ⌝ }
+    ensures { λ r. ⌜ AimedAt shape (base .0 + i) (now (pool .entry)) r ⌝ }
 {
-    let k = base + i;
-    let w = pool[k as usize];
+    let k = words::pool_index(words::word_after(base, i as usize));
+    let w = pool[k];
     if w >= 0x8000_0000 {
         return Target::Mixed;
     }
     let domains = shape.domains;
-    if base < 1024 * domains {
-        return targets::block_target(pool, UNPAINTED, w, k % 1024);
+    let first = words::pool_index(base);
+    if first < (1024 * domains) as usize {
+        return targets::block_target(pool, UNPAINTED, w, (k % 1024) as u32);
     }
     targets::page_target(pool, UNPAINTED, w, owner % 1024 * 1024 + i)
 }
 
 // The first word from `from` on of the table at `base` whose table is given up.
-fn next_given_up(pool: &[u32], shape: Shape, owner: u32, base: u32, from: u32) -> Next
+fn next_given_up(pool: &[u32], shape: Shape, owner: u32, base: PoolWord, from: u32) -> Next
     requires { ⌜ Fits shape (length (now pool)) × SoundPool (formOf shape) (words (now pool)) ⌝ }
-    requires { ⌜ Table shape (now pool) owner base × (from ≤ 1024) ⌝ }
-    ensures { λ r. ⌜ NextIn shape Work.Tidying (now (pool .entry)) 1 (base + from) (base + 1024) r ⌝ }
+    requires { ⌜ Table shape (now pool) owner (base .0) × (from ≤ 1024) ⌝ }
+    ensures { λ r. ⌜ NextIn shape Work.Tidying (now (pool .entry)) 1 (base .0 + from) (base .0 + 1024) r ⌝ }
 {
     let mut i = from;
     while i < 1024 {
-        let n = census::plain_ahead(pool, (base + i) as usize, i);
+        let k = words::word_after(base, i as usize);
+        let n = census::plain_ahead(pool, words::pool_index(k), i);
         if n == 0 {
             let target = target_at(pool, shape, owner, base, i);
             if let Target::Says(value) = target {
-                let k = base + i;
-                let after = k + 1;
+                let after = words::word_after(k, 1);
                 let on = Cursor {
                     phase: 1,
                     word: after,
                     past: after,
                 };
-                return Next::Store(words::pool_word(k), value, on);
+                return Next::Store(k, value, on);
             }
             i += 1;
         } else {
@@ -67,24 +69,26 @@ fn next_given_up(pool: &[u32], shape: Shape, owner: u32, base: u32, from: u32) -
 
 // The root, or the middle place, at `base`. No root word but its owner leads to a middle place. Tables that are not wanted are given up by the
 // time it is met: where the owner no longer leads here, or there is none, the place holds what it held.
-fn next_in_place(pool: &[u32], shape: Shape, owners: &[u32], base: u32, from: u32) -> Next
+fn next_in_place(pool: &[u32], shape: Shape, owners: &[u32], base: PoolWord, from: u32) -> Next
     requires { ⌜ Fits shape (length (now pool)) × SoundPool (formOf shape) (words (now pool)) ⌝ }
     requires { ⌜ MiddleOwners shape (now owners) (now pool) ⌝ }
-    requires { ⌜ Place shape base × (from ≤ 1024) ⌝ }
-    ensures { λ r. ⌜ NextIn shape Work.Tidying (now (pool .entry)) 1 (base + from) (base + 1024) r ⌝ }
+    requires { ⌜ Place shape (base .0) × (from ≤ 1024) ⌝ }
+    ensures { λ r. ⌜ NextIn shape Work.Tidying (now (pool .entry)) 1 (base .0 + from) (base .0 + 1024) r ⌝ }
 {
     let domains = shape.domains;
     let roots = 1024 * domains;
-    if base < roots {
+    let first = words::pool_index(base);
+    if first < roots as usize {
         return next_given_up(pool, shape, 0, base, from);
     }
-    let p = (base - roots) / 1024;
-    let owner = owners[p as usize];
+    let p = (first - roots as usize) / 1024;
+    let owner = owners[p];
     if owner >= roots {
         return Next::None;
     }
-    let w = pool[owner as usize];
-    if w != base {
+    let k = words::pool_index(words::pool_word(owner));
+    let w = pool[k];
+    if w as usize != first {
         return Next::None;
     }
     next_given_up(pool, shape, owner, base, from)
@@ -94,20 +98,20 @@ fn next_in_place(pool: &[u32], shape: Shape, owners: &[u32], base: u32, from: u3
 pub fn next_tidying(pool: &[u32], shape: Shape, owners: &[u32], from: Cursor) -> Next
     requires { ⌜ Looks shape Work.Tidying from (now pool) ⌝ }
     requires { ⌜ MiddleOwners shape (now owners) (now pool) ⌝ }
-    ensures { λ r. ⌜ NextIs shape Work.Tidying (now (pool .entry)) (from .phase) (from .word) r ⌝ }
+    ensures { λ r. ⌜ NextIs shape Work.Tidying (now (pool .entry)) (from .phase) (from .word .0) r ⌝ }
 {
     let domains = shape.domains;
     let middles = shape.middles;
-    let end = 1024 * domains + 1024 * middles;
-    let mut k = from.word;
+    let end = (1024 * domains + 1024 * middles) as usize;
+    let mut k = words::pool_index(from.word);
     while k < end {
         let i = k % 1024;
-        let base = k - i;
-        let next = next_in_place(pool, shape, owners, base, i);
+        let base = words::pool_word((k - i) as u32);
+        let next = next_in_place(pool, shape, owners, base, i as u32);
         let Next::None = next else {
             return next;
         };
-        k = base + 1024;
+        k = k - i + 1024;
     }
     Next::None
 }

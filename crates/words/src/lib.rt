@@ -25,6 +25,9 @@ pub enum Rounded {
     Refused(u32),
 }
 
+// The pool's first word.
+pub const FIRST_WORD: PoolWord = PoolWord(0);
+
 // A number from outside becomes an address.
 pub fn byte_addr(n: u32) -> ByteAddr
     ensures { λ r. ⌜ r ≡ record { 0 = n } ⌝ }

@@ -23,8 +23,8 @@ enum-known-next c = search needs
 enum-told : tie.Need-enum-told Inv-loop μ-loop
 enum-told c = search needs
 
-sub-t16 : tie.Need-sub-t16 Inv-loop μ-loop
-sub-t16 c = ends-left (c .before .before .before .before .loop .inv) (found-none (c .enum-told .given .1) (c .before .before .next-store .ensures))
+sub-made : tie.Need-sub-made Inv-loop μ-loop
+sub-made c = ends-left (c .before .before .before .before .loop .inv) (found-none (c .enum-told .given .1) (c .before .before .next-store .ensures))
 
 same-length : tie.Need-same-length Inv-loop μ-loop
 same-length c = c .before .before .before .before .loop .inv .at .cut .long
@@ -61,7 +61,7 @@ make-stores-spec =
     next-store-requires
     enum-known-next
     enum-told
-    sub-t16
+    sub-made
     same-length
     returns
     same-length-2

@@ -1,5 +1,6 @@
 -- `change::of_new_table` meets its contract.
-use borrow.Author.Tests.{lt-ltb, le-ltb, le-leb, lt-leb, eq-eqb, ne-eqb}
+use mathlib.Core.Path.{ap}
+use borrow.Author.Tests.{lt-ltb, le-ltb}
 use native.Mathlib.Omega.{arith}
 use borrow.Author.Needs.{needs}
 use Rattle.change.proofs.of_new_table.Statement.{statement}
@@ -9,14 +10,22 @@ returns : tie.Need-returns
 returns c = simp (le-ltb (c .before .args .edge .last) 2147483648 (c .if1 .taken))
 
 returns-2 : tie.Need-returns-2
-returns-2 c = let e = c .before .before .args .edge in simp (lt-ltb (e .last) 2147483648 (c .before .if1 .left), lt-ltb (e .old) 2147483648 (c .if2 .taken))
+returns-2 c =
+    let e = c .before .before .args .edge in
+    simp (lt-ltb (e .last) 2147483648 (c .before .if1 .left), lt-ltb (e .old) 2147483648 (c .if2 .taken))
+
+pool-word-requires : tie.Need-pool-word-requires
+pool-word-requires c κs = search needs
 
 in-table-requires : tie.Need-in-table-requires
-in-table-requires c κs = search needs
+in-table-requires c κs = let e = ap (λ w. w .0) (c .pool-word .ensures) in omega (arith, c .before .before .if1 .left, c .before .before .before .pre)
 
 returns-3 : tie.Need-returns-3
-returns-3 c = let e = c .before .before .before .args .edge in
-    rw (lt-ltb (e .last) 2147483648 (c .before .before .if1 .left), le-ltb (e .old) 2147483648 (c .before .if2 .left)) (c .in-table .ensures)
+returns-3 c =
+    let e = c .before .before .before .before .args .edge in
+    let z = ap (λ w. w .0) (c .before .pool-word .ensures) in
+    rw (lt-ltb (e .last) 2147483648 (c .before .before .before .if1 .left), le-ltb (e .old) 2147483648 (c .before .before .if2 .left))
+    (rw z at (c .in-table .ensures))
 
 pub of-new-table-spec : {M : Type 1} → statement M
-of-new-table-spec = tie.close (tie.spec returns returns-2 in-table-requires returns-3)
+of-new-table-spec = tie.close (tie.spec returns returns-2 pool-word-requires in-table-requires returns-3)

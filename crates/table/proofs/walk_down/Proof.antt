@@ -45,7 +45,7 @@ loop-holds c =
     let s = c .before .before .before .before in
     let i : c .before .index-in .result ≡ index 2 (s .args .address .0) = c .before .index-in .ensures in
     let e : c .word-after .result .0 ≡ 1024 * s .args .domain + index 2 (s .args .address .0) =
-        ap (λ w. w .0) (c .word-after .ensures) ∙ rw (i, c .before .before .pool-word .ensures) in
+    ap (λ w. w .0) (c .word-after .ensures) ∙ rw (i, c .before .before .pool-word .ensures) in
     let b = index-below 2 (s .args .address .0) in
     (omega arith, refl, omega (arith, s .pre .0 .long), rw e)
 
@@ -91,7 +91,7 @@ returns-2 c =
     let P = words (s .args .pool .now) in
     let (word, fits, made) = d .before .load .ensures in
     let (e, g, n) = decoded-any-rights (s .args .shape) (l .loop .height) _ _ fits (l .loop .inv .0)
-        (sym (d .decode .ensures) ∙ c .before .before .before .e .given .1) in
+    (sym (d .decode .ensures) ∙ c .before .before .before .e .given .1) in
     let loads : d .before .load .result .loads ≡ 3 - l .loop .height = omega (arith, l .loop .inv .1, l .loop .inv .0) in
     rw (c .right-at .ensures, c .before .part-in .ensures, e, word, loads)
     (ap (foundAt F P (s .args .address .0))
@@ -131,7 +131,7 @@ loop-again c =
     let d = c .before .before .before .before .before in
     let l = d .before .before in
     let e : c .word-after2 .result .0 ≡ c .before .before .before .e2 .given .0 .0 .0 + index (l .loop .height - 1) (l .before .before .before .before .before .args .address .0) =
-        ap (λ w. w .0) (c .word-after2 .ensures) ∙ rw (c .before .index-in2 .ensures) in
+    ap (λ w. w .0) (c .word-after2 .ensures) ∙ rw (c .before .index-in2 .ensures) in
     (omega arith, omega (arith, d .before .load .ensures .2, g .above), rw e (g .inside), rw e (g .rest ∙ l .loop .inv .3))
 
 pub walk-down-spec : {M : Type 1} → statement M

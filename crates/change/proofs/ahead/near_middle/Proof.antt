@@ -1,9 +1,10 @@
 -- `ahead::near_middle` meets its contract.
-use mathlib.Core.Path.{sym, _∙_}
+use mathlib.Core.Path.{sym, ap, _∙_}
 use mathlib.Core.Bool.{false≢true}
-use borrow.Author.Needs.{needs}
-use Rattle.change.proofs.AheadLaws.{ahead-as, ahead-all, no-table, middle-outside}
+use native.Mathlib.Omega.{arith}
 use borrow.Author.Tests.{le-ltb}
+use Rattle.change.proofs.AheadLaws.{ahead-as, ahead-all, no-table, middle-outside}
+use borrow.Author.Needs.{needs}
 use Rattle.change.proofs.ahead.near_middle.Statement.{statement}
 use Rattle.change.proofs.ahead.near_middle.Tie as tie
 
@@ -25,20 +26,41 @@ add-pages-before c = search needs
 pages-before-requires-2 : tie.Need-pages-before-requires-2
 pages-before-requires-2 c κs = search needs
 
-add-nearer : tie.Need-add-nearer
-add-nearer c = search needs
+pool-word-requires : tie.Need-pool-word-requires
+pool-word-requires c κs = search needs
 
-add-nearer-2 : tie.Need-add-nearer-2
-add-nearer-2 c = search needs
+cast-word-after : tie.Need-cast-word-after
+cast-word-after c = search needs
+
+word-after-requires : tie.Need-word-after-requires
+word-after-requires c κs =
+    let e = ap (λ w. w .0) (c .pool-word .ensures) in
+    let p = c .before .before .before .pages-before .ensures .most in
+    omega (arith, c .before .before .before .before .before .before .before .before .if1 .left)
+
+cast-word-after-2 : tie.Need-cast-word-after-2
+cast-word-after-2 c = search needs
+
+word-after-requires-2 : tie.Need-word-after-requires-2
+word-after-requires-2 c κs =
+    let e = ap (λ w. w .0) (c .before .pool-word .ensures) in
+    let p = c .before .before .pages-before2 .ensures .most in
+    omega (arith, c .before .before .before .before .before .before .before .before .before .if1 .left)
 
 nearer-requires : tie.Need-nearer-requires
 nearer-requires c κs = search needs
 
 returns-3 : tie.Need-returns-3
 returns-3 c =
-    let a = c .before .before .before .before .before .before .before .before .before in
-    ahead-as (c .nearer .ensures) (λ j. middle-outside (a .args .plan) (a .pre .0) (a .args .block) _ _ j
-    (c .before .before .before .before .before .before .before .if2 .left) (c .before .before .before .pages-before .ensures) (c .before .pages-before2 .ensures))
+    let b2 = c .before .before .before .before in
+    let b1 = b2 .before .before in
+    let left = b1 .before .before .before .before in
+    let a = left .before .before in
+    let table = ap (λ w. w .0) (c .before .before .before .pool-word .ensures) in
+    let start = ap (λ w. w .0) (c .before .before .word-after .ensures) in
+    let past = ap (λ w. w .0) (c .before .word-after2 .ensures) in
+    ahead-as (rw (past, start, table) at (c .nearer .ensures)) (λ j. middle-outside (a .args .plan) (a .pre .0) (a .args .block) _ _ j
+    (left .if2 .left) (b1 .pages-before .ensures) (b2 .pages-before2 .ensures))
 
 pub near-middle-spec : {M : Type 1} → statement M
 near-middle-spec =
@@ -50,7 +72,10 @@ near-middle-spec =
     pages-before-requires
     add-pages-before
     pages-before-requires-2
-    add-nearer
-    add-nearer-2
+    pool-word-requires
+    cast-word-after
+    word-after-requires
+    cast-word-after-2
+    word-after-requires-2
     nearer-requires
     returns-3)

@@ -1,73 +1,85 @@
 -- `ahead::next_here` meets its contract.
 use Prim.Native.Nat.{_<_}
-use mathlib.Core.Path.{refl, sym, _∙_}
+use mathlib.Core.Path.{_≡_, refl, sym, ap, _∙_}
 use native.Mathlib.Omega.{arith}
 use borrow.Author.Needs.{needs}
 use lib.ListN.{length}
+use Rattle.theory.specs.Pool.{words}
+use Rattle.change.proofs.AheadLaws.{few-words}
 use Rattle.change.proofs.TurnLaws.{turn-same, turn-other, turn-stores}
 use Rattle.change.proofs.ahead.next_here.Statement.{statement}
 use Rattle.change.proofs.ahead.next_here.Tie as tie
 
-cast-x : tie.Need-cast-x
-cast-x c = search needs
+pool-index-requires : tie.Need-pool-index-requires
+pool-index-requires c κs = search needs
 
 mul-x : tie.Need-mul-x
 mul-x c = search needs
 
 shared-slice-read-x : tie.Need-shared-slice-read-x
-shared-slice-read-x c = let p = c .before .before .pre in omega (arith, p .1, p .0 .follows .2)
+shared-slice-read-x c =
+    let p = c .before .before .before .before .before .pre in
+    omega (arith, c .before .pool-index .ensures, p .1, p .0 .follows .2)
 
 phase-of-requires : tie.Need-phase-of-requires
-phase-of-requires c κs = c .before .before .pre .0 .fits .range
+phase-of-requires c κs = c .before .before .before .before .before .pre .0 .fits .range
+
+-- The word that was read.
+read : (c : tie.After-phase-of) → let a = c .before .before .before .before .before .before .args in
+    words (a .pool .now) (c .before .before .pool-index .result) ≡ words (a .pool .now) (a .at .word .0)
+read c = ap (words (c .before .before .before .before .before .before .args .pool .now)) (c .before .before .pool-index .ensures)
 
 returns : tie.Need-returns
 returns c =
-    let a = c .before .before .before .before .args in
-    let p = c .before .before .before .before .pre in
-    λ u y. turn-other (a .shape) (a .plan) (a .at .phase) (a .at .word) (a .pool .now) (omega (arith, p .1, p .0 .follows .2)) u y
-    (λ e. c .if1 .taken (c .before .phase-of .ensures ∙ e))
+    let s = c .before .before .before .before .before .before .before in
+    let a = s .args in
+    λ u y. turn-other (a .shape) (a .plan) (a .at .phase) (a .at .word .0) (a .pool .now) (omega (arith, s .pre .1, s .pre .0 .follows .2)) u y
+    (λ e. c .if1 .taken (c .before .phase-of .ensures ∙ rw (read (c .before)) e))
 
 final-word-requires : tie.Need-final-word-requires
-final-word-requires c κs = c .before .before .before .before .pre .0 .follows .0
+final-word-requires c κs = c .before .before .before .before .before .before .before .pre .0 .follows .0
 
 returns-2 : tie.Need-returns-2
 returns-2 c =
-    let a = c .before .before .before .before .before .before .args in
-    let p = c .before .before .before .before .before .before .pre in
-    λ u y. turn-same (a .shape) (a .plan) (a .at .phase) (a .at .word) (a .pool .now) (omega (arith, p .1, p .0 .follows .2)) u y
-    (sym (c .before .final-word .ensures) ∙ c .if2 .taken)
+    let p = c .before .before .before in
+    let s = p .before .before .before .before .before .before in
+    let a = s .args in
+    λ u y. turn-same (a .shape) (a .plan) (a .at .phase) (a .at .word .0) (a .pool .now) (omega (arith, s .pre .1, s .pre .0 .follows .2)) u y
+    (rw (← read p) (sym (c .before .final-word .ensures) ∙ c .if2 .taken))
 
-add-t15 : tie.Need-add-t15
-add-t15 c = search needs
-
-pool-word-requires : tie.Need-pool-word-requires
-pool-word-requires c κs = search needs
+word-after-requires : tie.Need-word-after-requires
+word-after-requires c κs =
+    let s = c .before .before .before .before .before .before .before .before .before in
+    omega (arith, s .pre .1, s .pre .0 .follows .2, few-words (s .pre .0 .fits))
 
 returns-3 : tie.Need-returns-3
 returns-3 c =
-    let a = c .before .before .before .before .before .before .before .args in
-    let f = c .before .before .before .before .before .before .before .pre .0 .follows in
-    let h : a .at .word < length (a .pool .now) = omega (arith, c .before .before .before .before .before .before .before .pre .1, f .2) in
-    let e = c .before .before .final-word .ensures in
-    rw (c .pool-word .ensures, e) (record {
+    let p = c .before .before .before .before in
+    let s = p .before .before .before .before .before .before in
+    let a = s .args in
+    let f = s .pre .0 .follows in
+    let h : a .at .word .0 < length (a .pool .now) = omega (arith, s .pre .1, f .2) in
+    let e = rw (read p) at (c .before .before .final-word .ensures) in
+    let next = ap (λ w. w .0) (c .word-after .ensures) in
+    rw e (record {
       inside = h;
-      word = refl;
-      follows = (f .0, omega (arith, c .before .before .before .before .before .before .before .pre .1), f .2);
-      stores = λ u y. turn-stores (a .shape) (a .plan) (a .at .phase) (a .at .word) (a .pool .now) h u y (sym (c .before .before .before .before .phase-of .ensures) ∙ c .before .before .before .if1 .left)
-          (λ z. c .before .if2 .left (e ∙ z));
+      word = next;
+      follows = (f .0, omega (arith, s .pre .1), f .2);
+      stores = λ u y. turn-stores (a .shape) (a .plan) (a .at .phase) (a .at .word .0) (a .pool .now) h u y
+          (rw (← read p) (sym (p .phase-of .ensures) ∙ c .before .before .before .if1 .left))
+          (λ z. c .before .if2 .left (e ∙ z ∙ sym (read p)));
     })
 
 pub next-here-spec : {M : Type 1} → statement M
 next-here-spec =
     tie.close
     (tie.spec
-    cast-x
+    pool-index-requires
     mul-x
     shared-slice-read-x
     phase-of-requires
     returns
     final-word-requires
     returns-2
-    add-t15
-    pool-word-requires
+    word-after-requires
     returns-3)

@@ -1,6 +1,6 @@
 -- `ahead::next_row` meets its contract.
 use Prim.Native.Nat.{_<_}
-use mathlib.Core.Path.{sym, ap, _∙_}
+use mathlib.Core.Path.{ap}
 use mathlib.Core.Logic.{⊎-elim}
 use native.Mathlib.Omega.{arith}
 use borrow.Author.Needs.{needs}
@@ -8,44 +8,65 @@ use Rattle.change.proofs.TurnLaws.{row-turn, row-ahead}
 use Rattle.change.proofs.ahead.next_row.Statement.{statement}
 use Rattle.change.proofs.ahead.next_row.Tie as tie
 
-add-t10 : tie.Need-add-t10
-add-t10 c = search needs
+pool-index-requires : tie.Need-pool-index-requires
+pool-index-requires c κs = search needs
+
+pool-index-requires-2 : tie.Need-pool-index-requires-2
+pool-index-requires-2 c κs = search needs
+
+add-t13 : tie.Need-add-t13
+add-t13 c = search needs
 
 returns : tie.Need-returns
 returns c =
-    let a = c .before .args in record {
+    let a = c .before .before .before .before .args in record {
       row = (omega arith, omega arith);
       last = omega arith;
       moves = omega arith;
-      comes = λ s u x e y. row-turn s (a .plan) (a .at .phase) (a .at .past) x u y (c .if1 .taken ∙ sym e);
+      comes = λ s u x e y. row-turn s (a .plan) (a .at .phase) (a .at .past .0) x u y (omega (arith, c .if1 .taken));
     }
 
 next-in-requires : tie.Need-next-in-requires
 next-in-requires c κs = search needs
 
+pool-index-requires-3 : tie.Need-pool-index-requires-3
+pool-index-requires-3 c κs = search needs
+
 returns-2 : tie.Need-returns-2
 returns-2 c =
-    let a = c .before .before .before .args in
-    let r = c .before .next-in .ensures in
-    let o : c .before .next-in .result .from < c .before .next-in .result .past =
-    ⊎-elim (λ h. h) (λ e. absurd (let z = ap (λ r. r .past) e in omega arith)) (r .some) in
+    let n = c .before .before .before .before in
+    let a = n .before .before .before .before .before .args in
+    let r = n .next-in .ensures in
+    let row = n .next-in .result in
+    let o : row .from .0 < row .past .0 = ⊎-elim (λ h. h) (λ e. absurd (let z = ap (λ r. r .past .0) e in omega arith)) (r .some) in
     let f = r .from in record {
       row = (omega arith, omega arith);
       last = omega arith;
       moves = omega arith;
-      comes = λ s u x e y. row-ahead s (a .plan) (a .at .phase) (a .at .past) x u y (c .before .next-in .result .from) f (r .passed);
+      comes = λ s u x e y. row-ahead s (a .plan) (a .at .phase) (a .at .past .0) x u y (row .from .0) f (r .passed);
     }
 
 returns-3 : tie.Need-returns-3
 returns-3 c =
-    let a = c .before .before .before .args in
-    let r = c .before .next-in .ensures in
+    let n = c .before .before .before .before in
+    let a = n .before .before .before .before .before .args in
+    let r = n .next-in .ensures in
     let f = r .from in record {
       row = (r .upto, omega arith);
       last = omega arith;
       moves = omega arith;
-      comes = λ s u x e y. row-ahead s (a .plan) (a .at .phase) (a .at .past) x u y (c .before .next-in .result .from) f (r .passed);
+      comes = λ s u x e y. row-ahead s (a .plan) (a .at .phase) (a .at .past .0) x u y (n .next-in .result .from .0) f (r .passed);
     }
 
 pub next-row-spec : {M : Type 1} → statement M
-next-row-spec = tie.close (tie.spec add-t10 returns next-in-requires returns-2 returns-3)
+next-row-spec =
+    tie.close
+    (tie.spec
+    pool-index-requires
+    pool-index-requires-2
+    add-t13
+    returns
+    next-in-requires
+    pool-index-requires-3
+    returns-2
+    returns-3)

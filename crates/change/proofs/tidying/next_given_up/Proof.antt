@@ -1,6 +1,6 @@
 -- `tidying::next_given_up` meets its contract. The loop takes every tidying that stands at word `from` of the table to its word `i`.
 use Prim.Native.Nat.{_+_, _-_, _≤_, _<_}
-use mathlib.Core.Path.{_≡_, refl}
+use mathlib.Core.Path.{_≡_, refl, ap, _∙_}
 use native.Mathlib.Omega.{arith}
 use borrow.Author.Needs.{needs}
 use Rattle.table.specs.Shape.{firstLeaf}
@@ -13,83 +13,90 @@ use Rattle.change.proofs.tidying.next_given_up.Tie as tie
 
 abbrev Inv-loop : tie.InvT-loop
 Inv-loop pool shape owner base from i₀ i =
-    (i ≤ 1024) × ((u : Run shape Tidying) → Stands shape Tidying u 1 (base + from) pool → Stands shape Tidying u 1 (base + i) pool)
+    (i ≤ 1024)
+    × ((u : Run shape Tidying) → Stands shape Tidying u 1 (base .0 + from) pool → Stands shape Tidying u 1 (base .0 + i) pool)
 
 abbrev μ-loop : tie.MeasureT-loop
 μ-loop pool shape owner base from i₀ i = 1024 - i
 
 -- The word is of the pool.
 inside : (c : tie.In-loop Inv-loop μ-loop) → let a = c .before .before .before .args in
-    a .base + c .before .loop .i < firstLeaf (a .shape .domains) (a .shape .middles)
+    a .base .0 + c .before .loop .i < firstLeaf (a .shape .domains) (a .shape .middles)
 inside c = table-inside _ _ _ _ _ (c .before .before .before .pre .1 .0) (c .loop-test .taken)
 
 loop-holds : tie.Need-loop-holds Inv-loop μ-loop
 loop-holds c = (c .before .pre .1 .1, λ u a. a)
 
-add-plain-ahead : tie.Need-add-plain-ahead Inv-loop μ-loop
-add-plain-ahead c = omega (arith, inside c, c .before .before .before .pre .0 .0 .range)
+cast-word-after : tie.Need-cast-word-after Inv-loop μ-loop
+cast-word-after c = search needs
 
-cast-plain-ahead : tie.Need-cast-plain-ahead Inv-loop μ-loop
-cast-plain-ahead c = search needs
+word-after-requires : tie.Need-word-after-requires Inv-loop μ-loop
+word-after-requires c κs = omega (arith, inside c, c .before .before .before .pre .0 .0 .range)
+
+-- The word that is looked at.
+here : (c : tie.After-word-after Inv-loop μ-loop)
+    → c .word-after .result .0 ≡ c .before .before .before .before .args .base .0 + c .before .before .loop .i
+here c = ap (λ w. w .0) (c .word-after .ensures)
+
+pool-index-requires : tie.Need-pool-index-requires Inv-loop μ-loop
+pool-index-requires c κs = search needs
 
 plain-ahead-requires : tie.Need-plain-ahead-requires Inv-loop μ-loop
 plain-ahead-requires c κs =
-    let p = c .before .before .before .pre in
-    (c .loop-test .taken, omega (arith, c .loop-test .taken, table-end _ _ _ _ (p .1 .0), p .0 .0 .long))
+    let i = c .before .before in
+    let p = i .before .before .before .pre in (
+      i .loop-test .taken,
+      omega (arith, i .loop-test .taken, here (c .before), c .pool-index .ensures, table-end _ _ _ _ (p .1 .0), p .0 .0 .long),
+    )
 
 target-at-requires : tie.Need-target-at-requires Inv-loop μ-loop
 target-at-requires c κs =
-    let i = c .before .before in
+    let i = c .before .before .before .before in
     let p = i .before .before .before .pre in
     (p .0, (p .1 .0, i .loop-test .taken))
 
 enum-known-target : tie.Need-enum-known-target Inv-loop μ-loop
 enum-known-target c = search needs
 
-add-k : tie.Need-add-k Inv-loop μ-loop
-add-k c =
-    let i = c .before .before .before .before .before .before in
-    omega (arith, inside i, i .before .before .before .pre .0 .0 .range)
-
-add-after : tie.Need-add-after Inv-loop μ-loop
-add-after c =
-    let i = c .before .before .before .before .before .before in
-    omega (arith, inside i, i .before .before .before .pre .0 .0 .range)
-
-pool-word-requires : tie.Need-pool-word-requires Inv-loop μ-loop
-pool-word-requires c κs = search needs
+word-after-requires-2 : tie.Need-word-after-requires-2 Inv-loop μ-loop
+word-after-requires-2 c κs =
+    let w = c .before .before .before .before .before .before .before in
+    let i = w .before in
+    omega (arith, here w, inside i, i .before .before .before .pre .0 .0 .range)
 
 returns : tie.Need-returns Inv-loop μ-loop
 returns c =
     let t = c .before .before .before .before in
-    let i = t .before .before .before in
+    let w = t .before .before .before .before in
+    let i = w .before in
     let l = i .before .loop in
     let a = i .before .before .before .args in
-    rw (c .pool-word .ensures) (record {
+    let e = here w in
+    rw e (record {
       inside = omega (arith, inside i, i .before .before .before .pre .0 .0 .long);
-      word = refl;
+      word = ap (λ w. w .0) (c .word-after2 .ensures) ∙ rw e;
       follows = refl;
-      stores = λ u y. aim-stores (a .shape) u (a .base + l .i) _ _ (c .before .before .target .given .1) (t .target-at .ensures) (l .inv .1 u y);
+      stores = λ u y. aim-stores (a .shape) u (a .base .0 + l .i) _ _ (c .before .before .target .given .1) (t .target-at .ensures) (l .inv .1 u y);
     })
 
 enum-told : tie.Need-enum-told Inv-loop μ-loop
 enum-told c = search needs
 
 add-i : tie.Need-add-i Inv-loop μ-loop
-add-i c = omega (arith, c .before .before .before .before .before .loop-test .taken)
+add-i c = omega (arith, c .before .before .before .before .before .before .before .loop-test .taken)
 
 loop-less : tie.Need-loop-less Inv-loop μ-loop
-loop-less c = omega (arith, c .before .before .before .before .before .loop-test .taken)
+loop-less c = omega (arith, c .before .before .before .before .before .before .before .loop-test .taken)
 
 loop-again : tie.Need-loop-again Inv-loop μ-loop
 loop-again c =
     let t = c .before .before in
-    let i = t .before .before .before in
+    let i = t .before .before .before .before .before in
     let l = i .before .loop in
     let a = i .before .before .before .args in
-    let e : a .base + l .i + 1 ≡ a .base + (l .i + 1) = omega arith in (
+    let e : a .base .0 + l .i + 1 ≡ a .base .0 + (l .i + 1) = omega arith in (
       omega (arith, i .loop-test .taken),
-      λ u y. rw e at (aim-passes (a .shape) u (a .base + l .i) _ (c .enum-told .given .1) (t .target-at .ensures) (l .inv .1 u y)),
+      λ u y. rw e at (aim-passes (a .shape) u (a .base .0 + l .i) _ (c .enum-told .given .1) (t .target-at .ensures) (l .inv .1 u y)),
     )
 
 add-i-2 : tie.Need-add-i-2 Inv-loop μ-loop
@@ -101,11 +108,16 @@ loop-less-2 c = omega (arith, c .before .plain-ahead .ensures .0, c .if1 .left)
 loop-again-2 : tie.Need-loop-again-2 Inv-loop μ-loop
 loop-again-2 c =
     let n = c .before .plain-ahead in
-    let i = c .before .before in
+    let w = c .before .before .before in
+    let i = w .before in
     let l = i .before .loop in
     let s = i .before .before .before in
     let a = s .args in
-    (n .ensures .0, λ u y. plain-passed (a .shape) (a .pool .now) (a .owner) (a .base) (l .i) (n .result) (s .pre .1 .0) (n .ensures .0) (n .ensures .1) u (l .inv .1 u y))
+    let e = c .before .before .pool-index .ensures ∙ here w in (
+      n .ensures .0,
+      λ u y. plain-passed (a .shape) (a .pool .now) (a .owner) (a .base .0) (l .i) (n .result) (s .pre .1 .0) (n .ensures .0)
+          (rw e at (n .ensures .1)) u (l .inv .1 u y),
+    )
 
 returns-2 : tie.Need-returns-2 Inv-loop μ-loop
 returns-2 c =
@@ -120,14 +132,13 @@ next-given-up-spec =
     Inv-loop
     μ-loop
     loop-holds
-    add-plain-ahead
-    cast-plain-ahead
+    cast-word-after
+    word-after-requires
+    pool-index-requires
     plain-ahead-requires
     target-at-requires
     enum-known-target
-    add-k
-    add-after
-    pool-word-requires
+    word-after-requires-2
     returns
     enum-told
     add-i
