@@ -1,67 +1,88 @@
 #!/usr/bin/env bash
-# Wrong programs, each one line away from ours (tests/wrong/CRATE/NAME.edit, of the form of must-fail edits): the checker must refuse each for a fact.
+# Wrong programs, each one line away from ours: the checker must refuse each for a fact.
 #
-# In crates whose check is quick some are must-fail edits, which `rt ci` checks from nothing. These are checked over an incremental folder, where an edit
-# costs seconds and not a whole check. With names of crates, only theirs. Before its edits each crate is checked as it is, so that nothing is refused for another reason.
+# tests/wrong/CRATE/NAME.edit has the lines `file:`, `old:`, `new:` and `twin:`, after a comment that says what is wrong. The text `old` stands
+# once in the file of the crate. With `new` in its place the crate must not be proved. With `twin`, which has the same shape and means what `old`
+# means, it must: so that what is refused is the meaning, and not the text.
+#
+# Edits are checked over an incremental folder, where one costs seconds and not a whole check, after the crate as it is was proved there.
+# With names of crates, only theirs.
 set -u
 root=$(cd "$(dirname "$0")/.." && pwd)
 mkdir -p "$root/target"
 work=$(mktemp -d "$root/target/wrong.XXXXXX")
 trap 'rm -rf "$work"' EXIT
 
-# apply CRATE EDIT: makes the edit's one replacement in the copy of the crate; the text must stand there exactly once.
+# apply CRATE EDIT LINE: puts the text of the edit's LINE (new or twin) in the place of its old text, in the copy of the crate.
 apply() {
-    python3 - "$work/$1/crates/$1" "$2" <<'PYTHON'
+    python3 - "$work/$1/crates/$1" "$2" "$3" <<'PYTHON'
 import sys
-folder, edit = sys.argv[1:]
-words = dict(line.rstrip("\n").split(": ", 1) for line in open(edit) if line.startswith(("file: ", "old: ", "new: ")))
+folder, edit, line = sys.argv[1:]
+words = dict(row.rstrip("\n").split(": ", 1) for row in open(edit) if row.startswith(("file: ", "old: ", "new: ", "twin: ")))
+if line not in words:
+    sys.exit(f"it has no line {line}")
 path = folder + "/" + words["file"]
 text = open(path).read()
 if text.count(words["old"]) != 1:
     sys.exit(f"its old text stands {text.count(words['old'])} times in {words['file']}")
-open(path, "w").write(text.replace(words["old"], words["new"]))
+open(path, "w").write(text.replace(words["old"], words[line]))
 PYTHON
 }
 
-# check CRATE: checks the copy of the crate; what it says is in CRATE.log.
-check() {
-    (cd "$work/$1" && rt dev "$1") > "$work/$1.log" 2>&1
+# restore CRATE: the copy of the crate is as it was.
+restore() {
+    rm -rf "$work/$1/crates/$1"
+    cp -r "$root/crates/$1" "$work/$1/crates/$1"
+    rm -rf "$work/$1/crates/$1/must-fail"
 }
 
-# wrong_programs CRATE: tries its edits one after the other, and writes a line for each that was not refused, and the counts.
+# verdict CRATE: proved, refused, or what else came of checking the copy of the crate; what the check says is in CRATE.log.
+verdict() {
+    (cd "$work/$1" && rt dev "$1") > "$work/$1.log" 2>&1
+    local status=$?
+    if [ "$status" -eq 0 ] && grep -q '^logic=proved' "$work/$1.log"; then
+        echo proved
+    elif [ "$status" -eq 1 ] && grep -q '^logic=not-proved' "$work/$1.log"; then
+        echo refused
+    else
+        echo "exit status $status"
+    fi
+}
+
+# attempt CRATE EDIT LINE WANTED: the edit must apply, and the verdict must be the one wanted.
+attempt() {
+    local name got
+    name=$1/$(basename "$2" .edit)
+    if ! apply "$1" "$2" "$3" 2> "$work/$1.bad"; then
+        echo "wrong: $name is a bad edit: $(cat "$work/$1.bad")"
+        return 1
+    fi
+    got=$(verdict "$1")
+    restore "$1"
+    [ "$got" = "$4" ] && return 0
+    echo "wrong: $name with its line '$3' is $got, and should be $4:"
+    grep -m 3 'error' "$work/$1.log"
+    return 1
+}
+
+# wrong_programs CRATE: tries its edits one after the other, and writes the counts.
 wrong_programs() {
-    local crate=$1 passed=0 failed=0 edit name status
+    local crate=$1 passed=0 failed=0 edit
     mkdir -p "$work/$crate/target"
     cp -r "$root/crates" "$root/crates.txt" "$work/$crate/"
     # what the other crates were built to is only read: links serve
     cp -rl "$root/target/rlib" "$work/$crate/target/rlib"
     cp -r "$root/target/stamp" "$work/$crate/target/stamp"
     rm -rf "$work/$crate"/crates/*/must-fail
-    if ! check "$crate"; then
+    if [ "$(verdict "$crate")" != proved ]; then
         echo "wrong: $crate is not proved as it is:"
         tail -n 5 "$work/$crate.log"
         echo "$crate 0 1" >> "$work/counts"
         return
     fi
     for edit in "$root/tests/wrong/$crate"/*.edit; do
-        name=$crate/$(basename "$edit" .edit)
-        if ! apply "$crate" "$edit" 2> "$work/$crate.bad"; then
-            echo "wrong: $name is a bad edit: $(cat "$work/$crate.bad")"
-            failed=$((failed + 1))
-            continue
-        fi
-        check "$crate"
-        status=$?
-        if [ "$status" -eq 1 ] && grep -q '^logic=not-proved' "$work/$crate.log"; then
-            passed=$((passed + 1))
-        else
-            echo "wrong: $name was not refused (exit status $status):"
-            tail -n 3 "$work/$crate.log"
-            failed=$((failed + 1))
-        fi
-        rm -rf "$work/$crate/crates/$crate"
-        cp -r "$root/crates/$crate" "$work/$crate/crates/$crate"
-        rm -rf "$work/$crate/crates/$crate/must-fail"
+        if attempt "$crate" "$edit" new refused; then passed=$((passed + 1)); else failed=$((failed + 1)); fi
+        if attempt "$crate" "$edit" twin proved; then passed=$((passed + 1)); else failed=$((failed + 1)); fi
     done
     echo "$crate $passed $failed" >> "$work/counts"
     rm -rf "${work:?}/$crate"
