@@ -1,0 +1,123 @@
+//! The groups of watched calls with their seeds and the kinds of calls that each must meet.
+
+use crate::cases;
+use crate::run::Run;
+use crate::watch::Program;
+use comparison::tally::answers;
+use comparison::Difference;
+
+/// A group of calls: how they are made, and what must be met among them.
+pub struct Group {
+    pub name: &'static str,
+    seed: u64,
+    turns: usize,
+    body: fn(&mut Run, usize) -> Result<(), Difference>,
+    answers: &'static [(&'static str, &'static [u32])],
+    kinds: &'static [&'static str],
+}
+
+impl Group {
+    /// Watches the group's own calls; fails on a difference, and where a kind was never met.
+    pub fn accept(&self, program: Program) {
+        let run = self.run(program, self.seed, self.turns);
+        let mut kinds: Vec<String> = self.kinds.iter().map(|kind| kind.to_string()).collect();
+        self.answers.iter().for_each(|(call, numbers)| kinds.extend(answers(call, numbers)));
+        let missing = run.tally.missing(&kinds);
+        assert!(missing.is_empty(), "never met: {missing:?}");
+    }
+
+    /// Watches calls of a seed, and prints what was met and how much was stepped through.
+    pub fn run(&self, program: Program, seed: u64, turns: usize) -> Run {
+        let mut run = Run::new(program, seed);
+        let ended = (self.body)(&mut run, turns);
+        print!("{}", run.tally);
+        println!("{}: {} instructions, {} stores", self.name, run.watched.instructions, run.watched.stores);
+        if let Err(Difference(told)) = ended {
+            panic!("{}, seed {seed}: {told}", self.name);
+        }
+        run
+    }
+}
+
+/// The group of a name in [`ALL`].
+pub fn named(name: &str) -> &'static Group {
+    ALL.iter().find(|group| group.name == name).expect("a group of that name")
+}
+
+pub const ALL: &[Group] = &[
+    Group {
+        name: "small pools",
+        seed: 1,
+        turns: 1,
+        body: cases::small_pools,
+        answers: &[("change", &[0, 100])],
+        kinds: &[
+            "the smallest pool",
+            "a pool with one place of each kind",
+            "a middle table is made",
+            "a middle table is given up",
+            "a middle table takes the place of one given up",
+            "a leaf is made",
+            "a leaf is given up",
+            "a leaf takes the place of one given up",
+            "nothing is to be stored",
+            "change with an allowance of none",
+            "change with an allowance of one",
+            "change with an allowance of half",
+            "change with an allowance of all but one",
+            "change with an allowance of all",
+            "change with an allowance of more than all",
+        ],
+    },
+    Group {
+        name: "near changes",
+        seed: 2,
+        turns: 1,
+        body: cases::near_changes,
+        answers: &[("change", &[0, 100])],
+        kinds: &["a middle table is made", "a leaf is made", "a leaf is given up"],
+    },
+    Group {
+        name: "full pools",
+        seed: 3,
+        turns: 1,
+        body: cases::full_pools,
+        answers: &[("change", &[0, 8, 100])],
+        kinds: &[
+            "the largest pool, all places in use",
+            "a middle table is given up",
+            "a leaf is given up",
+            "a leaf takes the place of one given up",
+            "several tables are given up",
+        ],
+    },
+    Group {
+        name: "tidyings",
+        seed: 4,
+        turns: 8,
+        body: cases::tidyings,
+        answers: &[("tidying", &[0, 100])],
+        kinds: &[
+            "the smallest pool",
+            "the largest pool, all places in use",
+            "a middle table is given up",
+            "a leaf is given up",
+            "several tables are given up",
+            "nothing is to be stored",
+            "tidying with an allowance of none",
+            "tidying with an allowance of one",
+            "tidying with an allowance of half",
+            "tidying with an allowance of all but one",
+            "tidying with an allowance of all",
+            "tidying with an allowance of more than all",
+        ],
+    },
+    Group {
+        name: "refusals",
+        seed: 5,
+        turns: 1,
+        body: cases::refusals,
+        answers: &[("change", &[1, 2, 3, 4, 5, 6, 7, 8]), ("tidying", &[1, 6])],
+        kinds: &[],
+    },
+];
