@@ -69,8 +69,8 @@ fn full(rng: &mut Rng) -> Vec<u32> {
     }
 }
 
-/// Changes at a leaf of a full pool: a word of it; the leaf given up; given up and its place taken by the next page; and
-/// its block and its domain given one right. And one for which there is no room.
+/// Changes at a leaf of a full pool: a word of it; the leaf given up; given up and its place taken by the next page;
+/// and its block and its domain given one right. And one for which there is no room.
 fn in_full(rng: &mut Rng, pool: &[u32]) -> Vec<Work> {
     let state = read(pool, LARGEST).expect("a full pool is sound");
     let leaf = state.leaves[rng.index(LEAF)].expect("a full pool has no free place");

@@ -1,6 +1,6 @@
 //! A child process that stands still until it is let go by one instruction.
 
-use crate::os::{self, Pid, State};
+use crate::os::{self, Go, Pid, State, SHUT, SIGSEGV};
 
 /// Stopped by the last step.
 const SIGTRAP: i32 = 5;
@@ -10,6 +10,8 @@ const SIGSTOP: i32 = 19;
 pub struct Child {
     pid: Pid,
     ended: bool,
+    /// Its guarded words are open, since it has just touched them.
+    open: bool,
 }
 
 impl Child {
@@ -19,7 +21,7 @@ impl Child {
     /// The work neither allocates nor panics.
     pub unsafe fn start(work: impl FnOnce()) -> Result<Child, String> {
         let pid = os::start(work)?;
-        let mut child = Child { pid, ended: false };
+        let mut child = Child { pid, ended: false, open: false };
         match child.wait()? {
             State::Stopped(SIGSTOP) => {}
             State::Exited(os::NOT_TRACED) => {
@@ -35,12 +37,43 @@ impl Child {
 
     /// Makes one instruction; false where the process ended by it, as it should.
     pub fn step(&mut self) -> Result<bool, String> {
-        os::step(self.pid)?;
-        match self.wait()? {
+        match self.go(Go::OneInstruction, 0)? {
             State::Stopped(SIGTRAP) => Ok(true),
             State::Exited(0) => Ok(false),
             other => Err(format!("the call ended badly: {other:?}")),
         }
+    }
+
+    /// Goes on until an instruction touches guarded words (guard.rs), and makes it: the address that it touched. None
+    /// where the process ended first, as it should.
+    pub fn touch(&mut self) -> Result<Option<usize>, String> {
+        let signal = if self.open { SHUT } else { 0 };
+        match self.go(Go::On, signal)? {
+            State::Stopped(SIGSEGV) => {}
+            State::Exited(0) => return Ok(None),
+            other => return Err(format!("the call ended badly: {other:?}")),
+        }
+        let (address, instruction) = (os::touched(self.pid)?, os::counter(self.pid)?);
+        self.one_step(SIGSEGV)?;
+        while os::counter(self.pid)? != instruction {
+            self.one_step(0)?;
+        }
+        self.one_step(0)?;
+        self.open = true;
+        Ok(Some(address))
+    }
+
+    /// One instruction, of the call or of a handler, after which the process must stand still.
+    fn one_step(&mut self, signal: i32) -> Result<(), String> {
+        match self.go(Go::OneInstruction, signal)? {
+            State::Stopped(SIGTRAP) => Ok(()),
+            other => Err(format!("an instruction that touches the pool ended badly: {other:?}")),
+        }
+    }
+
+    fn go(&mut self, how: Go, signal: i32) -> Result<State, String> {
+        os::go(self.pid, how, signal)?;
+        self.wait()
     }
 
     fn wait(&mut self) -> Result<State, String> {

@@ -2,31 +2,31 @@
 
 use crate::call::{Call, Script, Work};
 use crate::kinds::effect;
-use crate::os;
-use crate::watch::{watch, Program, Watched};
+use crate::seat::Seat;
+use crate::watch::{Program, Watched, Watcher};
 use comparison::rng::Rng;
 use comparison::subject::CUT;
 use comparison::tally::Tally;
 use comparison::Difference;
 use model::shape::Shape;
-use std::sync::atomic::{AtomicUsize, Ordering};
 
 /// A call with more stores than this is watched with few allowances, since each store takes many instructions.
 const MANY_STORES: usize = 24;
 
 pub struct Run {
+    watcher: Watcher,
     program: Program,
     turn: usize,
+    _seat: Seat,
     pub rng: Rng,
     pub tally: Tally,
     pub watched: Watched,
 }
 
 impl Run {
-    pub fn new(program: Program, seed: u64) -> Run {
-        static RUNS: AtomicUsize = AtomicUsize::new(0);
-        os::stay_on_one_processor(RUNS.fetch_add(1, Ordering::Relaxed));
-        Run { program, turn: 0, rng: Rng::new(seed), tally: Tally::default(), watched: Watched::default() }
+    pub fn new(watcher: Watcher, program: Program, seed: u64) -> Run {
+        let (rng, tally, watched) = (Rng::new(seed), Tally::default(), Watched::default());
+        Run { watcher, program, turn: 0, _seat: Seat::take(), rng, tally, watched }
     }
 
     /// Watches a call and then makes it, so that the next one finds what it left.
@@ -43,7 +43,7 @@ impl Run {
         let effect = effect(&call, pool);
         for (kind, allowance) in self.allowances(script.stores.len()) {
             let script = script.with(allowance);
-            let watched = watch(self.program, &call.with(allowance), pool, &script)?;
+            let watched = (self.watcher)(self.program, &call.with(allowance), pool, &script)?;
             self.watched.instructions += watched.instructions;
             self.watched.stores += watched.stores;
             self.note(&call, &script, kind);

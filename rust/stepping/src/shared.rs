@@ -19,6 +19,15 @@ impl Shared {
         unsafe { std::slice::from_raw_parts(self.at, self.length) }
     }
 
+    /// The number of the word at an address.
+    pub fn word_at(&self, address: usize) -> Result<usize, String> {
+        let from = address.wrapping_sub(self.at as usize);
+        if from >= 4 * self.length || !from.is_multiple_of(4) {
+            return Err(format!("an instruction touched {address:#x}, which is no word of the pool"));
+        }
+        Ok(from / 4)
+    }
+
     /// The words to write in, for the child, or for the watcher before it starts.
     #[allow(clippy::mut_from_ref)]
     pub fn words_mut(&self) -> &mut [u32] {

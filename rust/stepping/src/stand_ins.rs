@@ -1,6 +1,6 @@
-//! Programs that stand in for the library: wrong ones, which the watch must see, and harmless ones, which it must let
-//! pass. A watch that cannot tell them apart would be worth nothing. Each write is one that no compiler joins or leaves
-//! out.
+//! Programs that stand in for the library: wrong ones, which a watcher must see, and harmless ones, which it must let
+//! pass. A watcher that cannot tell them apart would be worth nothing. Each write is one that no compiler joins or
+//! leaves out.
 
 use crate::call::{Call, Script, Store, Work};
 use crate::watch::Program;
@@ -8,7 +8,7 @@ use comparison::subject::{Library, Subject};
 use model::change::Request;
 use std::hint::black_box;
 
-/// What a wrong program does, what the watch must say of it, and the program.
+/// What a wrong program does, what a watcher must say of it, and the program.
 pub const WRONG: &[(&str, &str, Program)] = &[
     ("writes a word and writes it back before the call", "was made", written_back_before),
     ("writes a word and writes it back after the call", "was made", written_back_after),
@@ -52,6 +52,15 @@ fn write_and_back(pool: &mut [u32]) {
     let was = pool.first().copied().unwrap_or(0);
     write(pool, Store { at: 0, value: !was });
     write(pool, Store { at: 0, value: was });
+}
+
+/// Each word of the pool is written with what it holds, and then the call is made.
+pub fn written_as_they_are(call: &Call, _: &Script, pool: &mut [u32], out: &mut [u32]) -> u32 {
+    for at in 0..pool.len() {
+        let value = pool[at];
+        write(pool, Store { at, value });
+    }
+    call.make(pool, out)
 }
 
 fn written_back_before(call: &Call, _: &Script, pool: &mut [u32], out: &mut [u32]) -> u32 {

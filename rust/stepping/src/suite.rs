@@ -2,38 +2,57 @@
 
 use crate::cases;
 use crate::run::Run;
-use crate::watch::Program;
+use crate::watch::{every_instruction, every_store, library, Watched, Watcher};
 use comparison::tally::answers;
 use comparison::Difference;
 
-/// A group of calls: how they are made, and what must be met among them.
+/// The two ways to watch. The first misses nothing but a word that is written with what it holds; the second sees that
+/// too, takes a tenth of the time, and rests on the pool's pages being shut in between.
+#[derive(Clone, Copy, Debug)]
+pub enum Way {
+    EveryInstruction,
+    EveryStore,
+}
+
+impl Way {
+    fn watcher(self) -> Watcher {
+        match self {
+            Way::EveryInstruction => every_instruction,
+            Way::EveryStore => every_store,
+        }
+    }
+}
+
+/// A group of calls: how they are made, how many, by the way in which they are watched, and what must be met among
+/// them.
 pub struct Group {
     pub name: &'static str,
     seed: u64,
-    turns: usize,
+    turns: [usize; 2],
     body: fn(&mut Run, usize) -> Result<(), Difference>,
     answers: &'static [(&'static str, &'static [u32])],
     kinds: &'static [&'static str],
 }
 
 impl Group {
-    /// Watches the group's own calls; fails on a difference, and where a kind was never met.
-    pub fn accept(&self, program: Program) {
-        let run = self.run(program, self.seed, self.turns);
+    /// Watches the group's own calls of the library; fails on a difference, and where a kind was never met.
+    pub fn accept(&self, way: Way) {
+        let run = self.run(way, self.seed, self.turns[way as usize]);
         let mut kinds: Vec<String> = self.kinds.iter().map(|kind| kind.to_string()).collect();
         self.answers.iter().for_each(|(call, numbers)| kinds.extend(answers(call, numbers)));
         let missing = run.tally.missing(&kinds);
         assert!(missing.is_empty(), "never met: {missing:?}");
     }
 
-    /// Watches calls of a seed, and prints what was met and how much was stepped through.
-    pub fn run(&self, program: Program, seed: u64, turns: usize) -> Run {
-        let mut run = Run::new(program, seed);
+    /// Watches calls of a seed, and prints what was met and how much was watched.
+    pub fn run(&self, way: Way, seed: u64, turns: usize) -> Run {
+        let mut run = Run::new(way.watcher(), library, seed);
         let ended = (self.body)(&mut run, turns);
         print!("{}", run.tally);
-        println!("{}: {} instructions, {} stores", self.name, run.watched.instructions, run.watched.stores);
+        let Watched { instructions, stores } = run.watched;
+        println!("{}, {way:?}: {instructions} instructions watched, {stores} stores", self.name);
         if let Err(Difference(told)) = ended {
-            panic!("{}, seed {seed}: {told}", self.name);
+            panic!("{}, {way:?}, seed {seed}: {told}", self.name);
         }
         run
     }
@@ -48,7 +67,7 @@ pub const ALL: &[Group] = &[
     Group {
         name: "small pools",
         seed: 1,
-        turns: 1,
+        turns: [1, 1],
         body: cases::small_pools,
         answers: &[("change", &[0, 100])],
         kinds: &[
@@ -72,7 +91,7 @@ pub const ALL: &[Group] = &[
     Group {
         name: "near changes",
         seed: 2,
-        turns: 1,
+        turns: [1, 10],
         body: cases::near_changes,
         answers: &[("change", &[0, 100])],
         kinds: &["a middle table is made", "a leaf is made", "a leaf is given up"],
@@ -80,7 +99,7 @@ pub const ALL: &[Group] = &[
     Group {
         name: "full pools",
         seed: 3,
-        turns: 1,
+        turns: [1, 10],
         body: cases::full_pools,
         answers: &[("change", &[0, 8, 100])],
         kinds: &[
@@ -94,7 +113,7 @@ pub const ALL: &[Group] = &[
     Group {
         name: "tidyings",
         seed: 4,
-        turns: 8,
+        turns: [8, 60],
         body: cases::tidyings,
         answers: &[("tidying", &[0, 100])],
         kinds: &[
@@ -115,7 +134,7 @@ pub const ALL: &[Group] = &[
     Group {
         name: "refusals",
         seed: 5,
-        turns: 1,
+        turns: [1, 4],
         body: cases::refusals,
         answers: &[("change", &[1, 2, 3, 4, 5, 6, 7, 8]), ("tidying", &[1, 6])],
         kinds: &[],

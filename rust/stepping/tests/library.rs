@@ -1,24 +1,31 @@
-//! The library as it is shipped, stepped through. What cannot be linked cannot be stepped through either: on a machine
-//! that is not an x86-64 these tests are not run, unless GOLEUTHAN_LIBRARY names a library for it (rust/README.md).
+//! The library as it is shipped, watched. What cannot be linked cannot be watched either: on a machine that is not an
+//! x86-64 these tests are not run, unless GOLEUTHAN_LIBRARY names a library for it (rust/README.md).
 
-use stepping::suite::{named, ALL};
-use stepping::watch::library;
+use stepping::suite::{named, Way, ALL};
 
-/// A test for each group, so that a difference is told by its name.
+/// A test for each group and each way to watch, so that a difference is told by its name.
 macro_rules! groups {
-    ($($test:ident: $name:literal),* $(,)?) => {
-        $(
-            #[test]
-            #[cfg_attr(not(linked), ignore = "no library is linked that could be stepped through")]
-            fn $test() {
-                named($name).accept(library);
-            }
-        )*
+    ($way:ident, $module:ident, $($test:ident: $name:literal),* $(,)?) => {
+        mod $module {
+            use super::*;
 
-        #[test]
-        fn every_group_is_watched() {
-            assert!(ALL.iter().map(|group| group.name).eq([$($name),*]));
+            $(
+                #[test]
+                #[cfg_attr(not(linked), ignore = "no library is linked that could be watched")]
+                fn $test() {
+                    named($name).accept(Way::$way);
+                }
+            )*
+
+            #[test]
+            fn every_group_is_watched() {
+                assert!(ALL.iter().map(|group| group.name).eq([$($name),*]));
+            }
         }
+    };
+    ($($tests:tt)*) => {
+        groups!(EveryInstruction, every_instruction, $($tests)*);
+        groups!(EveryStore, every_store, $($tests)*);
     };
 }
 
@@ -37,7 +44,8 @@ fn long_run() {
     let seeds = std::env::var("SEEDS").ok().and_then(|seeds| seeds.parse().ok()).unwrap_or(1);
     for seed in 1000..1000 + seeds {
         for group in ALL {
-            group.run(library, seed, 12);
+            group.run(Way::EveryInstruction, seed, 12);
+            group.run(Way::EveryStore, seed, 120);
         }
     }
 }

@@ -1,10 +1,11 @@
-//! The watch sees each wrong program, and lets each harmless one pass.
+//! Each way to watch sees each wrong program, and lets each harmless one pass.
 
 use model::change::Request;
 use model::shape::Shape;
 use stepping::call::{Call, Script, Work};
-use stepping::stand_ins::{HARMLESS, WRONG};
-use stepping::watch::{watch, Program};
+use stepping::seat::Seat;
+use stepping::stand_ins::{written_as_they_are, HARMLESS, WRONG};
+use stepping::watch::{every_instruction, every_store, Program, Watcher};
 
 /// A change from a fresh pool: 1,026 stores, of which most fill a new table word by word.
 fn makes_tables() -> Call {
@@ -18,43 +19,63 @@ fn paints_blocks() -> Call {
     Call { shape: Shape::new(1, 0, 0), work, allowance: u32::MAX }
 }
 
-/// What the watch says of a program that makes a call on a fresh pool.
-fn watched(program: Program, call: &Call) -> Result<u64, String> {
+const WAYS: [Watcher; 2] = [every_instruction, every_store];
+
+/// What a watcher says of a program that makes a call on a fresh pool.
+fn watched(watcher: Watcher, program: Program, call: &Call) -> Result<u64, String> {
+    let _seat = Seat::take();
     let pool = call.shape.fresh();
     let script = Script::whole(call, &pool).expect("the library's cuts are in order").with(call.allowance);
-    watch(program, call, &pool, &script).map(|watched| watched.stores).map_err(|difference| difference.0)
+    watcher(program, call, &pool, &script).map(|watched| watched.stores).map_err(|difference| difference.0)
+}
+
+fn must_be_seen(watcher: Watcher, what: &str, told: &str, program: Program, call: &Call) {
+    match watched(watcher, program, call) {
+        Ok(_) => panic!("a program that {what} is let pass in {call:x?}"),
+        Err(seen) => assert!(seen.contains(told), "a program that {what} is seen for another reason: {seen}"),
+    }
 }
 
 #[test]
-#[cfg_attr(not(linked), ignore = "no library is linked that could be stepped through")]
+#[cfg_attr(not(linked), ignore = "no library is linked that could be watched")]
 fn every_wrong_program_is_seen() {
     for (what, told, program) in WRONG {
-        for call in [makes_tables(), paints_blocks()] {
-            match watched(*program, &call) {
-                Ok(_) => panic!("a program that {what} is let pass in {call:x?}"),
-                Err(seen) => assert!(seen.contains(told), "a program that {what} is seen for another reason: {seen}"),
-            }
+        for watcher in WAYS {
+            must_be_seen(watcher, what, told, *program, &makes_tables());
+            must_be_seen(watcher, what, told, *program, &paints_blocks());
         }
         println!("seen: a program that {what}");
     }
 }
 
 #[test]
-#[cfg_attr(not(linked), ignore = "no library is linked that could be stepped through")]
+#[cfg_attr(not(linked), ignore = "no library is linked that could be watched")]
 fn a_refused_call_that_writes_and_writes_back_is_seen() {
     let (what, _, program) = WRONG[0];
     let refused = Call { shape: Shape::new(1, 0, 1), ..makes_tables() };
-    let seen = watched(program, &refused).expect_err(what);
-    assert!(seen.contains("after 0 stores, which are all"), "{seen}");
+    for watcher in WAYS {
+        must_be_seen(watcher, what, "after 0 stores, which are all", program, &refused);
+    }
+}
+
+/// The pool is the same after every instruction, so that only the other way can see it.
+#[test]
+#[cfg_attr(not(linked), ignore = "no library is linked that could be watched")]
+fn a_word_that_is_written_with_what_it_holds_is_seen() {
+    let told = "was written with what it holds";
+    must_be_seen(every_store, "writes words as they are", told, written_as_they_are, &paints_blocks());
+    assert_eq!(watched(every_instruction, written_as_they_are, &paints_blocks()), Ok(4));
 }
 
 #[test]
-#[cfg_attr(not(linked), ignore = "no library is linked that could be stepped through")]
+#[cfg_attr(not(linked), ignore = "no library is linked that could be watched")]
 fn every_harmless_program_passes() {
     let calls = [(paints_blocks(), 4), (paints_blocks().with(1), 1), (makes_tables().with(40), 40)];
     for (what, program) in HARMLESS {
         for (call, stores) in &calls {
-            assert_eq!(watched(*program, call), Ok(*stores), "a program that {what}");
+            for watcher in WAYS {
+                assert_eq!(watched(watcher, *program, call), Ok(*stores), "a program that {what}");
+            }
         }
     }
 }
