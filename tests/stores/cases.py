@@ -64,6 +64,8 @@ WRONG = [
     ("gives the pool another name", "handed on", [before(CHANGE, ASKED, "let same = pool;")]),
     ("keeps the pool in a struct", "held",
      [before(CHANGE, "pub enum Work {", "pub struct Held { pub pool: &mut [u32] }")]),
+    ("writes in a method of what holds the pool", "held",
+     [before(CHANGE, "pub enum Work {", "impl Held { fn set(&mut self) { self.pool[0] = 7; } }")]),
     ("opens the one store to other crates", "called once", [(CHANGE, "\nfn put(", "\npub fn put(")]),
     ("writes the pool in the census", "below",
      [lent(CENSUS, "census"), before(CENSUS, "    clear(owners);", "pool[0] = 7;")]),

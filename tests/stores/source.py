@@ -46,6 +46,14 @@ def split(tokens):
     return [part for part in parts if part]
 
 
+def named_type(part):
+    """A parameter's name and type; `self` has none, and is told with all that stands before it."""
+    if ":" not in part:
+        return part[-1], part
+    colon = part.index(":")
+    return part[colon - 1], part[colon + 1:]
+
+
 class Function:
     """A function: its crate, name, parameters with their types, and the tokens of its body."""
 
@@ -55,8 +63,9 @@ class Function:
             self.begin -= 1
         self.public = "pub" in tokens[self.begin:i]
         self.exported = "extern" in tokens[self.begin:i]
-        k = closing(tokens, i + 2)
-        self.parameters = {part[0]: part[2:] for part in split(tokens[i + 3:k])}
+        at = tokens.index("(", i)
+        k = closing(tokens, at)
+        self.parameters = dict(named_type(part) for part in split(tokens[at + 1:k]))
         while tokens[k] != "{":
             k = closing(tokens, tokens.index("{", k)) if tokens[k] in ("requires", "ensures") else k
             k += 1
@@ -65,8 +74,8 @@ class Function:
 
     def lent(self):
         """The parameters whose words it may write; those of bytes and marks are none of the pool."""
-        marks = (["[", "u8"], ["[", "bool"])
-        return [name for name, kind in self.parameters.items() if "mut" in kind and kind[2:4] not in marks]
+        marks = (["&", "mut", "[", "u8"], ["&", "mut", "[", "bool"])
+        return [name for name, kind in self.parameters.items() if "mut" in kind and kind[:4] not in marks]
 
 
 class House:

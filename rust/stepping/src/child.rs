@@ -14,6 +14,13 @@ pub struct Child {
     open: bool,
 }
 
+/// An instruction that touched guarded words: where it stands, and the address that it touched.
+#[derive(Clone, Copy)]
+pub struct Touch {
+    pub by: usize,
+    pub address: usize,
+}
+
 impl Child {
     /// A child that stands still before its work.
     ///
@@ -44,23 +51,23 @@ impl Child {
         }
     }
 
-    /// Goes on until an instruction touches guarded words (guard.rs), and makes it: the address that it touched. None
-    /// where the process ended first, as it should.
-    pub fn touch(&mut self) -> Result<Option<usize>, String> {
+    /// Goes on until an instruction touches guarded words (guard.rs), and makes it. None where the process ended first,
+    /// as it should.
+    pub fn touch(&mut self) -> Result<Option<Touch>, String> {
         let signal = if self.open { SHUT } else { 0 };
         match self.go(Go::On, signal)? {
             State::Stopped(SIGSEGV) => {}
             State::Exited(0) => return Ok(None),
             other => return Err(format!("the call ended badly: {other:?}")),
         }
-        let (address, instruction) = (os::touched(self.pid)?, os::counter(self.pid)?);
+        let touch = Touch { address: os::touched(self.pid)?, by: os::counter(self.pid)? };
         self.one_step(SIGSEGV)?;
-        while os::counter(self.pid)? != instruction {
+        while os::counter(self.pid)? != touch.by {
             self.one_step(0)?;
         }
         self.one_step(0)?;
         self.open = true;
-        Ok(Some(address))
+        Ok(Some(touch))
     }
 
     /// One instruction, of the call or of a handler, after which the process must stand still.

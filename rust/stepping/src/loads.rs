@@ -28,8 +28,8 @@ pub fn loads(pool: &[u32], call: impl FnOnce(&[u32], &mut [u32]) -> u32) -> Resu
     // SAFETY: the call neither allocates nor panics.
     let mut child = unsafe { Child::start(work)? };
     let mut touched = Vec::new();
-    while let Some(address) = child.touch()? {
-        touched.push(lent.word_at(address)?);
+    while let Some(touch) = child.touch()? {
+        touched.push(lent.word_at(touch.address)?);
     }
     let told = answer.words();
     Ok(Loads { number: told[0], results: [told[1], told[2], told[3]], touched })

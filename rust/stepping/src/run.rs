@@ -44,8 +44,7 @@ impl Run {
         for (kind, allowance) in self.allowances(script.stores.len()) {
             let script = script.with(allowance);
             let watched = (self.watcher)(self.program, &call.with(allowance), pool, &script)?;
-            self.watched.instructions += watched.instructions;
-            self.watched.stores += watched.stores;
+            self.watched.add(watched);
             self.note(&call, &script, kind);
             if script.number == 0 || script.number == CUT {
                 effect.iter().for_each(|kind| self.tally.met(kind));

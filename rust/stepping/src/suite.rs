@@ -21,6 +21,15 @@ impl Way {
             Way::EveryStore => every_store,
         }
     }
+
+    /// How much was watched, in words.
+    fn tell(self, watched: &Watched) -> String {
+        let Watched { instructions, stores, writers } = watched;
+        match self {
+            Way::EveryInstruction => format!("{instructions} instructions stepped through, {stores} stores"),
+            Way::EveryStore => format!("{stores} stores, by {} instruction(s) of the code", writers.len()),
+        }
+    }
 }
 
 /// A group of calls: how they are made, how many, by the way in which they are watched, and what must be met among
@@ -49,8 +58,7 @@ impl Group {
         let mut run = Run::new(way.watcher(), library, seed);
         let ended = (self.body)(&mut run, turns);
         print!("{}", run.tally);
-        let Watched { instructions, stores } = run.watched;
-        println!("{}, {way:?}: {instructions} instructions watched, {stores} stores", self.name);
+        println!("{}: {}", self.name, way.tell(&run.watched));
         if let Err(Difference(told)) = ended {
             panic!("{}, {way:?}, seed {seed}: {told}", self.name);
         }

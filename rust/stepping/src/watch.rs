@@ -6,6 +6,7 @@ use crate::child::Child;
 use crate::guard::{guard, Against};
 use crate::shared::Shared;
 use comparison::Difference;
+use std::collections::BTreeSet;
 
 /// What makes a call: the library, or something that stands in for it and may look at the script. It runs in the child
 /// process of one with threads, so it neither allocates nor panics.
@@ -15,10 +16,20 @@ pub type Program = fn(&Call, &Script, &mut [u32], &mut [u32]) -> u32;
 pub type Watcher = fn(Program, &Call, &[u32], &Script) -> Result<Watched, Difference>;
 
 /// How much was watched.
-#[derive(Clone, Copy, Default)]
+#[derive(Default)]
 pub struct Watched {
     pub instructions: u64,
     pub stores: u64,
+    /// Where the instructions stand that wrote the pool, if only these were watched.
+    pub writers: BTreeSet<usize>,
+}
+
+impl Watched {
+    pub fn add(&mut self, other: Watched) {
+        self.instructions += other.instructions;
+        self.stores += other.stores;
+        self.writers.extend(other.writers);
+    }
 }
 
 /// The library itself.
@@ -43,9 +54,10 @@ pub fn every_instruction(program: Program, call: &Call, pool: &[u32], script: &S
 pub fn every_store(program: Program, call: &Call, pool: &[u32], script: &Script) -> Result<Watched, Difference> {
     let guarded = || {
         let mut watching = Watching::start(program, call, pool, script, true)?;
-        while let Some(address) = watching.child.touch()? {
-            let at = watching.lent.word_at(address)?;
+        while let Some(touch) = watching.child.touch()? {
+            let at = watching.lent.word_at(touch.address)?;
             watching.watched.instructions += 1;
+            watching.watched.writers.insert(touch.by);
             watching.follow(Some(at))?;
         }
         watching.ended()
@@ -115,7 +127,7 @@ impl<'a> Watching<'a> {
     }
 
     /// At the end all stores of the script were made, and the answer is the script's.
-    fn ended(&self) -> Result<Watched, String> {
+    fn ended(self) -> Result<Watched, String> {
         let (made, due) = (self.watched.stores, self.script.stores.len() as u64);
         if made != due {
             return Err(format!("it ended after {made} stores of {due}"));
