@@ -57,7 +57,7 @@ WRONG = [
     ("stores in the search for the next store", "held",
      [lent(CHANGE, "next_store"), before(CHANGE, "    match work {", "pool[0] = 0;")]),
     ("stores in a search of another file", "one store",
-     [lent(AHEAD, "next_here"), before(AHEAD, "let x = pool[k as usize];", "pool[0] += 0;")]),
+     [lent(AHEAD, "next_here"), before(AHEAD, "let turn = phase_of(", "pool[0] += 0;")]),
     ("writes by way of a part of the pool", "held",
      [before(TIDYING, TIDIED, "let part = &mut pool[..]; part[0] = 7;")]),
     ("swaps words by a function of slices", "handed on", [before(CHANGE, ASKED, "pool.swap(0, 1); pool.swap(0, 1);")]),

@@ -77,11 +77,11 @@ def allowance(house):
     left = found["left"] if found else "left"
     for crate, functions in house.functions.items():
         words = {"allowance", left} if crate == "change" else {"allowance"}
-        if words & set(house.outside[crate]):
+        if "allowance" in house.outside[crate]:
             wrong.append(f"{crate}: something that is no function is told the allowance")
         for f in functions:
             listed = TOLD.get((crate, f.name), [])
-            known = sorted(words & (set(f.body) | set(f.parameters)))
+            known = sorted(words & set(f.parameters) | {"allowance"} & set(f.body))
             done = uses(f.body, "allowance")
             if listed != "the loop" and (done != listed or bool(known) != bool(listed)):
                 wrong.append(f"{crate}: {f.name} is told {known}, and does with it {done}")
