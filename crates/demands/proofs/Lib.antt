@@ -1,2 +1,3 @@
 pub mod SeriesLaws
+pub mod ClearLaws
 pub mod WatchedLaws

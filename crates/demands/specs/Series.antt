@@ -1,4 +1,5 @@
--- Series of changes and tidyings, from a fresh pool on, each of them finished, cut or refused; and which right a word may then have.
+-- Series of changes and tidyings, from a fresh pool on, each of them finished, cut or refused; and which right a word
+-- may then have.
 use Prim.Native.Nat.{ℕ, _<_}
 use mathlib.Core.Path.{_≡_}
 use mathlib.Core.Logic.{_⊎_}
@@ -28,19 +29,21 @@ pub data History : Type 0 where
 abbrev pub Covers-it : (d start len e a : ℕ) → Type 0
 Covers-it d start len e a = (g : Region) × (regionOf start len ≡ Covers g) × (e ≡ d) × (covered g a ≡ true)
 
--- The right `x` is one that the address `a` of domain `e` may have: that of the last finished change that covers it (none: 0), or that of a
--- later one that was cut.
+-- The right `x` is one that the address `a` of domain `e` may have: that of the last finished change that covers it
+-- (none: 0), or that of a later one that was cut.
 abbrev pub May : History → ℕ → ℕ → ℕ → Type 0
 May made e a x = x ≡ 0
 May (tidied h c) e a x = May h e a x
 May (changed h d start len r (Refused k)) e a x = May h e a x
-May (changed h d start len r (Done k)) e a x = (Covers-it d start len e a × (x ≡ r)) ⊎ ((Covers-it d start len e a → ⊥) × May h e a x)
+May (changed h d start len r (Done k)) e a x =
+    (Covers-it d start len e a × (x ≡ r)) ⊎ ((Covers-it d start len e a → ⊥) × May h e a x)
 May (changed h d start len r Cut) e a x = (Covers-it d start len e a × (x ≡ r)) ⊎ May h e a x
 
 -- A series: the pool `p`, of one shape throughout, has this history.
 pub data Series (s : Shape) : List ℕ → History → Type 0 where
   fresh : {p q : List ℕ} → MakesFresh s p Made q → Series s q made
-  change : {p q : List ℕ} {h : History} {d start len r n : ℕ} {c : Answer} → Series s p h → Changes p s d start len r n c q
+  change : {p q : List ℕ} {h : History} {d start len r n : ℕ} {c : Answer} → Series s p h
+      → Changes p s d start len r n c q
       → Series s q (changed h d start len r c)
   tidy : {p q : List ℕ} {h : History} {n : ℕ} {c : Answer} → Series s p h → Tidies p s n c q → Series s q (tidied h c)
 

@@ -1,4 +1,5 @@
--- A buffer in use beside a table: the buffer was emptied, and since then there were checks, changes, tidyings and flushes, in any order.
+-- A buffer in use beside a table: the buffer was emptied, and since then there were checks, changes, tidyings and
+-- flushes, in any order.
 use Prim.Native.Nat.{ℕ}
 use mathlib.Core.List.{List}
 use Rattle.words.specs.Region.{regionOf}
@@ -26,15 +27,19 @@ altered (Done k) g d = placesOf g d
 altered Cut g d = placesOf g d
 altered (Refused k) g d = nowhere
 
--- The buffer `b` was emptied beside some pool and used since; the pool is now `p`, and the places `x` are stale: a change covered them, and no
--- flush has covered them since.
+-- The buffer `b` was emptied beside some pool and used since; the pool is now `p`, and the places `x` are stale: a
+-- change covered them, and no flush has covered them since.
 pub data Watched (s : Shape) : List ℕ → Buffer → Places → Type 0 where
   emptied : (p : List ℕ) → Watched s p emptyBuffer nowhere
-  checked : {p : List ℕ} {b : Buffer} {x : Places} → Watched s p b x → (d kind size a : ℕ) → Watched s p (checkOf p s b d kind size a .buffer) x
-  changed : {p q : List ℕ} {b : Buffer} {x : Places} {d start len r n : ℕ} {c : Answer} → Watched s p b x → Changes p s d start len r n c q
+  checked : {p : List ℕ} {b : Buffer} {x : Places} → Watched s p b x → (d kind size a : ℕ)
+      → Watched s p (checkOf p s b d kind size a .buffer) x
+  changed : {p q : List ℕ} {b : Buffer} {x : Places} {d start len r n : ℕ} {c : Answer} → Watched s p b x
+      → Changes p s d start len r n c q
       → Watched s q b (both x (altered c (regionOf start len) d))
-  tidied : {p q : List ℕ} {b : Buffer} {x : Places} {n : ℕ} {c : Answer} → Watched s p b x → Tidies p s n c q → Watched s q b x
-  flushed-all : {p : List ℕ} {b : Buffer} {x : Places} → Watched s p b x → Watched s p (flushedWhole b .buffer) (less x (clears Whole))
+  tidied : {p q : List ℕ} {b : Buffer} {x : Places} {n : ℕ} {c : Answer} → Watched s p b x → Tidies p s n c q
+      → Watched s q b x
+  flushed-all : {p : List ℕ} {b : Buffer} {x : Places} → Watched s p b x
+      → Watched s p (flushedWhole b .buffer) (less x (clears Whole))
   flushed-domain : {p : List ℕ} {b : Buffer} {x : Places} → Watched s p b x → (d : ℕ)
       → Watched s p (flushedDomain b d .buffer) (less x (clears (OfDomain d)))
   flushed-region : {p : List ℕ} {b : Buffer} {x : Places} → Watched s p b x → (d start len : ℕ)
