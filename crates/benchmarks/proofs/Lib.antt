@@ -13,5 +13,6 @@ pub mod Rows
 pub mod AllowanceLaws
 pub mod CutPools
 pub mod CutWitness
+pub mod StaleWitness
 pub mod TwoDomains
 pub mod Witnesses

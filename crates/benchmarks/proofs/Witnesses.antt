@@ -17,6 +17,7 @@ use Rattle.benchmarks.proofs.PageLaws.{after}
 use Rattle.benchmarks.proofs.PageRows.{leaf-pool}
 use Rattle.benchmarks.proofs.TidyRow.{needless-sound, needless-unsettled, needless-long}
 use Rattle.benchmarks.proofs.CutWitness.{some-cut, some-series}
+use Rattle.benchmarks.proofs.StaleWitness.{some-stale, some-tidied}
 use Rattle.benchmarks.proofs.TwoDomains.{some-settled}
 
 some-sound : SomeSound
@@ -65,5 +66,7 @@ all-met = record {
   some-cut = some-cut;
   some-due = some-due;
   some-buffer = some-buffer;
+  some-stale = some-stale;
+  some-tidied = some-tidied;
   some-series = some-series;
 }
