@@ -26,6 +26,8 @@ use Rattle.change.specs.declared.Answer.{Answer}
 use Rattle.change.specs.Answers.{paintOf, noPaint, ChangesRegion, Changes, Tidies, no-shape, no-domain, no-right}
 use Rattle.change.specs.Answers.{no-region, in-order, unsound, unsettled, no-room, done, cut}
 use Rattle.lookaside.specs.declared.Buffer.{Buffer}
+use Rattle.lookaside.specs.declared.Flushed.{Flushed}
+use Rattle.lookaside.specs.declared.Flushing.{Flushing}
 use Rattle.lookaside.specs.declared.Flushing.the-variants.{Whole, OfDomain, OfRegion}
 use Rattle.lookaside.specs.declared.Verdict.the-variants.{Refused}
 use Rattle.lookaside.specs.Slots.{emptyBuffer}
@@ -37,9 +39,9 @@ use Rattle.lookaside.proofs.FlushLaws.{pointed-goes}
 use Rattle.lookaside.proofs.AgreeLaws.{emptied-agrees, change-agrees, tidy-agrees, more-agrees, flush-agrees}
 use Rattle.lookaside.proofs.AgreeLaws.{check-agrees}
 use Rattle.lookaside.proofs.VerdictLaws.{check-right, check-as-emptied}
-use Rattle.demands.specs.Series.{History, Series}
+use Rattle.demands.specs.Series.{History, Series, fresh, change, tidy}
 use Rattle.demands.specs.Watched.{placesOf, altered, Watched, emptied, checked, changed, tidied, flushed-all}
-use Rattle.demands.specs.Watched.{flushed-domain, flushed-region}
+use Rattle.demands.specs.Watched.{flushed-domain, flushed-region, unflushed}
 use Rattle.demands.proofs.SeriesLaws.{nothing-covered, series-holds}
 use Rattle.demands.proofs.ClearLaws.{AllClear, not-six, orSix, emptied-clear, flushed-clear, check-clear}
 use Rattle.demands.proofs.ClearLaws.{change-clear, tidy-clear, check-six}
@@ -93,8 +95,43 @@ pub record Sees (s : Shape) (p : List ℕ) (b : Buffer) (x : Places) : Type 0 wh
   pub clear : AllClear p s b
   pub pointer : b .next < 64
 
+first-pointer : emptyBuffer .next < 64
+unfolding emptyBuffer
+first-pointer = omega arith
+
+emptied-sees : (s : Shape) (p : List ℕ) → Sees s p emptyBuffer nowhere
+emptied-sees s p = record {
+  agrees = emptied-agrees (s .domains) (rightsOf s p) nowhere;
+  clear = emptied-clear p s;
+  pointer = first-pointer;
+}
+
+-- Each use of a buffer and of the table beside it leaves the buffer so.
 module _ {s : Shape} {p : List ℕ} {b : Buffer} {x : Places} (o : Sees s p b x) where
-  flush-sees : (f : _) → Sees s p (flushedBuffer f b) (less x (clears f))
+  check-sees : (d kind size a : ℕ) → Sees s p (checkOf p s b d kind size a .buffer) x
+  check-sees d kind size a = record {
+    agrees = check-agrees p s x b d kind size a (o .agrees);
+    clear = check-clear p s b (o .clear) d kind size a;
+    pointer = check-pointer p s b d kind size a (o .pointer);
+  }
+
+  change-sees : {q : List ℕ} {d start len r n : ℕ} {c : Answer} → Changes p s d start len r n c q
+      → Sees s q b (both x (altered c (regionOf start len) d))
+  change-sees {q} {d} {start} {len} {c = c} y = record {
+    agrees = change-agrees (s .domains) (rightsOf s p) (rightsOf s q) b x (altered c (regionOf start len) d)
+        (change-same y) (o .agrees);
+    clear = change-clear p s b (o .clear) y;
+    pointer = o .pointer;
+  }
+
+  tidy-sees : {q : List ℕ} {n : ℕ} {c : Answer} → Tidies p s n c q → Sees s q b x
+  tidy-sees {q} y = record {
+    agrees = tidy-agrees (s .domains) (rightsOf s p) (rightsOf s q) b x (tidy-same y) (o .agrees);
+    clear = tidy-clear p s b (o .clear) y;
+    pointer = o .pointer;
+  }
+
+  flush-sees : (f : Flushing) → Sees s p (flushedBuffer f b) (less x (clears f))
   unfolding flushedBuffer
   flush-sees f = record {
     agrees = flush-agrees (s .domains) (rightsOf s p) x f b (o .agrees);
@@ -114,38 +151,19 @@ module _ {s : Shape} {p : List ℕ} {b : Buffer} {x : Places} (o : Sees s p b x)
       all true z = z
       all false z = refl
 
-first-pointer : emptyBuffer .next < 64
-unfolding emptyBuffer
-first-pointer = omega arith
+  -- A flush is not refused 18.
+  pointed-sees : (f : Flushed) {y : Places} → Sees s p (f .buffer) y → Sees s p (pointed b f .buffer) y
+  pointed-sees f z = rw (pointed-goes b f (o .pointer)) z
 
 pub watched-sees : {s : Shape} {p : List ℕ} {b : Buffer} {x : Places} → Watched s p b x → Sees s p b x
-watched-sees {s} (emptied p) = record {
-  agrees = emptied-agrees (s .domains) (rightsOf s p) nowhere;
-  clear = emptied-clear p s;
-  pointer = first-pointer;
-}
-watched-sees {s} (checked {p} {b} {x} w d kind size a) = let o = watched-sees w in record {
-  agrees = check-agrees p s x b d kind size a (o .agrees);
-  clear = check-clear p s b (o .clear) d kind size a;
-  pointer = check-pointer p s b d kind size a (o .pointer);
-}
-watched-sees {s} (changed {p} {q} {b} {x} {d} {start} {len} {c = c} w y) = let o = watched-sees w in record {
-  agrees = change-agrees (s .domains) (rightsOf s p) (rightsOf s q) b x (altered c (regionOf start len) d)
-      (change-same y) (o .agrees);
-  clear = change-clear p s b (o .clear) y;
-  pointer = o .pointer;
-}
-watched-sees {s} (tidied {p} {q} {b} {x} w y) = let o = watched-sees w in record {
-  agrees = tidy-agrees (s .domains) (rightsOf s p) (rightsOf s q) b x (tidy-same y) (o .agrees);
-  clear = tidy-clear p s b (o .clear) y;
-  pointer = o .pointer;
-}
-watched-sees (flushed-all {b = b} w) = let o = watched-sees w in
-    rw (pointed-goes b _ (o .pointer)) (flush-sees o Whole)
-watched-sees (flushed-domain {b = b} w d) = let o = watched-sees w in
-    rw (pointed-goes b _ (o .pointer)) (flush-sees o (OfDomain d))
-watched-sees (flushed-region {b = b} w d start len) = let o = watched-sees w in
-    rw (pointed-goes b _ (o .pointer)) (rounded-sees o (regionOf start len) d)
+watched-sees {s} (emptied p) = emptied-sees s p
+watched-sees (checked w d kind size a) = check-sees (watched-sees w) d kind size a
+watched-sees (changed w y) = change-sees (watched-sees w) y
+watched-sees (tidied w y) = tidy-sees (watched-sees w) y
+watched-sees (flushed-all w) = let o = watched-sees w in pointed-sees o _ (flush-sees o Whole)
+watched-sees (flushed-domain w d) = let o = watched-sees w in pointed-sees o _ (flush-sees o (OfDomain d))
+watched-sees (flushed-region w d start len) =
+    let o = watched-sees w in pointed-sees o _ (rounded-sees o (regionOf start len) d)
 
 six-or-not : (f : Found) → (f ≡ NotFound 6) ⊎ (f ≢ NotFound 6)
 six-or-not (Right r w n) = inr not-six
@@ -166,6 +184,12 @@ same-verdict {s} {p} {b} {x} w d kind size a h z =
     ap said (here ∙ ap (λ n. Refused (orSix n)) same ∙ sym there))
     (λ n. check-as-emptied p s x d kind size a z h n b (o .agrees) (o .pointer))
     (six-or-not (lookupOf p s d a))
+
+-- Every series may have a buffer beside it: what makes a pool in a series keeps a buffer in use.
+pub series-watched : {s : Shape} {p : List ℕ} {h : History} → Series s p h → Watched s p emptyBuffer (unflushed h)
+series-watched (fresh {p} {q} m) = emptied q
+series-watched (change x c) = changed (series-watched x) c
+series-watched (tidy x c) = tidied (series-watched x) c
 
 -- In a pool of any series it passes exactly where the table's right lets it, in at most three loads.
 pub series-verdict : {s : Shape} {p : List ℕ} {b : Buffer} {x : Places} {h : History} → Series s p h → Watched s p b x
