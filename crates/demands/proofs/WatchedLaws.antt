@@ -2,11 +2,10 @@
 use Prim.Native.Nat.{ℕ, _≤_, _<_}
 use mathlib.Core.Path.{_≡_, refl, sym, ap, _∙_}
 use mathlib.Core.Logic.{_≢_, _⊎_, inl, inr, ⊎-elim}
-use mathlib.Core.Bool.{Bool, true, false, cond, _&&_, _||_, not, false≢true}
+use mathlib.Core.Bool.{Bool, true, false, _&&_, false≢true}
 use mathlib.Core.List.{List}
 use native.Mathlib.Omega.{arith}
 use native.Mathlib.Decide.{ℕ-discrete}
-use lib.Dec.{eqb}
 use lib.ListN.{length}
 use borrow.Author.Tests.{eq-eqb}
 use Rattle.theory.specs.Pool.{words, SoundPool, rightOf}
@@ -32,7 +31,7 @@ use Rattle.lookaside.specs.declared.Flushing.the-variants.{Whole, OfDomain, OfR
 use Rattle.lookaside.specs.declared.Verdict.the-variants.{Refused}
 use Rattle.lookaside.specs.Slots.{emptyBuffer}
 use Rattle.lookaside.specs.Check.{refusalOf, verdictOf, said, checkOf}
-use Rattle.lookaside.specs.Flushes.{flushedBuffer, flushedWhole, flushedDomain, flushedRegion, flushedRounded, pointed}
+use Rattle.lookaside.specs.Flushes.{flushedBuffer, flushedRounded, pointed}
 use Rattle.lookaside.specs.Agree.{Places, nowhere, within, clears, both, less, rightsOf, SameBut, AgreesBut}
 use Rattle.lookaside.proofs.CheckLaws.{check-pointer, refusal-pointer}
 use Rattle.lookaside.proofs.FlushLaws.{pointed-goes}
