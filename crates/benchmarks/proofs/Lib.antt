@@ -14,5 +14,6 @@ pub mod AllowanceLaws
 pub mod CutPools
 pub mod CutWitness
 pub mod StaleWitness
+pub mod DueWitness
 pub mod TwoDomains
 pub mod Witnesses

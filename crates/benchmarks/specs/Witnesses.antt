@@ -6,8 +6,10 @@ use mathlib.Core.Logic.{_≢_}
 use mathlib.Core.Bool.{true, false}
 use mathlib.Core.List.{List}
 use lib.ListN.{length}
+use Rattle.theory.specs.Form.{Form}
 use Rattle.theory.specs.Pool.{words, SoundPool, rightOf}
 use Rattle.theory.specs.Settled.{HasTable, Settled}
+use Rattle.theory.specs.Stores.{Next, give, fill, link}
 use Rattle.table.specs.declared.Shape.{Shape}
 use Rattle.table.specs.Shape.{Fits}
 use Rattle.table.specs.Map.{addresses, formOf}
@@ -62,8 +64,20 @@ pub record SomeCut : Type 0 where
   pub had-not : rightOf (formOf shape) (words old) domain word ≢ paint .right
   pub has : rightOf (formOf shape) (words pool) domain word ≡ paint .right
 
--- A store that is due.
-pub record SomeDue : Type 0 where
+-- The three kinds of stores: what gives up a table, what fills a new one, what leads to it or says new rights.
+pub data Kind : Type 0 where
+  gives : Kind
+  fills : Kind
+  links : Kind
+
+-- Of which kind a store is that may be made now.
+abbrev pub kindOf : {F : Form} {P Q X : ℕ → ℕ} {k : ℕ} → Next F P Q X k → Kind
+kindOf (give m j l x) = gives
+kindOf (fill n x) = fills
+kindOf (link m j x) = links
+
+-- A store of a kind that is due.
+pub record SomeDue (kind : Kind) : Type 0 where
   pub shape : Shape
   pub domain : ℕ
   pub paint : Paint
@@ -71,6 +85,7 @@ pub record SomeDue : Type 0 where
   pub word : ℕ
   pub value : ℕ
   pub due : Due shape domain paint pool word value
+  pub is : kindOf (due .next) ≡ kind
 
 -- A buffer in use, nowhere stale, that agrees with its table; and a slot of it answers.
 pub record SomeBuffer : Type 0 where
@@ -137,7 +152,9 @@ pub record Met : Type 0 where
   pub some-sound : SomeSound
   pub some-settled : SomeSettled
   pub some-cut : SomeCut
-  pub some-due : SomeDue
+  pub some-give : SomeDue gives
+  pub some-fill : SomeDue fills
+  pub some-link : SomeDue links
   pub some-buffer : SomeBuffer
   pub some-stale : SomeStale
   pub some-tidied : SomeTidied
