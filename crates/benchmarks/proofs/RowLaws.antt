@@ -12,7 +12,7 @@ use lib.Dec.{leb, ltb}
 use lib.ListN.{length, length-append, length-replicate, List·getD-eq-default}
 use lib.Seq.{ext-getD}
 use borrow.Author.Tests.{eq-eqb, le-leb, lt-ltb, leb-true, ltb-true}
-use Rattle.theory.specs.Pool.{words, rightOf}
+use Rattle.theory.specs.Pool.{words, SoundPool, rightOf}
 use Rattle.theory.specs.Settled.{Settled}
 use Rattle.theory.specs.Finished.{Finished}
 use Rattle.theory.proofs.RightLaws.{by-cases}
@@ -34,9 +34,9 @@ use Rattle.targets.specs.declared.Paint.{Paint}
 use Rattle.targets.specs.Targets.{region}
 use Rattle.plan.specs.Aims.{aims}
 use Rattle.change.specs.declared.Answer.{Answer}
-use Rattle.change.specs.declared.Answer.the-variants.{Done}
+use Rattle.change.specs.declared.Answer.the-variants.{Done, Cut}
 use Rattle.change.specs.Cuts.{differing}
-use Rattle.change.specs.Answers.{paintOf, IsDone, IsCut, Asked, Changes, Tidies, in-order, done}
+use Rattle.change.specs.Answers.{paintOf, noPaint, IsDone, IsCut, Asked, Changes, Tidies, in-order, done, cut}
 use Rattle.places.proofs.Exists.{finished-fits}
 use Rattle.change.proofs.TidyGoalLaws.{fits-goal}
 use Rattle.change.proofs.EndLaws.{goal-ends}
@@ -114,31 +114,48 @@ pub aims-fresh : (s : Shape) (paint : Paint) (d a : ℕ) → d < s .domains → 
     → aims s 0 paint (words (freshPool s)) d a ≡ cond (covered (region paint) a) (paint .right) 0
 aims-fresh s paint d a bd lo = aims-bare s paint (words (freshPool s)) d a lo (fresh-right s d a bd)
 
--- The finished pool, and an allowance that suffices.
+-- With an allowance that does not suffice for the finished pool there is a cut: of a change, and of a tidying.
+pub was-cut : (s : Shape) (d : ℕ) (paint : Paint) (p : List ℕ) (n : ℕ) → paint .right < 4 → Fits s (length p)
+    → SoundPool (formOf s) (words p) → (q : List ℕ)
+    → Finished (formOf s) (words p) (aims s d paint (words p)) (words q)
+    → length q ≡ length p → n < differing p q → (x : List ℕ) × IsCut s d paint p n x
+was-cut s d paint p n low fits sound q f l h =
+    let room = finished-fits (s .domains) (s .middles) (s .leaves) f in
+    let (Q, kept, goal) = fits-goal s d paint p low fits sound room in
+    ⊎-elim (λ (y, z). absurd (too-many y z)) (λ c. c) (goal-ends s d paint p Q kept n goal)
+  where
+    too-many : (y : List ℕ) → IsDone s d paint p n y → ⊥
+    too-many y z =
+        let same : (j : ℕ) → words y j ≡ words q j =
+        one-finished (formOf s) (lawful _ _ _) (wanting _ _ _) (words p) _ (exact _ _ _) (z .finished) f in
+        let e : y ≡ q = ext-getD 0 y q (z .long ∙ sym l) (λ j i. same j) in
+        let k = rw e at (z .enough) in
+        omega arith
+
+-- The finished pool, and an allowance that suffices or not.
 module _ (p : List ℕ) (s : Shape) (d start len r n : ℕ) (g : Region) (asked : Asked p s d start len r g)
     (settled : Settled (formOf s) (words p)) where
   pub change-done : (q : List ℕ) (k : ℕ) → Finished (formOf s) (words p) (aims s d (paintOf g r) (words p)) (words q)
-      → length q ≡ length p
-      → differing p q ≡ k → k ≤ n → Changes p s d start len r n (Done k) q
+      → length q ≡ length p → differing p q ≡ k → k ≤ n → Changes p s d start len r n (Done k) q
   change-done q k f l e h =
-      let c : Changes p s d start len r n (Done (differing p q)) q =
-      in-order g asked (done settled q (record { finished = f; long = l; enough = rw e h })) in
+      let whole : IsDone s d (paintOf g r) p n q = record { finished = f; long = l; enough = rw e h } in
+      let c : Changes p s d start len r n (Done (differing p q)) q = in-order g asked (done settled q whole) in
       rw e at c
 
-  -- With a smaller allowance it is cut.
   pub change-cut : (q : List ℕ) → Finished (formOf s) (words p) (aims s d (paintOf g r) (words p)) (words q)
-      → length q ≡ length p
-      → n < differing p q → (x : List ℕ) × IsCut s d (paintOf g r) p n x
+      → length q ≡ length p → n < differing p q → (x : List ℕ) × IsCut s d (paintOf g r) p n x
   change-cut q f l h =
-      let room = finished-fits (s .domains) (s .middles) (s .leaves) f in
-      let low = asked .right in
-      let (Q, kept, goal) = fits-goal s d (paintOf g r) p (omega arith) (asked .fits) (settled .sound) room in
-      ⊎-elim (λ (y, z). absurd (too-many y z)) (λ c. c) (goal-ends s d (paintOf g r) p Q kept n goal)
-    where
-      too-many : (y : List ℕ) → IsDone s d (paintOf g r) p n y → ⊥
-      too-many y z =
-          let e : y ≡ q = ext-getD 0 y q (z .long ∙ sym l)
-          (λ j i. one-finished (formOf s) (lawful _ _ _) (wanting _ _ _) (words p) (aims s d (paintOf g r) (words p))
-          (exact _ _ _) (z .finished) f j) in
-          let k = rw e at (z .enough) in
-          omega arith
+      let low = asked .right in was-cut s d (paintOf g r) p n (omega arith) (asked .fits) (settled .sound) q f l h
+
+-- The same of a tidying.
+module _ (p : List ℕ) (s : Shape) (n : ℕ) (fits : Fits s (length p)) (sound : SoundPool (formOf s) (words p)) where
+  pub tidy-done : (q : List ℕ) (k : ℕ) → Finished (formOf s) (words p) (aims s 0 noPaint (words p)) (words q)
+      → length q ≡ length p → differing p q ≡ k → k ≤ n → Tidies p s n (Done k) q
+  tidy-done q k f l e h =
+      let whole : IsDone s 0 noPaint p n q = record { finished = f; long = l; enough = rw e h } in
+      let c : Tidies p s n (Done (differing p q)) q = done fits sound q whole in
+      rw e at c
+
+  pub tidy-cut : (q : List ℕ) → Finished (formOf s) (words p) (aims s 0 noPaint (words p)) (words q)
+      → length q ≡ length p → n < differing p q → (x : List ℕ) × Tidies p s n Cut x
+  tidy-cut q f l h = let (x, c) = was-cut s 0 noPaint p n (omega arith) fits sound q f l h in (x, cut fits sound x c)

@@ -18,6 +18,7 @@ use Rattle.benchmarks.proofs.TidyRow.{needless-sound, needless-unsettle
 use Rattle.benchmarks.proofs.CutWitness.{some-cut, some-series}
 use Rattle.benchmarks.proofs.DueWitness.{some-give, some-fill, some-link}
 use Rattle.benchmarks.proofs.StaleWitness.{some-stale, some-tidied}
+use Rattle.benchmarks.proofs.TidyWitness.{some-tidy-cut}
 use Rattle.benchmarks.proofs.TwoDomains.{some-settled}
 
 some-sound : SomeSound
@@ -53,6 +54,7 @@ all-met = record {
   some-sound = some-sound;
   some-settled = some-settled;
   some-cut = some-cut;
+  some-tidy-cut = some-tidy-cut;
   some-give = some-give;
   some-fill = some-fill;
   some-link = some-link;

@@ -147,11 +147,25 @@ pub record SomeTidied : Type 0 where
   pub by-slot : checkOf pool shape filled-buffer 0 store 4 0x1000 .verdict ≡ Deny 0
   pub by-walk : checkOf pool shape emptyBuffer 0 store 4 0x1000 .verdict ≡ Deny 1
 
+-- A tidying that was cut after some stores, where more were wanted; and with as many as are wanted it is done.
+pub record SomeTidyCut : Type 0 where
+  pub shape : Shape
+  pub old : List ℕ
+  pub stores : ℕ
+  pub pool : List ℕ
+  pub some : 0 < stores
+  pub cut : Tidies old shape stores Cut pool
+  pub wanted : ℕ
+  pub more : stores < wanted
+  pub tidied : List ℕ
+  pub done : Tidies old shape wanted (Done wanted) tidied
+
 -- All of them.
 pub record Met : Type 0 where
   pub some-sound : SomeSound
   pub some-settled : SomeSettled
   pub some-cut : SomeCut
+  pub some-tidy-cut : SomeTidyCut
   pub some-give : SomeDue gives
   pub some-fill : SomeDue fills
   pub some-link : SomeDue links
