@@ -5,14 +5,12 @@ use mathlib.Core.Logic.{_≢_}
 use mathlib.Core.Bool.{Bool, true, false, cond}
 use mathlib.Core.List.{List}
 use native.Mathlib.Omega.{arith}
-use lib.ListN.{length}
 use Rattle.theory.specs.Pool.{words, rightOf}
 use Rattle.theory.specs.Finished.{Finished}
 use Rattle.theory.proofs.FinishedLaws.{finished-same, settled-finished}
 use Rattle.words.specs.Rights.{pack}
 use Rattle.words.specs.Region.{rounded, regionOf, covered}
 use Rattle.words.specs.declared.Region.{Region}
-use Rattle.table.specs.Shape.{Fits}
 use Rattle.table.specs.Map.{formOf}
 use Rattle.table.specs.Wants.{saidOf}
 use Rattle.table.specs.Fresh.{freshPool}
@@ -24,17 +22,12 @@ use Rattle.change.specs.Cuts.{differing}
 use Rattle.change.specs.Answers.{paintOf, no-region, in-order, cut}
 use Rattle.change.proofs.DifferLaws.{differing-self}
 use Rattle.benchmarks.specs.Rows.{shape, Always, IsCut, IsRefused, Sets, LastWord}
-use Rattle.benchmarks.proofs.RowLaws.{always-change, fresh-fits, in-range, covered-range, aims-fresh}
+use Rattle.benchmarks.proofs.RowLaws.{always-change, covered-range, aims-fresh}
 use Rattle.benchmarks.proofs.RowLaws.{change-done, listed}
+use Rattle.benchmarks.proofs.CutRows.{fresh, fresh-fit}
 use Rattle.benchmarks.proofs.PageLaws.{OnePage, after}
 use Rattle.benchmarks.proofs.PagePools.{painted, one-page, pagePool, page-done-finished, page-asked, page-done}
 use Rattle.benchmarks.proofs.PagePools.{page-cut}
-
-abbrev fresh : List ℕ
-fresh = freshPool (shape 1 1)
-
-fresh-fit : Fits (shape 1 1) (length fresh)
-fresh-fit = fresh-fits (shape 1 1) (in-range 1 1 (omega arith) (omega arith))
 
 abbrev last : Region
 last = rounded 0xFFFFFFFC 4
@@ -48,6 +41,7 @@ last-page r some small = one-page 1 0 last r 0xFFFFFFFC 0xFFFFFFF8 (omega arith)
     (omega arith) some (omega arith)
     (λ b e. let k = covered-range last b e in omega arith) refl refl refl (wants-leaf (painted last r) 0xFFFFFFFC)
 
+-- The finished pool of a right other than none: root word 1023, the middle table, and the last entry of the leaf.
 abbrev last-pool : ℕ → List ℕ
 last-pool r = pagePool 1 0 0xFFFFFFFC (entry r)
 

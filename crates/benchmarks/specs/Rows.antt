@@ -1,6 +1,6 @@
 -- The paper's twelve benchmarks, a definition a row, about the definitions that the contracts of `fresh`, `lookup`,
--- `change` and `tidy` cite. D is 1, the domain is 0, and the pool is fresh unless a row says more. A row holds of every
--- outcome that the contract allows, and there is one.
+-- `change` and `tidy` cite. D is 1, the domain is 0, and the pool is fresh unless a row says more. A row holds of
+-- every outcome that the contract allows, and there is one.
 use Prim.Native.Nat.{ℕ, zero, suc, _+_, _*_, _≤_, _<_}
 use mathlib.Core.Path.{_≡_}
 use mathlib.Core.Logic.{_⊎_}

@@ -86,8 +86,10 @@ module _ (s : Shape) (d : ℕ) (paint : Paint) (P : ℕ → ℕ) (range : InRang
 
   module _ {q r : Plan} (x : PlanReady s d paint P q) (y : PlanReady s d paint P r) where
     same-whole : whole x ≡ whole y
-    same-whole = fun-ext
-        (one-finished (formOf s) (lawful D M L) (wanting D M L) P R (exact D M L) (whole-finished x) (whole-finished y))
+    same-whole =
+        let a = whole-finished x in
+        let b = whole-finished y in
+        fun-ext (one-finished (formOf s) (lawful D M L) (wanting D M L) P R (exact D M L) a b)
 
     -- A block that wants a table has it in one place, by either plan.
     same-table : (h i : ℕ) → h < 2 → i < blocks h * D → want R h i ≡ true

@@ -184,7 +184,7 @@ same-verdict {s} {p} {b} {x} w d kind size a h z =
     (λ n. check-as-emptied p s x d kind size a z h n b (o .agrees) (o .pointer))
     (six-or-not (lookupOf p s d a))
 
--- Every series may have a buffer beside it: what makes a pool in a series keeps a buffer in use.
+-- `Watched` leaves out no call of a series: beside every series there may be a buffer, emptied as the pool was made.
 pub series-watched : {s : Shape} {p : List ℕ} {h : History} → Series s p h → Watched s p emptyBuffer (unflushed h)
 series-watched (fresh {p} {q} m) = emptied q
 series-watched (change x c) = changed (series-watched x) c

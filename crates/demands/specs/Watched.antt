@@ -15,8 +15,7 @@ use Rattle.lookaside.specs.Slots.{emptyBuffer}
 use Rattle.lookaside.specs.Check.{checkOf}
 use Rattle.lookaside.specs.Flushes.{flushedWhole, flushedDomain, flushedRegion}
 use Rattle.lookaside.specs.Agree.{Places, nowhere, within, clears, both, less}
-use Rattle.demands.specs.Series.{History}
-use Rattle.demands.specs.Series.{made as freshly, changed as after-change, tidied as after-tidying}
+use Rattle.demands.specs.Series.{History, made as freshly, changed as after-change, tidied as after-tidying}
 
 -- The places of domain `d` in a region, as it was rounded; none where it was refused.
 abbrev pub placesOf : Rounded → ℕ → Places
