@@ -2,4 +2,4 @@ pub mod SeriesLaws
 pub mod RoomLaws
 pub mod ClearLaws
 pub mod WatchedLaws
-pub mod PlanLaws
+pub mod OnePlan

@@ -45,8 +45,7 @@ May (changed h d start len r Cut) e a x = (Covers-it d start len e a × (x ≡ r
 pub data Series (s : Shape) : List ℕ → History → Type 0 where
   fresh : {p q : List ℕ} → MakesFresh s p Made q → Series s q made
   change : {p q : List ℕ} {h : History} {d start len r n : ℕ} {c : Answer} → Series s p h
-      → Changes p s d start len r n c q
-      → Series s q (changed h d start len r c)
+      → Changes p s d start len r n c q → Series s q (changed h d start len r c)
   tidy : {p q : List ℕ} {h : History} {n : ℕ} {c : Answer} → Series s p h → Tidies p s n c q → Series s q (tidied h c)
 
 -- What holds of the pool of every series.
