@@ -1,11 +1,12 @@
--- The paper's twelve benchmarks, a definition a row, about the definitions that the contracts of `fresh`, `lookup`, `change` and `tidy` cite.
--- D is 1, the domain is 0, and the pool is fresh unless a row says more. A row holds of every outcome that the contract allows, and there is one.
-use Prim.Native.Nat.{ℕ, _+_, _*_, _≤_, _<_}
+-- The paper's twelve benchmarks, a definition a row, about the definitions that the contracts of `fresh`, `lookup`,
+-- `change` and `tidy` cite. D is 1, the domain is 0, and the pool is fresh unless a row says more. A row holds of
+-- every outcome that the contract allows, and there is one.
+use Prim.Native.Nat.{ℕ, zero, suc, _+_, _*_, _≤_, _<_}
 use mathlib.Core.Path.{_≡_}
 use mathlib.Core.Logic.{_⊎_}
 use mathlib.Core.List.{List, _++_}
 use lib.ListN.{length, replicate, set}
-use Rattle.theory.specs.Pool.{words, SoundPool}
+use Rattle.theory.specs.Pool.{words, SoundPool, rightOf}
 use Rattle.words.specs.declared.Region.{Region}
 use Rattle.table.specs.declared.Shape.{Shape}
 use Rattle.table.specs.declared.Found.{Found}
@@ -52,7 +53,8 @@ Gives p s a right entry loads = Finds p s a (record { refusal = 0; right = right
 -- 1. Any address: right 0, 1 load. For every M and L, whatever the pool held before it was made fresh.
 abbrev pub AnyAddress : Type 0
 AnyAddress = (M L : ℕ) (p : List ℕ) → Fits (shape M L) (length p) → Always (MakesFresh (shape M L) p)
-    (λ r q. (madeNumber r ≡ 0) × (q ≡ freshPool (shape M L)) × ((a : ℕ) → a < addresses → Gives q (shape M L) a 0 0x80000000 1))
+    (λ r q. (madeNumber r ≡ 0) × (q ≡ freshPool (shape M L))
+    × ((a : ℕ) → a < addresses → Gives q (shape M L) a 0 0x80000000 1))
 
 -- 2. M 1, L 1, set 0x1000 for 64 bytes to 2: done, 1,026 stores; the leaf's first entry is 0xAAAAAAAA.
 abbrev pub SetsOneLeaf : Type 0
@@ -68,7 +70,8 @@ abbrev pub NoneOrTwo : (p : List ℕ) (s : Shape) (lo hi : ℕ) → Type 0
 NoneOrTwo p s lo hi = (a : ℕ) → a < addresses
     → (x : ℕ) × (w : ℕ) × (n : ℕ) × Gives p s a x w n × ((x ≡ 0) ⊎ ((x ≡ 2) × (lo ≤ a) × (a ≤ hi)))
 
--- 4. As 2 with allowance 1,025: cut, and every lookup gives right 0 or, in 0x1000 to 0x103F, right 2; the pool is sound.
+-- 4. As 2 with allowance 1,025: cut, and every lookup gives right 0 or, in 0x1000 to 0x103F, right 2; the pool is
+-- sound.
 abbrev pub CutBeforeTheLast : Type 0
 CutBeforeTheLast = Always (Sets 1 1 0x1000 64 2 1025) (λ a q. IsCut a × NoneOrTwo q (shape 1 1) 0x1000 0x103F × SoundPool (formOf (shape 1 1)) (words q))
 
@@ -79,7 +82,8 @@ GivesUpBoth = (n m : ℕ) → 1026 ≤ n → 1 ≤ m → (b : Answer) (p : List 
 
 -- 6. M 1, L 0, set 0x1000 for 512 bytes to 2: 1,025 stores, middle entry 1 is 0x80000002.
 abbrev pub SetsOneMiddle : Type 0
-SetsOneMiddle = (n : ℕ) → 1025 ≤ n → Always (Sets 1 0 0x1000 512 2 n) (λ a q. IsDone 1025 a × (words q (firstMiddle 1 + 1) ≡ 0x80000002))
+SetsOneMiddle = (n : ℕ) → 1025 ≤ n
+    → Always (Sets 1 0 0x1000 512 2 n) (λ a q. IsDone 1025 a × (words q (firstMiddle 1 + 1) ≡ 0x80000002))
 
 -- 7. M 0, L 0, set 0 for 524,288 bytes to 1: one store, 0x80000001.
 abbrev pub SetsOnePart : Type 0
@@ -91,20 +95,30 @@ NoRoomForLess = (n : ℕ) → Always (Sets 0 0 0 524284 1 n) (λ a q. IsRefused 
 
 -- 9. Set 0 for 4,294,967,295 bytes to 1, M 0, L 0: 1,024 stores, each root entry 0x80005555.
 abbrev pub SetsAll : Type 0
-SetsAll = (n : ℕ) → 1024 ≤ n → Always (Sets 0 0 0 4294967295 1 n) (λ a q. IsDone 1024 a × ((i : ℕ) → i < 1024 → words q i ≡ 0x80005555))
+SetsAll = (n : ℕ) → 1024 ≤ n
+    → Always (Sets 0 0 0 4294967295 1 n) (λ a q. IsDone 1024 a × ((i : ℕ) → i < 1024 → words q i ≡ 0x80005555))
 
--- 10. M 1, L 1, start 0xFFFFFFFC: length 4 accepted, 5 refused 5. Accepted: done with a sufficient allowance, and cut with a smaller one.
+-- How many stores a right for the last word of memory takes: for 0 none, and for another the root word, each word of
+-- the middle table, and one word of the leaf.
+abbrev pub lastStores : ℕ → ℕ
+lastStores zero = 0
+lastStores (suc r) = 1026
+
+-- 10. M 1, L 1, start 0xFFFFFFFC: length 4 accepted, 5 refused 5. Accepted: with an allowance that suffices done with
+-- so many stores, and the last word has the right; with a smaller one cut.
 abbrev pub LastWord : Type 0
 LastWord = (r n : ℕ) → r ≤ 3
-    → Always (Sets 1 1 0xFFFFFFFC 4 r n) (λ a q. ((k : ℕ) × IsDone k a) ⊎ (IsCut a × (n < 1026)))
+    → (lastStores r ≤ n → Always (Sets 1 1 0xFFFFFFFC 4 r n)
+    (λ a q. IsDone (lastStores r) a × (rightOf (formOf (shape 1 1)) (words q) 0 0xFFFFFFFC ≡ r)))
+    × (n < lastStores r → Always (Sets 1 1 0xFFFFFFFC 4 r n) (λ a q. IsCut a))
     × Always (Sets 1 1 0xFFFFFFFC 5 r n) (λ a q. IsRefused 5 a × (q ≡ freshPool (shape 1 1)))
 
 -- M 1: every word of the root and of the middle place is 0x80000000, but root entry 0, which leads to that place.
 abbrev pub needless : ℕ → List ℕ
 needless L = set (replicate 2048 0x80000000 ++ replicate (64 * L) 0) 0 (firstMiddle 1)
 
--- 11. M 1, root entry 0 leading to a middle table of 1,024 words 0x80000000: a change in order up to 6 is refused 7, tidying makes one store.
--- For every L.
+-- 11. M 1, root entry 0 leading to a middle table of 1,024 words 0x80000000: a change in order up to 6 is refused 7,
+-- tidying makes one store. For every L.
 abbrev pub Needless : Type 0
 Needless = (L n : ℕ) → L ≤ maxLeaves
     → ((d start len r : ℕ) (g : Region) → Asked (needless L) (shape 1 L) d start len r g

@@ -1,2 +1,5 @@
 pub mod SeriesLaws
+pub mod RoomLaws
+pub mod ClearLaws
 pub mod WatchedLaws
+pub mod OnePlan
