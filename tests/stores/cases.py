@@ -1,8 +1,6 @@
 """Wrong sources and harmless ones, each an edit of the real text."""
 import re
 
-from lists import LOADS
-
 CHANGE, TIDYING, AHEAD = (f"crates/change/src/{name}.rt" for name in ("lib", "tidying", "ahead"))
 FACE, TABLE, CENSUS = (f"crates/{name}/src/lib.rt" for name in ("goleuthan", "table", "census"))
 MAIN, SERVING = (f"crates/rights_listing/src/{name}.rt" for name in ("main", "serving"))
@@ -96,11 +94,10 @@ HARMLESS = [
      [before(CHANGE, "\nfn put(", "\nfn first(pool: &[u32]) -> u32 { pool[0] }\n")]),
 ]
 
-if LOADS:
-    WRONG += [
-        ("loads a word twice", "loads", [before(TABLE, LOAD, LOAD)]),
-        ("reads a word without counting it", "loads", [before(TABLE, LOAD, "let seen = pool[0];")]),
-    ]
+WRONG += [
+    ("loads a word twice", "loads", [before(TABLE, LOAD, LOAD)]),
+    ("reads a word without counting it", "loads", [before(TABLE, LOAD, "let seen = pool[0];")]),
+]
 
 
 def edited(texts, edits):

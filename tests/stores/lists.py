@@ -1,8 +1,5 @@
 """Who may hold the pool to write in, and for what. A new holder is a new line here, to be thought about."""
 
-# Whether the loads of a lookup are held to one function, `load` of crate table.
-LOADS = False
-
 # Who holds the pool to write in, and all that each does with it.
 HOLDERS = {
     "table": {"fresh": ["length", "part to fill", "part to fill"], "fill": ["length", "store"]},

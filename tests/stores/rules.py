@@ -1,7 +1,7 @@
 """The rules of one loop of stores: each gives what is wrong with a source."""
 import re
 
-from lists import BELOW, EXPORTED, HOLDERS, LOADS, LOOP, MAIN, OWNERS, READERS, TOLD
+from lists import BELOW, EXPORTED, HOLDERS, LOOP, MAIN, OWNERS, READERS, TOLD
 from source import assigned, use, uses
 
 
@@ -150,6 +150,5 @@ RULES = {
     "below": below,
     "above": above,
     "nobody else": nobody_else,
+    "loads": loads,
 }
-if LOADS:
-    RULES["loads"] = loads

@@ -2,4 +2,3 @@ pub mod SeriesLaws
 pub mod RoomLaws
 pub mod ClearLaws
 pub mod WatchedLaws
-pub mod OnePlan

@@ -17,21 +17,21 @@ use Rattle.table.specs.Wants.{wantsOf}
 use Rattle.table.proofs.FormLaws.{lawful, exact}
 use Rattle.table.specs.Wants.{WordRights}
 use Rattle.table.proofs.WantLaws.{wants-divided, wanting, tells-wants}
-use Rattle.places.proofs.Final.{blocks, number, domainOf, addressOf, want, tableOf, place, entryWord, final}
+use Rattle.places.specs.Final.{blocks, number, domainOf, addressOf, want, tableOf, place, entryWord, final}
 use Rattle.places.proofs.NumberLaws.{number-first}
 use Rattle.places.proofs.FinalWordLaws.{place-table, entry-leads, entry-says}
 use Rattle.places.proofs.FinalLaws.{final-encodes, final-placing, final-finished}
 use Rattle.places.proofs.Exists.{finished-fits}
 use Rattle.targets.specs.declared.Paint.{Paint}
 use Rattle.plan.specs.declared.Edge.{Edge}
 use Rattle.plan.specs.declared.Plan.{Plan}
 use Rattle.plan.specs.declared.Planning.{Planning}
 use Rattle.plan.specs.declared.Planning.the-variants.{Ready, NoRoom}
 use Rattle.plan.specs.Aims.{aims}
 use Rattle.plan.specs.Planning.{Regular}
 use Rattle.plan.specs.Edges.{firstOf, lastOf, EdgeIs, PlanReady, PlansChange}
 use Rattle.plan.proofs.Setting.{Setting}
 use Rattle.plan.proofs.SettingLaws.{aims-rights}
 
 module _ (s : Shape) (d : ℕ) (paint : Paint) (P : ℕ → ℕ) (range : InRange (s .domains) (s .middles) (s .leaves))
     (settled : Settled (formOf s) P) (bd : d < s .domains) (regular : Regular paint) where
