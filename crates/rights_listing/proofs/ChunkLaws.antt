@@ -18,7 +18,8 @@ use Rattle.rights_listing.specs.Text.{numeral, endOf, text}
 use Rattle.rights_listing.specs.Serves.{Serves, Chunk, spent, found, ServesChunk, Last, none, one, ServesLast}
 use Rattle.rights_listing.proofs.TextLaws.{text-none, text-more}
 
--- What has been answered so far, from the start of the chunk up to place `at`; what comes of the rest comes of the whole.
+-- What has been answered so far, from the start of the chunk up to place `at`; what comes of the rest comes of the
+-- whole.
 pub record Going (c : List ℕ) (t₀ : LineSoFar) (p₀ out₀ p out : List ℕ) (t : LineSoFar) (at len : ℕ) : Type 0 where
   pub numbers : List ℕ
   pub rest : (ks : List ℕ) (u : LineSoFar) (q : List ℕ) → Chunk c at t p ks u q → Chunk c 0 t₀ p₀ (numbers ++ ks) u q
@@ -47,12 +48,13 @@ end-one i = simp (eq-eqb (i % 1) 0 (omega arith))
 text-one : (ns : List ℕ) (n : ℕ) → text 1 (ns ++ n ∷ []) ≡ text 1 ns ++ (numeral n ++ 10 ∷ [])
 text-one ns n = text-more 1 0 n ns ∙ ap (λ b. text 1 ns ++ (numeral n ++ b ∷ [])) (end-one (0 + length ns))
 
-module _ {c : List ℕ} {t₀ : LineSoFar} {p₀ out₀ p out : List ℕ} {t : LineSoFar} {at len : ℕ} (g : Going c t₀ p₀ out₀ p out t at len)
-    {r : Fed} (e : r ≡ feedOf at t (drop at c)) where
+module _ {c : List ℕ} {t₀ : LineSoFar} {p₀ out₀ p out : List ℕ} {t : LineSoFar} {at len : ℕ}
+    (g : Going c t₀ p₀ out₀ p out t at len) {r : Fed} (e : r ≡ feedOf at t (drop at c)) where
   fed : {f : Found} → r .found ≡ f → feedOf at t (drop at c) ≡ record { found = f; next = r .next; line = r .line }
   fed z = sym e ∙ ap (λ f. record { found = f; next = r .next; line = r .line }) z
 
-  pub going-ends : 11 * length c ≤ length out₀ → r .found ≡ Nothing → ServesChunk c t₀ p₀ (record { len = len; line = r .line }) p out
+  pub going-ends : 11 * length c ≤ length out₀ → r .found ≡ Nothing
+      → ServesChunk c t₀ p₀ (record { len = len; line = r .line }) p out
   going-ends h z =
       let l = g .inside in
       let m = g .upto in
@@ -69,8 +71,9 @@ module _ {c : List ℕ} {t₀ : LineSoFar} {p₀ out₀ p out : List ℕ} {t : L
     pub going-moves : (at < r .next) × (r .next ≤ length c)
     going-moves = rw (← e) at (feed-moves c at t (ap (λ f. f .found) (sym e) ∙ z))
 
-    pub going-on : {k m : ℕ} {q last : List ℕ} → Serves p said k q → length q ≡ length p → length last ≡ length out → m ≤ len + 11
-        → take m last ≡ take len out ++ (numeral k ++ 10 ∷ []) → Going c t₀ p₀ out₀ q last (r .line) (r .next) m
+    pub going-on : {k m : ℕ} {q last : List ℕ} → Serves p said k q → length q ≡ length p → length last ≡ length out
+        → m ≤ len + 11 → take m last ≡ take len out ++ (numeral k ++ 10 ∷ [])
+        → Going c t₀ p₀ out₀ q last (r .line) (r .next) m
     going-on {k} s x y h w =
         let l = g .inside in
         let n = going-moves in
@@ -86,10 +89,16 @@ module _ {c : List ℕ} {t₀ : LineSoFar} {p₀ out₀ p out : List ℕ} {t : L
 
 -- The end of the input.
 pub last-none : {t : LineSoFar} {p out : List ℕ} → lastOf t ≡ Nothing → ServesLast t p 0 p out
-last-none {out = out} e = record { numbers = []; last = none e; written = sym (text-none 1); inside = (omega arith, refl) }
+last-none {out = out} e = record {
+  numbers = [];
+  last = none e;
+  written = sym (text-none 1);
+  inside = (omega arith, refl);
+}
 
-pub last-one : (out : List ℕ) {t : LineSoFar} {p q last : List ℕ} {said : Parsed} {k m : ℕ} → lastOf t ≡ Line said → Serves p said k q → m ≤ length last
-    → take m last ≡ take 0 out ++ (numeral k ++ 10 ∷ []) → ServesLast t p m q last
+pub last-one : (out : List ℕ) {t : LineSoFar} {p q last : List ℕ} {said : Parsed} {k m : ℕ} → lastOf t ≡ Line said
+    → Serves p said k q → m ≤ length last → take m last ≡ take 0 out ++ (numeral k ++ 10 ∷ [])
+    → ServesLast t p m q last
 last-one out {last = last} {k = k} {m = m} e s i w = record {
   numbers = k ∷ [];
   last = one e s;

@@ -5,4 +5,5 @@ pub mod ServesLaws
 pub mod HearsLaws
 pub mod ChunkLaws
 pub mod PageLaws
+pub mod ShowLaws
 mod Examples
