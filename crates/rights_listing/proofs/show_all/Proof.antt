@@ -37,15 +37,20 @@ add-count c =
     search needs
 
 returns-2 : tie.Need-returns-2 Inv-loop μ-loop
-returns-2 c = showing-ends (c .before .before .before .loop .inv) (c .before .before .show .ensures) (c .if2 .taken)
+returns-2 c =
+    let e = c .if2 .taken in
+    showing-ends (c .before .before .before .loop .inv) (c .before .before .show .ensures) (omega arith)
 
 loop-less : tie.Need-loop-less Inv-loop μ-loop
 loop-less c =
-    let l = showing-less (c .before .before .before .loop .inv) (c .before .before .show .ensures) (c .if2 .left) in
+    let e = c .if2 .left in
+    let l = showing-less (c .before .before .before .loop .inv) (c .before .before .show .ensures) (λ h. omega arith) in
     omega arith
 
 loop-again : tie.Need-loop-again Inv-loop μ-loop
-loop-again c = showing-on (c .before .before .before .loop .inv) (c .before .before .show .ensures) (c .if2 .left)
+loop-again c =
+    let e = c .if2 .left in
+    showing-on (c .before .before .before .loop .inv) (c .before .before .show .ensures) (λ h. omega arith)
 
 pub show-all-spec : {M : Type 1} → statement M
 show-all-spec =
