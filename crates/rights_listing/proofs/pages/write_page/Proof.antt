@@ -70,8 +70,8 @@ slice-aggregate-write-fours-2 c = search needs
 write-fours-requires-2 : tie.Need-write-fours-requires-2
 write-fours-requires-2 c κs = search needs
 
-sub-t23 : tie.Need-sub-t23
-sub-t23 c = search needs
+sub-left : tie.Need-sub-left
+sub-left c = search needs
 
 same-length-2 : tie.Need-same-length-2
 same-length-2 c = search needs
@@ -108,6 +108,6 @@ write-page-spec =
     returns-3
     slice-aggregate-write-fours-2
     write-fours-requires-2
-    sub-t23
+    sub-left
     same-length-2
     returns-4)
