@@ -6,4 +6,5 @@ pub mod HearsLaws
 pub mod ChunkLaws
 pub mod PageLaws
 pub mod ShowLaws
+pub mod ProgramLaws
 mod Examples

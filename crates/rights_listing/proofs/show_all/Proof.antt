@@ -44,7 +44,8 @@ returns-2 c =
 loop-less : tie.Need-loop-less Inv-loop μ-loop
 loop-less c =
     let e = c .if2 .left in
-    let l = showing-less (c .before .before .before .loop .inv) (c .before .before .show .ensures) (λ h. omega arith) in
+    let s = c .before .before in
+    let l = showing-less (s .before .loop .inv) (s .show .ensures) (λ h. omega arith) in
     omega arith
 
 loop-again : tie.Need-loop-again Inv-loop μ-loop
