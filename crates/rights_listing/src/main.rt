@@ -149,6 +149,7 @@ fn say(sentence: &[u8]) {
     io::write_all(STDERR_FILENO, sentence);
 }
 
+// Hears the input and shows the listing; where it stops before the end of either, it says so.
 fn main() {
     let mut pool = [0u32; 16384];
     table::fresh(&mut pool, serving::shape());

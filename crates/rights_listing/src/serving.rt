@@ -10,8 +10,10 @@ use lines::LineSoFar;
 use lines::Parsed;
 use table::Shape;
 
+// An allowance that suffices: no pool has as many words.
 const SUFFICES: u32 = 0xFFFF_FFFF;
 
+// The number for a line that is not of the form.
 const NOT_OF_FORM: u32 = 99;
 
 // What came of a chunk: how many bytes were written, and the line that has begun.
