@@ -19,7 +19,8 @@ HOLDERS = {
         "serve": ["to reply"],
         "serve_last": ["to reply"],
         "hear": ["to serving::serve"],
-        "hear_all": ["to hear", "to serving::serve_last"],
+        "hear_last": ["to serving::serve_last"],
+        "hear_all": ["to hear", "to hear_last"],
     },
 }
 
