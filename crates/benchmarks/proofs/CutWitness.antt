@@ -15,7 +15,7 @@ use Rattle.theory.specs.Pool.{words, rightOf}
 use Rattle.theory.specs.Settled.{Settled}
 use Rattle.theory.specs.Stores.{Kept, top, down}
 use Rattle.theory.specs.Phase.{phase}
-use Rattle.theory.proofs.RightLaws.{by-cases}
+use Rattle.theory.proofs.Logic.{by-cases}
 use Rattle.words.specs.Region.{rounded, regionOf}
 use Rattle.table.specs.declared.Made.the-variants.{Done as Made}
 use Rattle.table.specs.Shape.{Fits}

@@ -21,7 +21,7 @@ use Rattle.change.specs.declared.Answer.the-variants.{Done}
 use Rattle.change.specs.Cuts.{differing}
 use Rattle.change.specs.Answers.{paintOf, no-region, in-order, cut}
 use Rattle.change.proofs.DifferLaws.{differing-self}
-use Rattle.benchmarks.specs.Rows.{shape, Always, IsCut, IsRefused, Sets, LastWord}
+use Rattle.benchmarks.specs.Rows.{shape, Always, AnsweredCut, AnsweredRefused, Sets, LastWord}
 use Rattle.benchmarks.proofs.RowLaws.{always-change, covered-range, aims-fresh}
 use Rattle.benchmarks.proofs.RowLaws.{change-done, listed}
 use Rattle.benchmarks.proofs.CutRows.{fresh, fresh-fit}
@@ -64,7 +64,7 @@ module _ (r : ℕ) (some : r ≢ 0) (h : r ≤ 3) (n : ℕ) where
       page-done-finished last r (last-page r some h) (omega arith) .rights 0 0xFFFFFFFC (omega arith) (omega arith)
       ∙ aims-fresh (shape 1 1) (paintOf last r) 0 0xFFFFFFFC (omega arith) (omega arith)
 
-  is-cut : n < 1026 → Always (Sets 1 1 0xFFFFFFFC 4 r n) (λ a q. IsCut a)
+  is-cut : n < 1026 → Always (Sets 1 1 0xFFFFFFFC 4 r n) (λ a q. AnsweredCut a)
   unfolding regionOf
   is-cut b =
       let page = last-page r some h in
@@ -91,7 +91,7 @@ takes-none n =
     (fresh-settled (shape 1 1)) fresh 0 still refl (differing-self fresh) (omega arith)
 
 refused-5 : (r n : ℕ) → r ≤ 3
-    → Always (Sets 1 1 0xFFFFFFFC 5 r n) (λ a q. IsRefused 5 a × (q ≡ freshPool (shape 1 1)))
+    → Always (Sets 1 1 0xFFFFFFFC 5 r n) (λ a q. AnsweredRefused 5 a × (q ≡ freshPool (shape 1 1)))
 unfolding regionOf
 refused-5 r n h = always-change (no-region fresh-fit (omega arith) h 5 refl) (refl, refl)
 

@@ -13,14 +13,13 @@ use Rattle.theory.specs.Form.{Form}
 use Rattle.theory.specs.Pool.{words}
 use Rattle.theory.specs.Settled.{Says}
 use Rattle.theory.specs.Finished.{Place, Finished}
-use Rattle.theory.proofs.RightLaws.{by-cases}
+use Rattle.theory.proofs.Logic.{by-cases, and-both}
 use Rattle.theory.proofs.Encodes.{TellsWants, Gets, spot, Placing, Encodes, Follows}
 use Rattle.theory.proofs.EncodesLaws.{encodes-finished}
 use Rattle.words.specs.Rights.{rightAt, goodRights}
 use Rattle.words.proofs.RightsLaws.{eight-right, sixteen-right}
 use Rattle.table.specs.Map.{addresses, block, part, parts, index, leads, Divided, form}
 use Rattle.table.specs.Fresh.{freshPool}
-use Rattle.table.proofs.ShapeLaws.{and-both}
 use Rattle.table.proofs.BlockLaws.{block-above, block-together, together-block, part-in-block, part-above}
 use Rattle.table.proofs.BlockLaws.{number-below}
 use Rattle.table.proofs.FormLaws.{leads-place, place-leads, lawful, exact}

@@ -15,7 +15,7 @@ use borrow.Author.Tests.{eq-eqb, le-leb, lt-ltb, leb-true, ltb-true}
 use Rattle.theory.specs.Pool.{words, SoundPool, rightOf}
 use Rattle.theory.specs.Settled.{Settled}
 use Rattle.theory.specs.Finished.{Finished}
-use Rattle.theory.proofs.RightLaws.{by-cases}
+use Rattle.theory.proofs.Logic.{by-cases, and-both}
 use Rattle.theory.proofs.FinishedLaws.{one-finished}
 use Rattle.words.specs.Region.{covered}
 use Rattle.words.specs.declared.Region.{Region}
@@ -25,13 +25,12 @@ use Rattle.table.specs.Shape.{InRange, Fits, poolLength, maxMiddles, maxLeaves}
 use Rattle.table.specs.Map.{formOf}
 use Rattle.table.specs.Fresh.{freshPool}
 use Rattle.table.specs.Lookup.{numbers, lookupOf}
-use Rattle.table.proofs.ShapeLaws.{and-both}
 use Rattle.table.proofs.FormLaws.{lawful, exact}
 use Rattle.table.proofs.WantLaws.{wanting}
 use Rattle.table.proofs.LookupLaws.{looks-up}
 use Rattle.table.proofs.FreshWordLaws.{fresh-right}
 use Rattle.targets.specs.declared.Paint.{Paint}
-use Rattle.targets.specs.Targets.{region}
+use Rattle.targets.specs.Paints.{region}
 use Rattle.plan.specs.Aims.{aims}
 use Rattle.change.specs.declared.Answer.{Answer}
 use Rattle.change.specs.declared.Answer.the-variants.{Done, Cut}

@@ -10,7 +10,7 @@ use Rattle.words.proofs.RegionLaws.{region-empty, region-beyond, region-covers}
 use lib.Dec.{leb, ltb}
 use lib.ListN.{length, length-append, length-replicate}
 use borrow.Author.Tests.{ltb-true}
-use Rattle.theory.proofs.RightLaws.{by-cases}
+use Rattle.theory.proofs.Logic.{by-cases, and-both}
 use Rattle.theory.specs.Pool.{words, SoundPool}
 use Rattle.words.specs.Region.{regionOf, roundedEnd, covered}
 use Rattle.words.specs.declared.Region.{Region}
@@ -20,7 +20,7 @@ use Rattle.table.specs.declared.Made.the-variants.{Done as Made, Refused as Not
 use Rattle.table.specs.Shape.{fitsOf, poolLength}
 use Rattle.table.specs.Fresh.{MakesFresh, freshPool}
 use Rattle.table.specs.Map.{formOf}
-use Rattle.table.proofs.ShapeLaws.{test-fits, and-both}
+use Rattle.table.proofs.ShapeLaws.{test-fits}
 use Rattle.table.proofs.FreshWordLaws.{fresh-settled, fresh-right}
 use Rattle.targets.specs.declared.Paint.{Paint}
 use Rattle.change.specs.declared.Answer.{Answer}

@@ -30,7 +30,7 @@ use Rattle.lookaside.specs.declared.Flushing.{Flushing}
 use Rattle.lookaside.specs.declared.Flushing.the-variants.{Whole, OfDomain, OfRegion}
 use Rattle.lookaside.specs.declared.Verdict.the-variants.{Refused}
 use Rattle.lookaside.specs.Slots.{emptyBuffer}
-use Rattle.lookaside.specs.Check.{refusalOf, verdictOf, said, checkOf}
+use Rattle.lookaside.specs.Check.{refusalOf, verdictOf, withoutLoads, checkOf}
 use Rattle.lookaside.specs.Flushes.{flushedBuffer, flushedRounded, pointed}
 use Rattle.lookaside.specs.Agree.{Places, nowhere, within, clears, both, less, rightsOf, SameBut, AgreesBut}
 use Rattle.lookaside.proofs.CheckLaws.{check-pointer, refusal-pointer}
@@ -172,7 +172,7 @@ six-or-not (NotFound n) = elim (ℕ-discrete n 6) [ yes e ↦ inl (ap NotFound e
 -- refusals are the same too. Of every pool, sound or not.
 pub same-verdict : {s : Shape} {p : List ℕ} {b : Buffer} {x : Places} → Watched s p b x → (d kind size a : ℕ)
     → a < addresses → x d a ≡ false
-    → said (checkOf p s b d kind size a .verdict) ≡ said (checkOf p s emptyBuffer d kind size a .verdict)
+    → withoutLoads (checkOf p s b d kind size a .verdict) ≡ withoutLoads (checkOf p s emptyBuffer d kind size a .verdict)
 same-verdict {s} {p} {b} {x} w d kind size a h z =
     let o = watched-sees w in
     let same = refusal-pointer s (length p) d kind size a (b .next) (emptyBuffer .next) (o .pointer) first-pointer in
@@ -180,7 +180,7 @@ same-verdict {s} {p} {b} {x} w d kind size a h z =
     (λ six.
     let here = check-six p s b (o .clear) d kind size a h six in
     let there = check-six p s emptyBuffer (emptied-clear p s) d kind size a h six in
-    ap said (here ∙ ap (λ n. Refused (orSix n)) same ∙ sym there))
+    ap withoutLoads (here ∙ ap (λ n. Refused (orSix n)) same ∙ sym there))
     (λ n. check-as-emptied p s x d kind size a z h n b (o .agrees) (o .pointer))
     (six-or-not (lookupOf p s d a))
 

@@ -6,7 +6,7 @@ use native.Mathlib.Omega.{arith}
 use Rattle.theory.specs.Pool.{Led}
 use Rattle.theory.specs.Settled.{Settled}
 use Rattle.theory.specs.Finished.{Finished}
-use Rattle.theory.proofs.RightLaws.{by-cases}
+use Rattle.theory.proofs.Logic.{by-cases}
 use Rattle.theory.proofs.BlockLaws.{one-table}
 use Rattle.theory.proofs.FinishedLaws.{one-finished}
 use Rattle.theory.proofs.EncodesLaws.{wants-gets, gets-led}

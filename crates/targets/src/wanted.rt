@@ -10,7 +10,7 @@ ghost use Rattle.table.specs.Map.{formOf};
 ghost use Rattle.places.specs.Final.{want};
 ghost use Rattle.census.specs.Places.{maxPlaces, placeHeight};
 ghost use Rattle.census.specs.Census.{StandsAt, Owners};
-ghost use Rattle.targets.specs.Targets.{Tells};
+ghost use Rattle.targets.specs.Targets.{Decides};
 ghost use Rattle.targets.specs.Steps.{isMixed, LeafIn};
 use crate::Target;
 use crate::UNPAINTED;
@@ -66,7 +66,7 @@ pub fn settled(pool: &[u32], shape: Shape, owners: &[u32]) -> bool
     requires { ⌜ Fits shape (length (now pool)) ⌝ }
     requires { ⌜ SoundPool (formOf shape) (words (now pool)) ⌝ }
     requires { ⌜ Owners (now pool) shape (now owners) ⌝ }
-    ensures { λ r. ⌜ Tells r (Settled (formOf shape) (words (now (pool .entry)))) ⌝ }
+    ensures { λ r. ⌜ Decides r (Settled (formOf shape) (words (now (pool .entry)))) ⌝ }
 {
     let mut n: usize = 72;
     while 0 < n {
