@@ -1,4 +1,5 @@
-// What the rest is counted in: memory bytes and pool words kept apart, rights inside a 32-bit word, and regions rounded to memory words.
+// What the rest is counted in: memory bytes and pool words kept apart, rights inside a 32-bit word, and regions
+// rounded to memory words.
 ghost use mathlib.Core.Path.{_≡_};
 ghost use mathlib.Core.Bool.{true};
 ghost use Prim.Native.Nat.{_+_, _<_, _≤_};
@@ -10,7 +11,8 @@ ghost use Rattle.words.specs.Passing.{Passed, SkipsRights};
 // A byte address of the memory that the table protects.
 pub struct ByteAddr(pub u32);
 
-// The number of a word of the pool. It has a type of its own, so that the compiler refuses it where an address is wanted.
+// The number of a word of the pool. It has a type of its own, so that the compiler refuses it where an address is
+// wanted.
 pub struct PoolWord(pub usize);
 
 // The memory words `lo ≤ w < hi`; memory word `w` is the four bytes from `4 * w` on.
@@ -39,11 +41,20 @@ pub fn addr_number(a: ByteAddr) -> u32
     a.0
 }
 
-// A pointer entry, as the pool word number that it is.
+// A pointer entry, or a number that is reckoned from the shape, as the pool word number that it is.
 pub fn pool_word(entry: u32) -> PoolWord
     ensures { λ r. ⌜ r ≡ record { 0 = entry } ⌝ }
 {
     PoolWord(entry as usize)
+}
+
+// The entry that leads to the table that begins at the word.
+pub fn entry_of(w: PoolWord) -> u32
+    requires { ⌜ w .0 < 4294967296 ⌝ }
+    ensures { λ r. ⌜ r ≡ w .0 ⌝ }
+{
+    let n = pool_index(w);
+    n as u32
 }
 
 // Where the word stands in the slice that is the pool.
@@ -144,7 +155,8 @@ pub fn skip_rights(pool: &[u32], from: usize, to: usize) -> usize
     to
 }
 
-// The words of a start and a length in bytes. The length's remainder is rounded by itself, since `length + 3` could wrap.
+// The words of a start and a length in bytes. The length's remainder is rounded by itself, since `length + 3` could
+// wrap.
 pub fn round_region(start: ByteAddr, length: u32) -> Rounded
     ensures { λ r. ⌜ r ≡ regionOf (start .0) length ⌝ }
 {
