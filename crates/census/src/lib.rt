@@ -97,20 +97,20 @@ fn give_place(n: usize, block: u32, owners: &mut [u32]) -> bool
     true
 }
 
-// How many words from word `k` on, entry `i` of its table, are eight rights: up to the first that is not, or to the table's end.
-pub fn plain_ahead(pool: &[u32], k: usize, i: u32) -> u32
-    requires { ⌜ (i < 1024) × (k + (1024 - i) ≤ length (now pool)) ⌝ }
-    ensures { λ r. ⌜ (i + r ≤ 1024) × AllPlain (words (now (pool .entry))) k r ⌝ }
+// How many words from `word` on, entry `i` of its table, are eight rights: up to the first that is not, or to the
+// table's end.
+pub fn plain_ahead(pool: &[u32], word: PoolWord, i: u32) -> u32
+    requires { ⌜ (i < 1024) × (word .0 + (1024 - i) ≤ length (now pool)) ⌝ }
+    ensures { λ r. ⌜ (i + r ≤ 1024) × AllPlain (words (now (pool .entry))) (word .0) r ⌝ }
 {
+    let k = words::pool_index(word);
     let w = pool[k];
     let plain = words::good_rights(w);
     if !plain {
         return 0;
     }
     let rest = 1024 - i;
-    let end = k + rest as usize;
-    let at = words::skip_rights(pool, k, end);
-    let n = at - k;
+    let n = words::skip_rights(pool, word, rest as usize);
     n as u32
 }
 
@@ -133,13 +133,13 @@ fn table_check(
     if height == 0 {
         return true;
     }
-    let at = words::pool_index(base);
     let first = 1024 * block;
     let mut i: u32 = 0;
     while i < 1024 {
-        let k = at + i as usize;
-        let n = plain_ahead(pool, k, i);
+        let word = words::word_after(base, i as usize);
+        let n = plain_ahead(pool, word, i);
         if n == 0 {
+            let k = words::pool_index(word);
             let w = pool[k];
             let fine = entry_check(pool, shape, height, w, first + i, owners);
             if !fine {

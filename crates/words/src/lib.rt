@@ -116,43 +116,48 @@ fn one_if_rights(w: u32) -> u32
     0
 }
 
-// Whether the 32 words from `at` on are all eight rights. They are counted with no way out of the loop: so the compiler tests four at a time.
-fn all_rights(pool: &[u32], at: usize) -> bool
-    requires { ⌜ at + 32 ≤ length (now pool) ⌝ }
-    ensures { λ r. ⌜ (r ≡ true → Passed (now (pool .entry)) at (at + 32)) ⌝ }
+// Whether the 32 words from `at` on are all eight rights. They are counted with no way out of the loop: so the
+// compiler tests four at a time.
+fn all_rights(pool: &[u32], at: PoolWord) -> bool
+    requires { ⌜ at .0 + 32 ≤ length (now pool) ⌝ }
+    ensures { λ r. ⌜ (r ≡ true → Passed (now (pool .entry)) (at .0) (at .0 + 32)) ⌝ }
 {
+    let first = pool_index(at);
     let mut n: u32 = 0;
     let mut i: usize = 0;
     while i < 32 {
-        let w = pool[at + i];
+        let w = pool[first + i];
         n += one_if_rights(w);
         i += 1;
     }
     n == 32
 }
 
-// The first of the words `from ≤ k < to` that is not eight rights, or `to`. Most entries are: they are passed over 32 at a time.
-pub fn skip_rights(pool: &[u32], from: usize, to: usize) -> usize
-    requires { ⌜ (from ≤ to) × (to ≤ length (now pool)) ⌝ }
-    ensures { λ r. ⌜ SkipsRights (now (pool .entry)) from to r ⌝ }
+// How many of the `count` words from `from` on stand before the first that is not eight rights. Most entries are:
+// they are passed over 32 at a time.
+pub fn skip_rights(pool: &[u32], from: PoolWord, count: usize) -> usize
+    requires { ⌜ from .0 + count ≤ length (now pool) ⌝ }
+    ensures { λ r. ⌜ SkipsRights (now (pool .entry)) (from .0) (from .0 + count) (from .0 + r) ⌝ }
 {
-    let mut at = from;
-    while 32 <= to - at {
-        let all = all_rights(pool, at);
+    let first = pool_index(from);
+    let end = first + count;
+    let mut at = first;
+    while 32 <= end - at {
+        let all = all_rights(pool, PoolWord(at));
         if !all {
             break;
         }
         at += 32;
     }
-    while at < to {
+    while at < end {
         let w = pool[at];
         let good = good_rights(w);
         if !good {
-            return at;
+            return at - first;
         }
         at += 1;
     }
-    to
+    count
 }
 
 // The words of a start and a length in bytes. The length's remainder is rounded by itself, since `length + 3` could
