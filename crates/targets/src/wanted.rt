@@ -27,7 +27,8 @@ fn is_mixed(t: Target) -> bool
     }
 }
 
-// Whether the table that stands at place `n`, that of a block, is wanted: with nothing painted, no rights can be its entry.
+// Whether the table that stands at place `n`, that of a block, is wanted: with nothing painted, no rights can be its
+// entry.
 fn table_wanted(pool: &[u32], shape: Shape, n: usize, block: u32) -> bool
     requires { ⌜ Fits shape (length (now pool)) ⌝ }
     requires { ⌜ SoundPool (formOf shape) (words (now pool)) ⌝ }
@@ -35,7 +36,8 @@ fn table_wanted(pool: &[u32], shape: Shape, n: usize, block: u32) -> bool
     ensures { λ r. ⌜ r ≡ want (rightOf (formOf shape) (words (now (pool .entry)))) (placeHeight n) block ⌝ }
 {
     let height = census::place_height(n);
-    let e = census::place_word(shape, n);
+    let place = census::place_word(shape, n);
+    let e = words::entry_of(place);
     let number = census::block_in_domain(height, block);
     let t = entry_target(pool, UNPAINTED, height + 1, e, number);
     is_mixed(t)
@@ -60,8 +62,9 @@ fn has_leaf(owners: &[u32], n: usize, block: u32) -> bool
     false
 }
 
-// Whether a sound pool is settled: every table in it, by the owners of its places, is wanted. (In a sound pool a block that wants a table has one.)
-// The leaves come first: a table with a leaf that is wanted is wanted too, so only one without leaves is searched.
+// Whether a sound pool is settled: every table in it, by the owners of its places, is wanted. (In a sound pool a
+// block that wants a table has one.) The leaves come first: a table with a leaf that is wanted is wanted too, so only
+// one without leaves is searched.
 pub fn settled(pool: &[u32], shape: Shape, owners: &[u32]) -> bool
     requires { ⌜ Fits shape (length (now pool)) ⌝ }
     requires { ⌜ SoundPool (formOf shape) (words (now pool)) ⌝ }
