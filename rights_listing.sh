@@ -1,5 +1,6 @@
 #!/bin/sh
-# rights_listing.sh [FILE]: proves and builds the listing program where that is not done yet, and runs it on FILE, or on standard input.
+# rights_listing.sh [FILE]: proves and builds the listing program where that is not done yet, and runs it on FILE, or on
+# standard input. Each crate that is proved has a line on standard error; standard output is the program's alone.
 set -eu
 root=$(cd "$(dirname "$0")" && pwd)
 if [ $# -gt 1 ]; then
@@ -15,11 +16,45 @@ if ! command -v rt > /dev/null; then
     exit 2
 fi
 log=$(mktemp)
-trap 'rm -f "$log"' EXIT
+status=$(mktemp)
+trap 'rm -f "$log" "$status"' EXIT
+
+# How many crates the program is made of: itself, and what it uses.
+many=$(awk -F: '
+    function add(name, used, n) {
+        if (!(name in uses) || name in seen) return
+        seen[name]
+        all++
+        for (n = split(uses[name], used, " "); n > 0; n--) add(used[n])
+    }
+    !/^#/ { uses[$1] = $2 }
+    END { add("rights_listing"); print all }' "$root/crates.txt")
+
+# Keeps what the check says in the log, and says which crates were proved now.
+follow() {
+    count=0
+    while IFS= read -r line; do
+        printf '%s\n' "$line" >> "$log"
+        case $line in
+        "rt: "*" proved (unchanged"*) count=$((count + 1)) ;;
+        "rt: "*" proved ("*)
+            count=$((count + 1))
+            name=${line#rt: }
+            echo "proved $count of $many: ${name%% *}" >&2
+            ;;
+        esac
+    done
+}
+
 if [ ! -f "$root/target/bin/rights_listing" ]; then
     echo "Proving and building; this takes some minutes the first time." >&2
 fi
-if ! (cd "$root" && rt check rights_listing) > "$log" 2>&1; then
+{
+    ended=0
+    (cd "$root" && rt check rights_listing) < /dev/null 2>&1 || ended=$?
+    echo "$ended" > "$status"
+} | follow
+if [ "$(cat "$status")" != 0 ]; then
     cat "$log" >&2
     exit 1
 fi

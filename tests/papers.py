@@ -1,35 +1,42 @@
-"""Checks that what docs/PROMISES.md and docs/READING.md name is in the tree (see papers.sh)."""
+"""Holds the pages to the tree (see papers.sh): names and files that they give, and which definitions a promise rests on."""
 import glob
 import os
 import re
 
-ANTT = "\n".join(open(f).read() for f in glob.glob("crates/*/specs/**/*.antt", recursive=True) + glob.glob("crates/*/proofs/**/*.antt", recursive=True))
-CODE = "\n".join(open(f).read() for f in glob.glob("crates/*/src/*.rt"))
-EDITS = {os.path.basename(f)[:-5] for f in glob.glob("crates/*/must-fail/*.edit") + glob.glob("tests/wrong/*/*.edit")}
 CRATES = {line.split(":")[0] for line in open("crates.txt") if ":" in line and not line.startswith("#")}
+SPECS = {f[len("crates/"):-len(".antt")]: open(f).read() for f in glob.glob("crates/*/specs/*.antt") if not f.endswith("/Lib.antt")}
+CODE = {f: open(f).read() for f in glob.glob("crates/*/src/*.rt")}
+EDITS = {os.path.basename(f)[:-5] for f in glob.glob("crates/*/must-fail/*.edit") + glob.glob("tests/wrong/*/*.edit")}
 
-# What declares a name: a definition or law with its type, a record, a data type or its constructor, a field; in code a function, a type or a variant.
-DECLARED = set(re.findall(r"^\s*(?:abbrev |unfoldable )?(?:pub )?([^\s:(){}]+) :", ANTT, re.M))
-DECLARED |= set(re.findall(r"^\s*(?:pub )?(?:record|data) ([^\s:(){}]+)", ANTT, re.M))
-DECLARED |= set(re.findall(r"(?:fn|struct|enum|mod) (\w+)", CODE))
-DECLARED |= set(re.findall(r"^    ([A-Z]\w*)(?:\(|,| \{)", CODE, re.M))
-# Words of the toolchain, and terms that are put together from declared names.
-OTHER = {"code", "requires", "ensures", "rt", "rt ci", "now (pool .entry)", "put"}
+# Words of the toolchain and of the pages themselves.
+OTHER = {"code", "requires", "ensures", "rt", "rt ci", "now (pool .entry)", "&mut", "&[u32]", "twin:"}
 
-passed, failed = 0, []
-
-
-def tell(good, what):
-    global passed
-    if good:
-        passed += 1
-    else:
-        failed.append(what)
+# The calls that a user makes, by their file; their contracts may rest on definitions of the reader's path alone.
+CALLS = {
+    "table/src/lib.rt": ["fresh", "lookup", "passes", "shape_fits"],
+    "words/src/lib.rt": ["round_region"],
+    "change/src/lib.rt": ["change", "put"],
+    "change/src/tidying.rt": ["tidy"],
+    "lookaside/src/lib.rt": ["check", "emptied", "flush_all", "flush_domain", "flush_region"],
+    "gates/src/lib.rt": ["set_gate", "remove_gate", "no_gates", "call_stack"],
+    "gates/src/steps.rt": ["fetch_step"],
+    "listing/src/lib.rt": ["list_runs"],
+    "lines/src/lib.rt": ["parse", "blank_line", "feed", "last_line"],
+}
 
 
-def is_path(text):
-    """A file or folder below a crate, as `table/specs/Map`."""
-    return "/" in text and text.split("/")[0] in CRATES
+def declared():
+    """Every name that the tree declares: definitions, laws, records, fields, constructors; in code functions, types, variants, constants."""
+    antt = "\n".join(open(f).read() for f in glob.glob("crates/*/specs/**/*.antt", recursive=True) + glob.glob("crates/*/proofs/**/*.antt", recursive=True))
+    code = "\n".join(CODE.values())
+    names = set(re.findall(r"^\s*(?:abbrev |unfoldable )?(?:pub )?([^\s:(){}]+) :", antt, re.M))
+    names |= set(re.findall(r"^\s*(?:pub )?(?:record|data) ([^\s:(){}]+)", antt, re.M))
+    names |= set(re.findall(r"(?:fn|struct|enum|mod|const) (\w+)", code))
+    names |= set(re.findall(r"^    ([A-Z]\w*)(?:\(|,| \{)", code, re.M))
+    return names
+
+
+DECLARED = declared()
 
 
 def path_there(text):
@@ -41,41 +48,116 @@ def word_known(text):
 
 
 def known(text):
-    if word_known(text):
+    """Whether a page may say `text` in code: a name of the tree, a wrong program (or the first letters of some), a file, or names put together."""
+    if word_known(text) or "NAME" in text:
         return True
     if text.endswith("*"):
         return any(name.startswith(text[:-1]) for name in EDITS)
     if "/" in text:
-        return path_there(text) if is_path(text) else os.path.exists(text)
+        return path_there(text) if text.split("/")[0] in CRATES else os.path.exists(text)
     parts = re.findall(r"[^\s().,]+", text)
     return len(parts) > 1 and any(word_known(part) for part in parts) and all(word_known(part) or len(part) == 1 for part in parts)
 
 
-for paper in ("docs/PROMISES.md", "docs/READING.md"):
-    text = open(paper).read()
-    for line in text.splitlines():
-        for name in re.findall(r"`([^`]+)`", line):
-            placeholder = "NAME" in name
-            tell(placeholder or known(name), f"{paper}: `{name}` is not in the tree")
-        for path in re.findall(r"[(\s]((?:" + "|".join(CRATES) + r")/(?:specs|proofs|src)(?:/\w+)?)", line):
-            tell(path_there(path), f"{paper}: there is no crates/{path}")
+def unknown_names(text):
+    faults = [f"`{name}` is not in the tree" for name in re.findall(r"`([^`]+)`", text) if not known(name)]
+    paths = re.findall(r"[(\s]((?:" + "|".join(CRATES) + r")/(?:specs|proofs|src)(?:/\w+)?)", text)
+    return faults + [f"there is no crates/{path}" for path in paths if not path_there(path)]
 
-promises = open("docs/PROMISES.md").read()
-named = set(re.findall(r"`([a-z0-9_]+\*?)`", promises))
-for edit in sorted(EDITS):
-    tell(any(edit == n or (n.endswith("*") and edit.startswith(n[:-1])) for n in named), f"the wrong program {edit} is named nowhere in docs/PROMISES.md")
 
-# The README's lines of C are those of an example that tests/outside.sh builds and runs; the program's output is that of a listing test.
-example = open("examples/first_steps.c").read()
-shown = [line.strip() for line in open("README.md") if line.startswith("    ") and ("gol_" in line or "GOL_" in line)]
-tell(shown, "README.md shows no line of C")
-for line in shown:
-    tell(line in example, f"README.md: `{line}` is not in examples/first_steps.c")
-listing = "".join("    " + line for line in open("tests/listing/paper.out"))
-tell(listing in open("README.md").read(), "README.md does not show the listing of examples/rights.txt")
-tell(open("examples/rights.txt").read() == open("tests/listing/paper.in").read(), "examples/rights.txt is not the paper's example")
+def promises(text):
+    """Each name and file is in the tree, and each wrong program is named."""
+    named = set(re.findall(r"`([a-z0-9_]+\*?)`", text))
+    silent = [edit for edit in sorted(EDITS) if not any(edit == n or (n.endswith("*") and edit.startswith(n[:-1])) for n in named)]
+    return unknown_names(text) + [f"the wrong program {edit} is named nowhere" for edit in silent]
 
-for line in failed:
-    print("papers:", line)
-print(f"papers: {passed} passed, {len(failed)} failed")
-raise SystemExit(1 if failed or not passed else 0)
+
+def imports(text, crate):
+    """The files of definitions that a text uses, by the names that it takes from them."""
+    taken = {}
+    for other, file, names in re.findall(r"use Rattle·([a-z_]+)(?:·specs\.specs|\.specs)\.(\w+)\.\{([^}]*)\}", text):
+        for name in names.split(","):
+            taken[name.split(" as ")[-1].strip()] = f"{other}/specs/{file}"
+    return taken
+
+
+def contract(text, name):
+    """What stands between a function's head and its body."""
+    found = re.search(rf"fn {name}\(.*?\n\{{\n", text, re.S)
+    return found.group(0) if found else None
+
+
+def reading(text):
+    """Names are in the tree; every file of definitions is on the path or marked inner, and nothing on the path, and no call, rests on an inner one."""
+    inner = set(re.findall(r"`([a-z_]+/specs/\w+)`", " ".join(re.findall(r"\*Inner\*:[^.]*\.", text))))
+    path = set(re.findall(r"`([a-z_]+/specs/\w+)`", text)) - inner
+    faults = unknown_names(text)
+    faults += [f"{file} is neither on the path nor marked inner" for file in sorted(set(SPECS) - path - inner)]
+    for file in sorted(path & set(SPECS)):
+        used = set(imports(SPECS[file], file.split("/")[0]).values())
+        faults += [f"{file} is on the path and rests on {other}" for other in sorted(used & inner)]
+    for file, names in CALLS.items():
+        source = CODE[f"crates/{file}"]
+        taken = imports(source, file.split("/")[0])
+        for name in names:
+            said = contract(source, name)
+            if said is None:
+                faults.append(f"there is no function {name} in {file}")
+                continue
+            rests = {taken[word] for word in re.findall(r"[^\s(){}⌜⌝.,]+", said) if word in taken}
+            faults += [f"the contract of {name} rests on {other}, which is inner" for other in sorted(rests & inner)]
+    in_proofs = [f for f in list(SPECS) if re.search(r"use Rattle·\w+(?:·proofs)?\.proofs\.", SPECS[f])]
+    in_proofs += [f for f, source in CODE.items() if re.search(r"ghost use Rattle·\w+(?:·proofs)?\.proofs\.", source)]
+    return faults + [f"{file} takes a definition from a proofs folder" for file in in_proofs]
+
+
+def readme(text):
+    """Its lines of C are those of an example that tests/outside.sh builds and runs; its listing is that of a listing test."""
+    example = open("examples/first_steps.c").read()
+    shown = [line.strip() for line in text.splitlines() if line.startswith("    ") and ("gol_" in line or "GOL_" in line)]
+    faults = [] if shown else ["no line of C is shown"]
+    faults += [f"`{line}` is not in examples/first_steps.c" for line in shown if line not in example]
+    listing = "".join("    " + line for line in open("tests/listing/paper.out"))
+    if listing not in text:
+        faults.append("the listing of examples/rights.txt is not shown")
+    if open("examples/rights.txt").read() != open("tests/listing/paper.in").read():
+        faults.append("examples/rights.txt is not the paper's example")
+    return faults
+
+
+def decisions(text):
+    """Files of tests, scripts and docs that it names are there."""
+    names = re.findall(r"`((?:tests|scripts|docs|rust|examples|include)/[\w./]+)`", text)
+    return [f"there is no {name}" for name in names if not os.path.exists(name)]
+
+
+def without(text, line):
+    return "\n".join(row for row in text.splitlines() if line not in row)
+
+
+PAGES = {"docs/PROMISES.md": promises, "docs/READING.md": reading, "README.md": readme, "docs/DECISIONS.md": decisions}
+# A page that is wrong in one way must be found out.
+WRONG = [
+    ("docs/PROMISES.md", "names what is not there", lambda text: text + "\n`nobody-proved-this`\n"),
+    ("docs/PROMISES.md", "leaves a wrong program out", lambda text: text.replace("`link_before_fill`", "")),
+    ("docs/READING.md", "leaves a file of definitions out", lambda text: text.replace("`theory/specs/Walk`", "")),
+    ("docs/READING.md", "marks inner what a promise rests on", lambda text: text.replace("*Inner*: ", "*Inner*: `change/specs/Cuts`, ", 1)),
+    ("README.md", "shows a line of C that no example has", lambda text: text.replace("GOL_WRITE", "GOL_READ")),
+    ("docs/DECISIONS.md", "names a file that is not there", lambda text: text + "\n`tests/nothing.sh`\n"),
+]
+
+passed, failed = 0, 0
+for page, check in PAGES.items():
+    faults = check(open(page).read())
+    for fault in faults:
+        print(f"papers: {page}: {fault}")
+    passed, failed = (passed, failed + 1) if faults else (passed + 1, failed)
+for page, what, make in WRONG:
+    real = open(page).read()
+    if make(real) != real and set(PAGES[page](make(real))) - set(PAGES[page](real)):
+        passed += 1
+    else:
+        failed += 1
+        print(f"papers: a {page} that {what} is not found out")
+print(f"papers: {passed} passed, {failed} failed")
+raise SystemExit(1 if failed else 0)

@@ -1,5 +1,7 @@
 #!/usr/bin/env bash
-# The compiler keeps memory byte addresses and pool word numbers apart: code that uses one for the other is refused for its types.
+# The compiler keeps memory byte addresses and pool word numbers apart: code that uses one for the other is refused
+# for its types.
+# That the sources use these types wherever they should is looked for in their text (units.py).
 set -u
 
 root=$(cd "$(dirname "$0")/.." && pwd)
@@ -54,6 +56,14 @@ accepted() {
 accepted each_for_itself 'words::pool_index(words::pool_word(words::addr_number(words::byte_addr(7))))'
 refused address_for_word 'words::pool_index(words::byte_addr(7))' PoolWord ByteAddr
 refused word_for_address 'words::addr_number(words::pool_word(7)) as usize' ByteAddr PoolWord
+
+# The text of the sources, and of wrong copies of them.
+if counts=$(python3 "$root/tests/units.py"); then
+    passed=$((passed + ${counts% *}))
+    failed=$((failed + ${counts#* }))
+else
+    failed=$((failed + 1))
+fi
 
 echo "units: $passed passed, $failed failed"
 [ "$failed" -eq 0 ]

@@ -19,6 +19,7 @@ fn main() {
     }
     if linked {
         println!("cargo:rustc-cfg=linked");
+        println!("cargo:linked=1");
         println!("cargo:rustc-link-search=native={}", folder.display());
         println!("cargo:rustc-link-lib=static=goleuthan");
     }

@@ -11,7 +11,7 @@ use lib.ListN.{length, List·getD-eq-default}
 use Rattle.theory.specs.Pool.{words}
 use Rattle.table.specs.declared.Shape.{Shape}
 use Rattle.targets.specs.declared.Paint.{Paint}
-use Rattle.plan.specs.Goals.{Goal}
+use Rattle.plan.specs.Aims.{Goal}
 use Rattle.change.specs.Cuts.{differing}
 use Rattle.change.specs.Answers.{IsDone, IsCut}
 use Rattle.change.proofs.OutcomeLaws.{one-goal}

@@ -1,4 +1,4 @@
--- The rows about what comes after or instead of row 2: a cut before its last store (4), and the same region to none (5).
+-- The rows about what comes after or instead of row 2: a cut before its last store (4), the same region to none (5).
 use Prim.Native.Nat.{ℕ, suc, _+_, _*_, _/_, _%_, _≤_, _<_}
 use mathlib.Core.Path.{_≡_, refl, sym, ap, _∙_}
 use mathlib.Core.Logic.{_⊎_, inl, inr, ⊎-elim}
@@ -10,7 +10,7 @@ use lib.ListN.{length, set, length-set}
 use lib.Seq.{getD-set-same, getD-set-other}
 use Rattle.theory.specs.Pool.{words, rightOf}
 use Rattle.theory.specs.Finished.{Finished}
-use Rattle.theory.proofs.RightLaws.{by-cases}
+use Rattle.theory.proofs.Logic.{by-cases}
 use Rattle.words.specs.Rights.{rightAt}
 use Rattle.words.specs.Region.{regionOf, covered}
 use Rattle.words.proofs.RightsLaws.{eight-right}
@@ -29,32 +29,40 @@ use Rattle.change.specs.Answers.{IsCut as WasCut}
 use Rattle.change.proofs.ChangesLaws.{one-change}
 use Rattle.change.proofs.DifferLaws.{differing-set, differing-self}
 use Rattle.benchmarks.specs.Rows.{shape, NoneOrTwo, CutBeforeTheLast, GivesUpBoth}
-use Rattle.benchmarks.proofs.RowLaws.{always-change, finds, fresh-fits, in-range, covered-range, aims-fresh, change-done, listed}
+use Rattle.benchmarks.proofs.RowLaws.{always-change, finds, fresh-fits, in-range, covered-range, aims-fresh}
+use Rattle.benchmarks.proofs.RowLaws.{change-done, listed}
 use Rattle.benchmarks.proofs.FlatLaws.{flat-finished, flat-right}
 use Rattle.benchmarks.proofs.PageLaws.{after, after-root}
 use Rattle.benchmarks.proofs.PagePools.{page-asked, page-cut, page-word, page-long, page-done-finished}
 use Rattle.benchmarks.proofs.PageRows.{in-leaf, leaf-page, leaf-pool, leaf-stores, leaf-set}
 
-abbrev fresh : List ℕ
+abbrev pub fresh : List ℕ
 fresh = freshPool (shape 1 1)
 
-fresh-fit : Fits (shape 1 1) (length fresh)
+pub fresh-fit : Fits (shape 1 1) (length fresh)
 fresh-fit = fresh-fits (shape 1 1) (in-range 1 1 (omega arith) (omega arith))
 
 -- Row 4: what a cut leaves.
 module _ {n : ℕ} {x : List ℕ} (c : CutAt (shape 1 1) 0 (paintOf in-leaf 2) fresh n x) where
   cut-right : (a : ℕ) → a < addresses
-      → (rightOf (formOf (shape 1 1)) (words x) 0 a ≡ 0) ⊎ ((rightOf (formOf (shape 1 1)) (words x) 0 a ≡ 2) × (0x1000 ≤ a) × (a ≤ 0x103F))
+      → (rightOf (formOf (shape 1 1)) (words x) 0 a ≡ 0)
+      ⊎ ((rightOf (formOf (shape 1 1)) (words x) 0 a ≡ 2) × (0x1000 ≤ a) × (a ≤ 0x103F))
   cut-right a ba = ⊎-elim
       (λ z. let k = covered-range in-leaf a (z .1) in
-      ⊎-elim (λ e. inl (e ∙ fresh-right (shape 1 1) 0 a (omega arith))) (λ e. inr (e, omega arith, omega arith)) (c .covered 0 a (omega arith) ba z))
+      ⊎-elim (λ e. inl (e ∙ fresh-right (shape 1 1) 0 a (omega arith))) (λ e. inr (e, omega arith, omega arith))
+      (c .covered 0 a (omega arith) ba z))
       (λ z. inl (c .others 0 a (omega arith) ba z ∙ fresh-right (shape 1 1) 0 a (omega arith)))
       (covered-or 0 (paintOf in-leaf 2) 0 a)
 
   cut-looks : NoneOrTwo x (shape 1 1) 0x1000 0x103F
   cut-looks a ba =
-      let (w, k, e) = sound-lookup x (shape 1 1) 0 a (c .sound) (rw (c .long) fresh-fit) (omega arith) in
-      (rightOf (formOf (shape 1 1)) (words x) 0 a, w, k, finds x (shape 1 1) a (Right (rightOf (formOf (shape 1 1)) (words x) 0 a) w k) e, cut-right a ba)
+      let (w, k, e) = sound-lookup x (shape 1 1) 0 a (c .sound) (rw (c .long) fresh-fit) (omega arith) in (
+        rightOf (formOf (shape 1 1)) (words x) 0 a,
+        w,
+        k,
+        finds x (shape 1 1) a (Right (rightOf (formOf (shape 1 1)) (words x) 0 a) w k) e,
+        cut-right a ba,
+      )
 
 leaf-cut : (x : List ℕ) × WasCut (shape 1 1) 0 (paintOf in-leaf 2) fresh 1025 x
 unfolding regionOf
@@ -65,27 +73,29 @@ unfolding regionOf
 row-4 =
     let (x, c) = leaf-cut in
     always-change
-    (in-order in-leaf (page-asked in-leaf 2 leaf-page (omega arith) 0x1000 64 (omega arith) refl) (cut (fresh-settled (shape 1 1)) x c))
+    (in-order in-leaf (page-asked in-leaf 2 leaf-page (omega arith) 0x1000 64 (omega arith) refl)
+    (cut (fresh-settled (shape 1 1)) x c))
     (refl, cut-looks (c .cut), c .cut .sound)
 
 -- Row 5: both tables are given up by one root word.
-leaf-long : length leaf-pool ≡ 2112
+pub leaf-long : length leaf-pool ≡ 2112
 leaf-long = page-long in-leaf 2 leaf-page (omega arith) ∙ fresh-fit .long
 
-abbrev given-up : List ℕ
+abbrev pub given-up : List ℕ
 given-up = set leaf-pool 0 0x80000000
 
-root-first : words leaf-pool 0 ≡ 1024
+pub root-first : words leaf-pool 0 ≡ 1024
 unfolding listed after
 root-first = refl
 
-root-word : (j : ℕ) → j < 1024 → words given-up j ≡ 0x80000000
+pub root-word : (j : ℕ) → j < 1024 → words given-up j ≡ 0x80000000
 root-word j h = elim (ℕ-discrete j 0) [
   | yes e ↦ rw e (getD-set-same leaf-pool 0 0x80000000 0 (rw leaf-long (omega arith)))
-  | no e ↦ getD-set-other leaf-pool 0 j 0x80000000 0 e ∙ page-word in-leaf 2 leaf-page (omega arith) j ∙ after-root 0 0x1000 0xAAAAAAAA j h e
+  | no e ↦ getD-set-other leaf-pool 0 j 0x80000000 0 e ∙ page-word in-leaf 2 leaf-page (omega arith) j
+      ∙ after-root 0 0x1000 0xAAAAAAAA j h e
 ]
 
-given-right : (d a : ℕ) → d < 1 → rightOf (formOf (shape 1 1)) (words given-up) d a ≡ 0
+pub given-right : (d a : ℕ) → d < 1 → rightOf (formOf (shape 1 1)) (words given-up) d a ≡ 0
 given-right d a bd =
     flat-right 1 1 1 (words given-up) (λ j h. rw (root-word j h) refl) d a bd
     ∙ ap (λ w. rightAt w (a / 524288 % 8)) (root-word (1024 * d + a / 4194304 % 1024) (omega arith))
@@ -102,8 +112,10 @@ none-aimed d a bd ba = ⊎-elim
     ∙ aims-fresh (shape 1 1) (paintOf in-leaf 2) d a bd bd ∙ ap (λ t. cond t 2 0) n)
     (covered-or 0 (paintOf in-leaf 0) d a)
 
-given-finished : Finished (formOf (shape 1 1)) (words leaf-pool) (aims (shape 1 1) 0 (paintOf in-leaf 0) (words leaf-pool)) (words given-up)
-given-finished = flat-finished 1 1 1 (words given-up) (λ j h. rw (root-word j h) refl) (words leaf-pool) (aims (shape 1 1) 0 (paintOf in-leaf 0) (words leaf-pool))
+pub given-finished : Finished (formOf (shape 1 1)) (words leaf-pool)
+    (aims (shape 1 1) 0 (paintOf in-leaf 0) (words leaf-pool)) (words given-up)
+given-finished = flat-finished 1 1 1 (words given-up) (λ j h. rw (root-word j h) refl) (words leaf-pool)
+    (aims (shape 1 1) 0 (paintOf in-leaf 0) (words leaf-pool))
     (λ d a bd ba. given-right d a bd ∙ sym (none-aimed d a bd ba))
     (λ j h. getD-set-other leaf-pool 0 j 0x80000000 0 (λ e. omega arith))
 
@@ -111,9 +123,16 @@ gives-up : (m : ℕ) → 1 ≤ m → Changes leaf-pool (shape 1 1) 0 0x1000 64 0
 unfolding regionOf
 gives-up m h =
     change-done leaf-pool (shape 1 1) 0 0x1000 64 0 m in-leaf
-    (record { fits = rw (page-long in-leaf 2 leaf-page (omega arith)) fresh-fit; domain = omega arith; right = omega arith; region = refl })
-    (page-done-finished in-leaf 2 leaf-page (omega arith) .settled) given-up 1 given-finished (length-set leaf-pool 0 0x80000000)
-    (differing-set leaf-pool leaf-pool 0 0x80000000 refl (rw leaf-long (omega arith)) refl (λ z. let y = root-first in omega arith)
+    (record {
+      fits = rw (page-long in-leaf 2 leaf-page (omega arith)) fresh-fit;
+      domain = omega arith;
+      right = omega arith;
+      region = refl;
+    })
+    (page-done-finished in-leaf 2 leaf-page (omega arith) .settled) given-up 1 given-finished
+    (length-set leaf-pool 0 0x80000000)
+    (differing-set leaf-pool leaf-pool 0 0x80000000 refl (rw leaf-long (omega arith)) refl
+    (λ z. let y = root-first in omega arith)
     ∙ ap suc (differing-self leaf-pool)) h
 
 pub row-5 : GivesUpBoth

@@ -10,6 +10,7 @@ use borrow.Author.Tests.{eq-eqb, ne-eqb, lt-ltb, le-ltb}
 use Rattle.theory.specs.Pool.{Reach, start, Visits, here, next, Roots, entry, rightOf, Led}
 use Rattle.theory.specs.Settled.{Settled}
 use Rattle.theory.specs.Finished.{Finished}
+use Rattle.theory.specs.Stores.{Kept, top, down}
 use Rattle.theory.proofs.RightLaws.{right-says}
 use Rattle.theory.proofs.BlockLaws.{met-by}
 use Rattle.theory.proofs.SettledLaws.{unsaid-settled}
@@ -20,15 +21,26 @@ use Rattle.table.proofs.FormLaws.{eight-good, lawful, exact}
 use Rattle.table.proofs.WantLaws.{wanting}
 
 module _ (D M L : ℕ) (Q : ℕ → ℕ) (flat : (j : ℕ) → j < 1024 * D → goodRights (Q j) ≡ true) where
-  stays : (d a : ℕ) {m j : ℕ} → d < D → Visits (form D M L) Q a 2 (entry (form D M L) d a) m j → (m ≡ 2) × (goodRights (Q j) ≡ true)
+  stays : (d a : ℕ) {m j : ℕ} → d < D → Visits (form D M L) Q a 2 (entry (form D M L) d a) m j
+      → (m ≡ 2) × (goodRights (Q j) ≡ true)
   stays d a bd here = (refl, flat _ (omega arith))
-  stays d a bd (next {m} {j} v l) = let (_, g) = stays d a bd v in absurd (true≢false (sym l ∙ eight-good D M L 1 (Q j) (omega arith) g .1))
+  stays d a bd (next {m} {j} v l) =
+      let (_, g) = stays d a bd v in
+      absurd (true≢false (sym l ∙ eight-good D M L 1 (Q j) (omega arith) g .1))
 
-  unled : (d a h t : ℕ) → d < D → Led (form D M L) Q d a h t → ⊥
-  unled d a h t bd (k, v, l, e) = true≢false (sym l ∙ eight-good D M L 1 (Q k) (omega arith) (stays d a bd v .1) .1)
+  pub flat-led : (d a h t : ℕ) → d < D → Led (form D M L) Q d a h t → ⊥
+  flat-led d a h t bd (k, v, l, e) = true≢false (sym l ∙ eight-good D M L 1 (Q k) (omega arith) (stays d a bd v .1) .1)
+
+  -- Of a pool whose roots do not lead, only the roots are kept.
+  pub flat-kept : (X : ℕ → ℕ) {m j : ℕ} → Kept (form D M L) Q X m j → (m ≡ 2) × (j < 1024 * D)
+  flat-kept X (top (d, i, e, q, bd, bi)) = (e, omega arith)
+  flat-kept X (down {m} {j} i k e l b) =
+      let (_, h) = flat-kept X k in
+      absurd (true≢false (sym l ∙ eight-good D M L 1 (Q j) (omega arith) (flat j h) .1))
 
   -- The right is in the root word.
-  pub flat-right : (d a : ℕ) → d < D → rightOf (form D M L) Q d a ≡ rightAt (Q (1024 * d + a / 4194304 % 1024)) (a / 524288 % 8)
+  pub flat-right : (d a : ℕ) → d < D
+      → rightOf (form D M L) Q d a ≡ rightAt (Q (1024 * d + a / 4194304 % 1024)) (a / 524288 % 8)
   flat-right d a bd = right-says (form D M L) Q 2 (entry (form D M L) d a) a
       (eight-good D M L 1 (Q (entry (form D M L) d a)) (omega arith) (flat (entry (form D M L) d a) (omega arith)) .1)
 
@@ -41,10 +53,11 @@ module _ (D M L : ℕ) (Q : ℕ → ℕ) (flat : (j : ℕ) → j < 1024 * D → 
         good = λ {m} {j} r. let (e, g) = met r in rw e (eight-good D M L 1 (Q j) (omega arith) g .0);
         once = λ {m} {j} r l q n e. absurd (true≢false (sym l ∙ eight-good D M L 1 (Q j) (omega arith) (met r .1) .1));
       })
-      (λ d a h k w bd ba v l x. unled d a h _ bd (k, v, l, refl))
+      (λ d a h k w bd ba v l x. flat-led d a h _ bd (k, v, l, refl))
 
   -- Whatever the old pool has, the finished one has no table, and all but the roots is as it was.
-  module _ (P : ℕ → ℕ) (R : ℕ → ℕ → ℕ) (rights : (d a : ℕ) → d < D → a < addresses → rightOf (form D M L) Q d a ≡ R d a)
+  module _ (P : ℕ → ℕ) (R : ℕ → ℕ → ℕ)
+      (rights : (d a : ℕ) → d < D → a < addresses → rightOf (form D M L) Q d a ≡ R d a)
       (rest : (j : ℕ) → 1024 * D ≤ j → Q j ≡ P j) where
     root : (j : ℕ) → j < 1024 * D → Roots (form D M L) 2 j
     root j h = (j / 1024, j % 1024, refl, omega arith, omega arith, omega arith)
@@ -53,9 +66,9 @@ module _ (D M L : ℕ) (Q : ℕ → ℕ) (flat : (j : ℕ) → j < 1024 * D → 
     flat-finished = record {
       settled = flat-settled;
       rights = rights;
-      keeps = λ {d = d} {a = a} {h = h} {t = t} bd ba x y. absurd (unled d a h t bd y);
-      order = λ {d = d} {a = a} {h = h} {s = u} (bd, ba, x, un) n o. absurd (unled d a h u bd x);
-      lowest = λ {d = d} {a = a} {h = h} {t = t} x (bd, ba, y, un) p lt free. absurd (unled d a h t bd y);
+      keeps = λ {d = d} {a = a} {h = h} {t = t} bd ba x y. absurd (flat-led d a h t bd y);
+      order = λ {d = d} {a = a} {h = h} {s = u} (bd, ba, x, un) n o. absurd (flat-led d a h u bd x);
+      lowest = λ {d = d} {a = a} {h = h} {t = t} x (bd, ba, y, un) p lt free. absurd (flat-led d a h t bd y);
       idle = λ j n. elim (decLt j (1024 * D)) [
         | yes h ↦ absurd (n 2 (start (root j h)))
         | no h ↦ rest j (omega arith)
@@ -72,11 +85,14 @@ first-right i h = pack-digit 32768 8 i (λ j. cond (eqb j 0) 1 0) (λ j b. small
     small false = omega arith
 
 -- A root that says read of the first 512 KB, and none of all else.
-pub first-part : (Q : ℕ → ℕ) → Q 0 ≡ 0x80000001 → ((j : ℕ) → j ≢ 0 → j < 1024 → Q j ≡ 0x80000000) → (a : ℕ) → a < addresses
+pub first-part : (Q : ℕ → ℕ) → Q 0 ≡ 0x80000001 → ((j : ℕ) → j ≢ 0 → j < 1024 → Q j ≡ 0x80000000) → (a : ℕ)
+    → a < addresses
     → rightAt (Q (a / 4194304 % 1024)) (a / 524288 % 8) ≡ cond (ltb a 524288) 1 0
 first-part Q first others a ba = elim (ℕ-discrete (a / 4194304 % 1024) 0) [
-  | yes e ↦ ap (λ w. rightAt w (a / 524288 % 8)) (ap Q e ∙ first) ∙ first-right (a / 524288 % 8) (omega arith) ∙ ap (λ t. cond t 1 0) (low e)
-  | no n ↦ ap (λ w. rightAt w (a / 524288 % 8)) (others (a / 4194304 % 1024) n (omega arith)) ∙ eight-right 0 (a / 524288 % 8) (omega arith) (omega arith)
+  | yes e ↦ ap (λ w. rightAt w (a / 524288 % 8)) (ap Q e ∙ first) ∙ first-right (a / 524288 % 8) (omega arith)
+      ∙ ap (λ t. cond t 1 0) (low e)
+  | no n ↦ ap (λ w. rightAt w (a / 524288 % 8)) (others (a / 4194304 % 1024) n (omega arith))
+      ∙ eight-right 0 (a / 524288 % 8) (omega arith) (omega arith)
       ∙ ap (λ t. cond t 1 0) (sym (le-ltb a 524288 (omega arith)))
 ]
   where

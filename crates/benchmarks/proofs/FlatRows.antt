@@ -34,7 +34,7 @@ use Rattle.places.specs.Count.{wantMiddle, Room}
 use Rattle.places.proofs.CountLaws.{count-less}
 use Rattle.places.proofs.ChangedLaws.{changed-rights}
 use Rattle.targets.specs.declared.Paint.{Paint}
-use Rattle.targets.specs.Targets.{region}
+use Rattle.targets.specs.Paints.{region}
 use Rattle.plan.specs.Aims.{aims}
 use Rattle.change.specs.Cuts.{differing}
 use Rattle.change.specs.Answers.{paintOf, Asked, in-order, no-room}

@@ -6,6 +6,7 @@ pub mod PagePools
 pub mod PageRows
 pub mod CutRows
 pub mod LastRow
+pub mod FirstTables
 pub mod OneTable
 pub mod RootTidy
 pub mod TidyRow
@@ -13,5 +14,8 @@ pub mod Rows
 pub mod AllowanceLaws
 pub mod CutPools
 pub mod CutWitness
+pub mod StaleWitness
+pub mod DueWitness
+pub mod TidyWitness
 pub mod TwoDomains
 pub mod Witnesses

@@ -1,8 +1,9 @@
--- The finished pool of a change that makes one middle table in a fresh pool, and one leaf if it must. The region lies in one entry: of a leaf
--- (`low` is 0) or of the middle table (`low` is 1). `a0` is an address of it, and `w` the word of that entry.
+-- The finished pool of a change that makes one middle table in a fresh pool, and one leaf if it must. The region lies
+-- in one entry: of a leaf (`low` is 0) or of the middle table (`low` is 1). `a0` is an address of it, and `w` the word
+-- of that entry.
 use Prim.Native.Nat.{ℕ, zero, suc, _+_, _*_, _-_, _/_, _%_, _≤_, _<_}
 use mathlib.Core.Path.{_≡_, refl, sym, ap, _∙_}
-use mathlib.Core.Logic.{_≢_}
+use mathlib.Core.Logic.{_≢_, _⊎_, inl, ⊎-elim}
 use mathlib.Core.Bool.{Bool, true, false, cond, _&&_, true≢false}
 use native.Mathlib.Omega.{arith}
 use native.Mathlib.Decide.{ℕ-discrete, decLt}
@@ -12,19 +13,20 @@ use Rattle.theory.specs.Form.{Form}
 use Rattle.theory.specs.Pool.{words}
 use Rattle.theory.specs.Settled.{Says}
 use Rattle.theory.specs.Finished.{Place, Finished}
-use Rattle.theory.proofs.RightLaws.{by-cases}
+use Rattle.theory.proofs.Logic.{by-cases, and-both}
 use Rattle.theory.proofs.Encodes.{TellsWants, Gets, spot, Placing, Encodes, Follows}
 use Rattle.theory.proofs.EncodesLaws.{encodes-finished}
-use Rattle.words.specs.Rights.{rightAt}
+use Rattle.words.specs.Rights.{rightAt, goodRights}
 use Rattle.words.proofs.RightsLaws.{eight-right, sixteen-right}
 use Rattle.table.specs.Map.{addresses, block, part, parts, index, leads, Divided, form}
 use Rattle.table.specs.Fresh.{freshPool}
-use Rattle.table.proofs.ShapeLaws.{and-both}
-use Rattle.table.proofs.BlockLaws.{block-above, block-together, together-block, part-in-block, part-above, number-below}
+use Rattle.table.proofs.BlockLaws.{block-above, block-together, together-block, part-in-block, part-above}
+use Rattle.table.proofs.BlockLaws.{number-below}
 use Rattle.table.proofs.FormLaws.{leads-place, place-leads, lawful, exact}
 use Rattle.table.proofs.WantLaws.{divided-unsaid, wanting}
-use Rattle.table.proofs.FreshWordLaws.{fresh-word, fresh-led}
+use Rattle.table.proofs.FreshWordLaws.{fresh-word}
 use Rattle.benchmarks.specs.Rows.{shape}
+use Rattle.benchmarks.proofs.FlatLaws.{flat-led}
 
 -- What the region and the rights are to one another.
 pub record OnePage (L low : ℕ) (R : ℕ → ℕ) (a0 c0 w : ℕ) : Type 0 where
@@ -55,7 +57,10 @@ module _ (low a0 w : ℕ) where
   pub at-middle : after low a0 w (1024 + index 1 a0) ≡ cond (eqb low 0) 2048 w
   unfolding after
   at-middle =
-      rw (ne-eqb (1024 + index 1 a0) (index 2 a0) (λ e. omega arith), eq-eqb (1024 + index 1 a0) (1024 + index 1 a0) refl)
+      rw (
+        ne-eqb (1024 + index 1 a0) (index 2 a0) (λ e. omega arith),
+        eq-eqb (1024 + index 1 a0) (1024 + index 1 a0) refl,
+      )
 
   at-leaf : after low a0 w (2048 + index 0 a0) ≡ cond (eqb low 0) w 0
   unfolding after
@@ -66,24 +71,29 @@ module _ (low a0 w : ℕ) where
         eq-eqb (2048 + index 0 a0) (2048 + index 0 a0) refl,
       )
 
-  elsewhere : (j : ℕ) → j ≢ index 2 a0 → j ≢ 1024 + index 1 a0 → j ≢ 2048 + index 0 a0 → after low a0 w j ≡ cond (ltb j 2048) 0x80000000 0
+  elsewhere : (j : ℕ) → j ≢ index 2 a0 → j ≢ 1024 + index 1 a0 → j ≢ 2048 + index 0 a0
+      → after low a0 w j ≡ cond (ltb j 2048) 0x80000000 0
   unfolding after
   elsewhere j x y z = rw (ne-eqb j (index 2 a0) x, ne-eqb j (1024 + index 1 a0) y, ne-eqb j (2048 + index 0 a0) z)
 
 -- The other root words say none.
 pub after-root : (low a0 w j : ℕ) → j < 1024 → j ≢ index 2 a0 → after low a0 w j ≡ 0x80000000
 after-root low a0 w j h e =
-    elsewhere low a0 w j e (λ t. omega arith) (λ t. omega arith) ∙ ap (λ t. cond t 0x80000000 0) (lt-ltb j 2048 (omega arith))
+    elsewhere low a0 w j e (λ t. omega arith) (λ t. omega arith)
+    ∙ ap (λ t. cond t 0x80000000 0) (lt-ltb j 2048 (omega arith))
 
 -- The other words of the middle table do too.
 pub after-middle : (low a0 w j : ℕ) → 1024 ≤ j → j < 2048 → j ≢ 1024 + index 1 a0 → after low a0 w j ≡ 0x80000000
-after-middle low a0 w j lo hi e = elsewhere low a0 w j (λ t. omega arith) e (λ t. omega arith) ∙ ap (λ t. cond t 0x80000000 0) (lt-ltb j 2048 hi)
+after-middle low a0 w j lo hi e = elsewhere low a0 w j (λ t. omega arith) e (λ t. omega arith)
+    ∙ ap (λ t. cond t 0x80000000 0) (lt-ltb j 2048 hi)
 
 -- Past the pool there is nothing.
-pub after-past : {L low : ℕ} {R : ℕ → ℕ} {a0 c0 w : ℕ} → OnePage L low R a0 c0 w → (j : ℕ) → 2048 + 64 * L ≤ j → after low a0 w j ≡ 0
+pub after-past : {L low : ℕ} {R : ℕ → ℕ} {a0 c0 w : ℕ} → OnePage L low R a0 c0 w → (j : ℕ) → 2048 + 64 * L ≤ j
+    → after low a0 w j ≡ 0
 after-past {L} {low} {R} {a0} {c0} {w} o j h = elim (ℕ-discrete j (2048 + index 0 a0)) [
   | yes e ↦ rw e (at-leaf low a0 w ∙ ap (λ t. cond t w 0) (ne-eqb low 0 (λ z. let k = o .room z in omega arith)))
-  | no e ↦ elsewhere low a0 w j (λ t. omega arith) (λ t. omega arith) e ∙ ap (λ t. cond t 0x80000000 0) (le-ltb j 2048 (omega arith))
+  | no e ↦ elsewhere low a0 w j (λ t. omega arith) (λ t. omega arith) e
+      ∙ ap (λ t. cond t 0x80000000 0) (le-ltb j 2048 (omega arith))
 ]
 
 -- An address is known by its block one height up and its index.
@@ -107,20 +117,24 @@ module _ {L low : ℕ} {R : ℕ → ℕ} {a0 c0 w : ℕ} (o : OnePage L low R a0
   -- One that is not has no right.
   block-quiet : (h a b : ℕ) → low ≤ h → h ≤ 2 → b < addresses → near h a ≡ false → a / block h ≡ b / block h → R b ≡ 0
   block-quiet h a b lo hi bb e x =
-      o .quiet b bb (λ z. true≢false (sym (eq-eqb (a / block h) (a0 / block h) (x ∙ block-above h low b a0 lo hi z)) ∙ e))
+      o .quiet b bb
+      (λ z. true≢false (sym (eq-eqb (a / block h) (a0 / block h) (x ∙ block-above h low b a0 lo hi z)) ∙ e))
 
   -- Which blocks want a table: those above the entry.
   abbrev want : ℕ → ℕ → ℕ → Bool
   want h d a = ltb low h && near h a
 
   want-yes : (h d a : ℕ) → want h d a ≡ true → (low < h) × (a / block h ≡ a0 / block h)
-  want-yes h d a e = let (x, y) = and-both (ltb low h) (near h a) e in (ltb-true low h x, eqb-true (a / block h) (a0 / block h) y)
+  want-yes h d a e =
+      let (x, y) = and-both (ltb low h) (near h a) e in
+      (ltb-true low h x, eqb-true (a / block h) (a0 / block h) y)
 
   yes-want : (h d a : ℕ) → low < h → a / block h ≡ a0 / block h → want h d a ≡ true
   yes-want h d a x y = rw (lt-ltb low h x, eq-eqb (a / block h) (a0 / block h) y) refl
 
   said-whole : (h a : ℕ) → h ≡ low → a / block h ≡ a0 / block h → Divided (block h) (part h) R a → ⊥
-  said-whole h a q n (b, c, bb, bc, e, f, z) = divided-unsaid 1 1 L h a0 w R (b, c, bb, bc, e ∙ n, f, z) (rw (← q) at (o .said))
+  said-whole h a q n (b, c, bb, bc, e, f, z) =
+      divided-unsaid 1 1 L h a0 w R (b, c, bb, bc, e ∙ n, f, z) (rw (← q) at (o .said))
 
   divided-want : (h d a : ℕ) → h < 2 → Divided (block (suc h)) (part (suc h)) R a → want (suc h) d a ≡ true
   divided-want h d a hi (b, c, bb, bc, e, f, z) =
@@ -168,7 +182,8 @@ module _ {L low : ℕ} {R : ℕ → ℕ} {a0 c0 w : ℕ} (o : OnePage L low R a0
     apart = λ h d a e b bd ba be bb hi g k x. (
       omega arith,
       block-together 1 1 L (suc h) a b
-          (want-yes (suc h) d a (g (suc h) (omega arith) hi) .1 ∙ sym (want-yes (suc h) e b (k (suc h) (omega arith) hi) .1)),
+          (want-yes (suc h) d a (g (suc h) (omega arith) hi) .1
+          ∙ sym (want-yes (suc h) e b (k (suc h) (omega arith) hi) .1)),
     );
   }
 
@@ -181,7 +196,8 @@ module _ {L low : ℕ} {R : ℕ → ℕ} {a0 c0 w : ℕ} (o : OnePage L low R a0
   at-leads h v k t e g l p = (ap (F .good (suc h)) e ∙ g, ap (leads (suc h)) e ∙ l, e ∙ p)
 
   pointers : (h d a : ℕ) → d < 1 → a < addresses → h < 2 → Gets F want h d a
-      → (F .good (suc h) (Q (spot F want place (suc h) d a)) ≡ true) × (leads (suc h) (Q (spot F want place (suc h) d a)) ≡ true)
+      → (F .good (suc h) (Q (spot F want place (suc h) d a)) ≡ true)
+      × (leads (suc h) (Q (spot F want place (suc h) d a)) ≡ true)
       × (Q (spot F want place (suc h) d a) ≡ place h d a)
   pointers zero d a bd ba hi g =
       let (lo, e) = want-yes 1 d a (g 1 (omega arith) (omega arith)) in
@@ -192,7 +208,8 @@ module _ {L low : ℕ} {R : ℕ → ℕ} {a0 c0 w : ℕ} (o : OnePage L low R a0
   pointers (suc zero) d a bd ba hi g =
       let (lo, e) = want-yes 2 d a (g 2 (omega arith) (omega arith)) in
       let z : 1024 * d + a / 4194304 % 1024 ≡ a / 4194304 % 1024 = omega arith in
-      at-leads 1 1024 (spot F want place 2 d a) 1024 (ap Q z ∙ ap (λ n. Q (n % 1024)) e ∙ at-root low a0 w) refl refl refl
+      at-leads 1 1024 (spot F want place 2 d a) 1024
+      (ap Q z ∙ ap (λ n. Q (n % 1024)) e ∙ at-root low a0 w) refl refl refl
   pointers (suc (suc h)) d a bd ba hi g = absurd (omega arith)
 
   says-none : (h a v : ℕ) → low ≤ h → h ≤ 2 → a < addresses → F .good h v ≡ true → leads h v ≡ false
@@ -200,7 +217,8 @@ module _ {L low : ℕ} {R : ℕ → ℕ} {a0 c0 w : ℕ} (o : OnePage L low R a0
   says-none h a v lo hi ba g l z e = record {
     good = g;
     rights = l;
-    each = λ b bb t. z (b / part h % parts h) (number-below h b) ∙ sym (block-quiet h a b lo hi bb e (together-block 1 1 L h a b hi ba bb t));
+    each = λ b bb t. z (b / part h % parts h) (number-below h b)
+        ∙ sym (block-quiet h a b lo hi bb e (together-block 1 1 L h a b hi ba bb t));
   }
 
   says-there : (h a : ℕ) → h ≡ low → h ≤ 2 → a < addresses → a / block h ≡ a0 / block h → Says F h R a w
@@ -216,14 +234,16 @@ module _ {L low : ℕ} {R : ℕ → ℕ} {a0 c0 w : ℕ} (o : OnePage L low R a0
   far : (h a : ℕ) → near h a ≡ false → a / block h ≢ a0 / block h
   far h a e x = true≢false (sym (eq-eqb (a / block h) (a0 / block h) x) ∙ e)
 
-  entries : (h d a : ℕ) → d < 1 → a < addresses → h ≤ 2 → Gets F want h d a → want h d a ≡ false → Says F h R a (Q (spot F want place h d a))
+  entries : (h d a : ℕ) → d < 1 → a < addresses → h ≤ 2 → Gets F want h d a → want h d a ≡ false
+      → Says F h R a (Q (spot F want place h d a))
   entries zero d a bd ba hi g n =
       let (lo, e) = want-yes 1 d a (g 1 (omega arith) (omega arith)) in
       let z : low ≡ 0 = omega arith in
       by-cases (near 0 a)
       (λ x.
       let y = eqb-true (a / 64) (a0 / 64) x in
-      rw (ap (λ i. Q (2048 + i % 64)) y ∙ at-leaf low a0 w ∙ ap (λ t. cond t w 0) (eq-eqb low 0 z)) (says-there 0 a (sym z) hi ba y))
+      rw (ap (λ i. Q (2048 + i % 64)) y ∙ at-leaf low a0 w ∙ ap (λ t. cond t w 0) (eq-eqb low 0 z))
+      (says-there 0 a (sym z) hi ba y))
       (λ x.
       let y = far 0 a x in
       let u = from-page a in
@@ -238,7 +258,8 @@ module _ {L low : ℕ} {R : ℕ → ℕ} {a0 c0 w : ℕ} (o : OnePage L low R a0
       (λ x.
       let y = eqb-true (a / 4096) (a0 / 4096) x in
       let z : low ≢ 0 = λ q. true≢false (sym (yes-want 1 d a (omega arith) y) ∙ n) in
-      rw (ap (λ i. Q (1024 + i % 1024)) y ∙ at-middle low a0 w ∙ ap (λ t. cond t 2048 w) (ne-eqb low 0 z)) (says-there 1 a (omega arith) hi ba y))
+      rw (ap (λ i. Q (1024 + i % 1024)) y ∙ at-middle low a0 w ∙ ap (λ t. cond t 2048 w) (ne-eqb low 0 z))
+      (says-there 1 a (omega arith) hi ba y))
       (λ x.
       let y = far 1 a x in
       let u = from-block a in
@@ -286,20 +307,25 @@ module _ {L low : ℕ} {R : ℕ → ℕ} {a0 c0 w : ℕ} (o : OnePage L low R a0
   gets-entry h d lo i up hi = yes-want i d a0 (omega arith) refl
 
   -- A word where no walk comes is as it was.
-  unchanged : (j : ℕ) → ((h d a : ℕ) → d < 1 → a < addresses → h ≤ 2 → Gets F want h d a → j ≡ spot F want place h d a → ⊥) → Q j ≡ P j
+  unchanged : (j : ℕ)
+      → ((h d a : ℕ) → d < 1 → a < addresses → h ≤ 2 → Gets F want h d a → j ≡ spot F want place h d a → ⊥) → Q j ≡ P j
   unchanged j un = elim (decLt j 1024) [
     | yes x ↦ elim (ℕ-discrete j (index 2 a0)) [
-      | yes e ↦ absurd (un 2 0 a0 (omega arith) (o .inside) (omega arith) (λ i lo hi. absurd (omega arith)) (omega arith))
+      | yes e ↦ absurd (un 2 0 a0 (omega arith) (o .inside) (omega arith) (λ i lo hi. absurd (omega arith))
+          (omega arith))
       | no e ↦ after-root low a0 w j x e ∙ sym (fresh-low j x)
     ]
     | no x ↦ elim (decLt j 2048) [
-      | yes y ↦ absurd (un 1 0 (a0 / 4194304 * 4194304 + 4096 * (j - 1024)) (omega arith) (let k = o .inside in omega arith) (omega arith) (in-block (omega arith) y) (omega arith))
+      | yes y ↦ absurd (un 1 0 (a0 / 4194304 * 4194304 + 4096 * (j - 1024)) (omega arith)
+          (let k = o .inside in omega arith) (omega arith) (in-block (omega arith) y) (omega arith))
       | no y ↦ elim (ℕ-discrete j (2048 + index 0 a0)) [
         | yes e ↦ elim (ℕ-discrete low 0) [
           | yes z ↦ absurd (un 0 0 a0 (omega arith) (o .inside) (omega arith) (gets-entry 0 0 (omega arith)) e)
-          | no z ↦ rw e (at-leaf low a0 w ∙ ap (λ t. cond t w 0) (ne-eqb low 0 z) ∙ sym (fresh-high (2048 + index 0 a0) (omega arith)))
+          | no z ↦ rw e (at-leaf low a0 w ∙ ap (λ t. cond t w 0) (ne-eqb low 0 z)
+              ∙ sym (fresh-high (2048 + index 0 a0) (omega arith)))
         ]
-        | no e ↦ elsewhere low a0 w j (λ t. omega arith) (λ t. omega arith) e ∙ ap (λ t. cond t 0x80000000 0) (le-ltb j 2048 (omega arith))
+        | no e ↦ elsewhere low a0 w j (λ t. omega arith) (λ t. omega arith) e
+            ∙ ap (λ t. cond t 0x80000000 0) (le-ltb j 2048 (omega arith))
             ∙ sym (fresh-high j (omega arith))
       ]
     ]
@@ -311,13 +337,20 @@ module _ {L low : ℕ} {R : ℕ → ℕ} {a0 c0 w : ℕ} (o : OnePage L low R a0
           let k = o .lowest in
           rw e (yes-want 2 0 (a0 / 4194304 * 4194304 + 4096 * (j - 1024)) k (omega arith))
 
-  follows : Follows F want place P Q
-  follows = record {
-    keeps = λ h d a s bd ba g l. absurd (fresh-led (shape 1 L) d a h s bd l);
-    order = λ h d a e b bd ba be bb hi f k x. in-order h d a e b hi;
-    lowest = λ h d a x bd ba hi f q lt. absurd (none-below h d a x hi q lt);
-    idle = unchanged;
-  }
+  -- From a pool whose root leads nowhere, each of whose words is as in the fresh pool or as it will be.
+  module _ (X : ℕ → ℕ) (flat : (j : ℕ) → j < 1024 → goodRights (X j) ≡ true)
+      (each : (j : ℕ) → (X j ≡ P j) ⊎ (X j ≡ Q j)) where
+    follows : Follows F want place X Q
+    follows = record {
+      keeps = λ h d a s bd ba g l. absurd (flat-led 1 1 L X flat d a h s bd l);
+      order = λ h d a e b bd ba be bb hi f k x. in-order h d a e b hi;
+      lowest = λ h d a x bd ba hi f q lt. absurd (none-below h d a x hi q lt);
+      idle = λ j un. ⊎-elim (λ e. unchanged j un ∙ sym e) (λ e. sym e) (each j);
+    }
+
+    pub page-finished-from : Finished F X (λ d. R) Q
+    page-finished-from =
+        encodes-finished F (lawful 1 1 L) (exact 1 1 L) want place tells placing encodes (wanting 1 1 L) follows
 
   pub page-finished : Finished F P (λ d. R) Q
-  page-finished = encodes-finished F (lawful 1 1 L) (exact 1 1 L) want place tells placing encodes (wanting 1 1 L) follows
+  page-finished = page-finished-from P (λ j h. rw (fresh-low j h) refl) (λ j. inl refl)

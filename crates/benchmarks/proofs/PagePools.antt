@@ -8,7 +8,7 @@ use native.Mathlib.Omega.{arith}
 use lib.ListN.{length}
 use Rattle.theory.specs.Pool.{words}
 use Rattle.theory.specs.Finished.{Finished}
-use Rattle.theory.proofs.RightLaws.{by-cases}
+use Rattle.theory.proofs.Logic.{by-cases}
 use Rattle.theory.proofs.FinishedLaws.{finished-same, finished-words}
 use Rattle.words.specs.Region.{regionOf, covered}
 use Rattle.words.specs.declared.Region.{Region}

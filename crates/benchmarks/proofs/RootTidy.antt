@@ -2,7 +2,7 @@
 use Prim.Native.Nat.{ℕ, suc, _+_, _*_, _/_, _%_, _≤_, _<_}
 use mathlib.Core.Path.{_≡_, refl, sym, ap, _∙_}
 use mathlib.Core.Logic.{_≢_}
-use mathlib.Core.Bool.{true, false, true≢false}
+use mathlib.Core.Bool.{true, true≢false}
 use mathlib.Core.List.{List}
 use native.Mathlib.Omega.{arith}
 use native.Mathlib.Decide.{ℕ-discrete}
@@ -16,15 +16,16 @@ use Rattle.table.specs.Map.{addresses, form}
 use Rattle.plan.specs.Aims.{aims}
 use Rattle.change.specs.declared.Answer.the-variants.{Done}
 use Rattle.change.specs.Cuts.{differing}
-use Rattle.change.specs.Answers.{noPaint, IsDone, Tidies, done}
+use Rattle.change.specs.Answers.{noPaint, Tidies}
 use Rattle.change.proofs.DifferLaws.{differing-set, differing-self}
 use Rattle.change.proofs.TidyGoalLaws.{aims-none}
 use Rattle.benchmarks.specs.Rows.{shape}
-use Rattle.benchmarks.proofs.RowLaws.{in-range}
+use Rattle.benchmarks.proofs.RowLaws.{in-range, tidy-done}
 use Rattle.benchmarks.proofs.FlatLaws.{flat-finished, flat-right}
 use Rattle.benchmarks.proofs.OneTable.{OneTable, table-sound}
 
-module _ (L : ℕ) (p : List ℕ) (long : length p ≡ 2048 + 64 * L) (o : OneTable (words p)) (w : ℕ) (good : goodRights w ≡ true) where
+module _ (L : ℕ) (p : List ℕ) (long : length p ≡ 2048 + 64 * L) (o : OneTable (words p)) (w : ℕ)
+    (good : goodRights w ≡ true) where
   abbrev tidied : List ℕ
   tidied = set p 0 w
 
@@ -41,22 +42,22 @@ module _ (L : ℕ) (p : List ℕ) (long : length p ≡ 2048 + 64 * L) (o : OneTa
   ]
 
   one-store : differing p tidied ≡ 1
-  one-store = differing-set p p 0 w refl (omega arith) refl (λ z. true≢false (sym good ∙ ap goodRights (z ∙ o .first))) ∙ ap suc (differing-self p)
+  one-store = differing-set p p 0 w refl (omega arith) refl (λ z. true≢false (sym good ∙ ap goodRights (z ∙ o .first)))
+      ∙ ap suc (differing-self p)
 
-  module _ (rights : (a : ℕ) → a < addresses → rightAt (words tidied (a / 4194304 % 1024)) (a / 524288 % 8) ≡ rightOf (form 1 1 L) (words p) 0 a) where
+  module _ (rights : (a : ℕ) → a < addresses
+      → rightAt (words tidied (a / 4194304 % 1024)) (a / 524288 % 8) ≡ rightOf (form 1 1 L) (words p) 0 a) where
     tidied-finished : Finished (form 1 1 L) (words p) (aims (shape 1 L) 0 noPaint (words p)) (words tidied)
     tidied-finished = flat-finished 1 1 L (words tidied) flat (words p) (aims (shape 1 L) 0 noPaint (words p))
         (λ d a bd ba.
         let i : 1024 * d + a / 4194304 % 1024 ≡ a / 4194304 % 1024 = omega arith in
         let z : d ≡ 0 = omega arith in
-        flat-right 1 1 L (words tidied) flat d a bd ∙ ap (λ j. rightAt (words tidied j) (a / 524288 % 8)) i ∙ rights a ba
+        flat-right 1 1 L (words tidied) flat d a bd ∙ ap (λ j. rightAt (words tidied j) (a / 524288 % 8)) i
+        ∙ rights a ba
         ∙ ap (λ e. rightOf (form 1 1 L) (words p) e a) (sym z) ∙ sym (aims-none (shape 1 L) 0 (words p) d a))
         (λ j h. getD-set-other p 0 j w 0 (λ e. omega arith))
 
     pub tidies-root : L ≤ maxLeaves → (n : ℕ) → 1 ≤ n → Tidies p (shape 1 L) n (Done 1) tidied
     tidies-root hl n h =
         let f : Fits (shape 1 L) (length p) = record { range = in-range 1 L (omega arith) hl; long = long } in
-        let d : IsDone (shape 1 L) 0 noPaint p n tidied =
-        record { finished = tidied-finished; long = length-set p 0 w; enough = rw one-store h } in
-        let c : Tidies p (shape 1 L) n (Done (differing p tidied)) tidied = done f (table-sound L o) tidied d in
-        rw one-store at c
+        tidy-done p (shape 1 L) n f (table-sound L o) tidied 1 tidied-finished (length-set p 0 w) one-store h

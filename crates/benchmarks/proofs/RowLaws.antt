@@ -1,4 +1,5 @@
--- What the rows share: one outcome that is as said settles every outcome; fresh pools; and what a change of a fresh pool aims at.
+-- What the rows share: one outcome that is as said settles every outcome; fresh pools; and what a change of a fresh
+-- pool aims at.
 use Prim.Native.Nat.{ℕ, zero, suc, _+_, _/_, _≤_, _<_}
 use mathlib.Core.Path.{_≡_, refl, sym, ap, _∙_}
 use mathlib.Core.Logic.{⊎-elim}
@@ -11,10 +12,10 @@ use lib.Dec.{leb, ltb}
 use lib.ListN.{length, length-append, length-replicate, List·getD-eq-default}
 use lib.Seq.{ext-getD}
 use borrow.Author.Tests.{eq-eqb, le-leb, lt-ltb, leb-true, ltb-true}
-use Rattle.theory.specs.Pool.{words, rightOf}
+use Rattle.theory.specs.Pool.{words, SoundPool, rightOf}
 use Rattle.theory.specs.Settled.{Settled}
 use Rattle.theory.specs.Finished.{Finished}
-use Rattle.theory.proofs.RightLaws.{by-cases}
+use Rattle.theory.proofs.Logic.{by-cases, and-both}
 use Rattle.theory.proofs.FinishedLaws.{one-finished}
 use Rattle.words.specs.Region.{covered}
 use Rattle.words.specs.declared.Region.{Region}
@@ -24,18 +25,17 @@ use Rattle.table.specs.Shape.{InRange, Fits, poolLength, maxMiddles, maxLeaves}
 use Rattle.table.specs.Map.{formOf}
 use Rattle.table.specs.Fresh.{freshPool}
 use Rattle.table.specs.Lookup.{numbers, lookupOf}
-use Rattle.table.proofs.ShapeLaws.{and-both}
 use Rattle.table.proofs.FormLaws.{lawful, exact}
 use Rattle.table.proofs.WantLaws.{wanting}
 use Rattle.table.proofs.LookupLaws.{looks-up}
 use Rattle.table.proofs.FreshWordLaws.{fresh-right}
 use Rattle.targets.specs.declared.Paint.{Paint}
-use Rattle.targets.specs.Targets.{region}
+use Rattle.targets.specs.Paints.{region}
 use Rattle.plan.specs.Aims.{aims}
 use Rattle.change.specs.declared.Answer.{Answer}
-use Rattle.change.specs.declared.Answer.the-variants.{Done}
+use Rattle.change.specs.declared.Answer.the-variants.{Done, Cut}
 use Rattle.change.specs.Cuts.{differing}
-use Rattle.change.specs.Answers.{paintOf, IsDone, IsCut, Asked, Changes, Tidies, in-order, done}
+use Rattle.change.specs.Answers.{paintOf, noPaint, IsDone, IsCut, Asked, Changes, Tidies, in-order, done, cut}
 use Rattle.places.proofs.Exists.{finished-fits}
 use Rattle.change.proofs.TidyGoalLaws.{fits-goal}
 use Rattle.change.proofs.EndLaws.{goal-ends}
@@ -44,7 +44,8 @@ use Rattle.change.proofs.TidiesLaws.{one-tidy}
 use Rattle.benchmarks.specs.Rows.{Always, Finds}
 
 -- One outcome of a change, or of a tidying, that is as said.
-pub always-change : {p : List ℕ} {s : Shape} {d start len r n : ℕ} {a : Answer} {q : List ℕ} {Is : Answer → List ℕ → Type 0}
+pub always-change : {p : List ℕ} {s : Shape} {d start len r n : ℕ} {a : Answer} {q : List ℕ}
+    {Is : Answer → List ℕ → Type 0}
     → Changes p s d start len r n a q → Is a q → Always (Changes p s d start len r n) Is
 always-change c x = record { some = (_, _, c); each = λ b y z. let (e, f) = one-change z c in rw (e, f) x }
 
@@ -94,38 +95,66 @@ pub covered-yes : (g : Region) (a : ℕ) → g .lo ≤ a / 4 → a / 4 < g .hi �
 covered-yes g a x y = rw (le-leb (g .lo) (a / 4) x, lt-ltb (a / 4) (g .hi) y) refl
 
 pub covered-range : (g : Region) (a : ℕ) → covered g a ≡ true → (g .lo ≤ a / 4) × (a / 4 < g .hi)
-covered-range g a e = let (x, y) = and-both (leb (g .lo) (a / 4)) (ltb (a / 4) (g .hi)) e in (leb-true (g .lo) (a / 4) x, ltb-true (a / 4) (g .hi) y)
+covered-range g a e =
+    let (x, y) = and-both (leb (g .lo) (a / 4)) (ltb (a / 4) (g .hi)) e in
+    (leb-true (g .lo) (a / 4) x, ltb-true (a / 4) (g .hi) y)
 
 pub covered-no : (g : Region) (a : ℕ) → (g .lo ≤ a / 4 → a / 4 < g .hi → ⊥) → covered g a ≡ false
 covered-no g a f = by-cases (covered g a) (λ e. let (x, y) = covered-range g a e in absurd (f x y)) (λ e. e)
 
--- What a change of a fresh pool aims at: the right on the covered words, and none elsewhere.
+-- What a change aims at where there are no rights: the right on the covered words, and none elsewhere.
+pub aims-bare : (s : Shape) (paint : Paint) (X : ℕ → ℕ) (d a : ℕ) → d < 1 → rightOf (formOf s) X d a ≡ 0
+    → aims s 0 paint X d a ≡ cond (covered (region paint) a) (paint .right) 0
+aims-bare s paint X d a lo none =
+    ap (λ x. cond (x && covered (region paint) a) (paint .right) (rightOf (formOf s) X d a)) (eq-eqb d 0 (omega arith))
+    ∙ ap (λ x. cond (covered (region paint) a) (paint .right) x) none
+
 pub aims-fresh : (s : Shape) (paint : Paint) (d a : ℕ) → d < s .domains → d < 1
     → aims s 0 paint (words (freshPool s)) d a ≡ cond (covered (region paint) a) (paint .right) 0
-aims-fresh s paint d a bd lo =
-    ap (λ x. cond (x && covered (region paint) a) (paint .right) (rightOf (formOf s) (words (freshPool s)) d a)) (eq-eqb d 0 (omega arith))
-    ∙ ap (λ x. cond (covered (region paint) a) (paint .right) x) (fresh-right s d a bd)
+aims-fresh s paint d a bd lo = aims-bare s paint (words (freshPool s)) d a lo (fresh-right s d a bd)
 
--- The finished pool, and an allowance that suffices.
-module _ (p : List ℕ) (s : Shape) (d start len r n : ℕ) (g : Region) (asked : Asked p s d start len r g) (settled : Settled (formOf s) (words p)) where
-  pub change-done : (q : List ℕ) (k : ℕ) → Finished (formOf s) (words p) (aims s d (paintOf g r) (words p)) (words q) → length q ≡ length p
-      → differing p q ≡ k → k ≤ n → Changes p s d start len r n (Done k) q
+-- With an allowance that does not suffice for the finished pool there is a cut: of a change, and of a tidying.
+pub was-cut : (s : Shape) (d : ℕ) (paint : Paint) (p : List ℕ) (n : ℕ) → paint .right < 4 → Fits s (length p)
+    → SoundPool (formOf s) (words p) → (q : List ℕ)
+    → Finished (formOf s) (words p) (aims s d paint (words p)) (words q)
+    → length q ≡ length p → n < differing p q → (x : List ℕ) × IsCut s d paint p n x
+was-cut s d paint p n low fits sound q f l h =
+    let room = finished-fits (s .domains) (s .middles) (s .leaves) f in
+    let (Q, kept, goal) = fits-goal s d paint p low fits sound room in
+    ⊎-elim (λ (y, z). absurd (too-many y z)) (λ c. c) (goal-ends s d paint p Q kept n goal)
+  where
+    too-many : (y : List ℕ) → IsDone s d paint p n y → ⊥
+    too-many y z =
+        let same : (j : ℕ) → words y j ≡ words q j =
+        one-finished (formOf s) (lawful _ _ _) (wanting _ _ _) (words p) _ (exact _ _ _) (z .finished) f in
+        let e : y ≡ q = ext-getD 0 y q (z .long ∙ sym l) (λ j i. same j) in
+        let k = rw e at (z .enough) in
+        omega arith
+
+-- The finished pool, and an allowance that suffices or not.
+module _ (p : List ℕ) (s : Shape) (d start len r n : ℕ) (g : Region) (asked : Asked p s d start len r g)
+    (settled : Settled (formOf s) (words p)) where
+  pub change-done : (q : List ℕ) (k : ℕ) → Finished (formOf s) (words p) (aims s d (paintOf g r) (words p)) (words q)
+      → length q ≡ length p → differing p q ≡ k → k ≤ n → Changes p s d start len r n (Done k) q
   change-done q k f l e h =
-      let c : Changes p s d start len r n (Done (differing p q)) q = in-order g asked (done settled q (record { finished = f; long = l; enough = rw e h })) in
+      let whole : IsDone s d (paintOf g r) p n q = record { finished = f; long = l; enough = rw e h } in
+      let c : Changes p s d start len r n (Done (differing p q)) q = in-order g asked (done settled q whole) in
       rw e at c
 
-  -- With a smaller allowance it is cut.
-  pub change-cut : (q : List ℕ) → Finished (formOf s) (words p) (aims s d (paintOf g r) (words p)) (words q) → length q ≡ length p
-      → n < differing p q → (x : List ℕ) × IsCut s d (paintOf g r) p n x
+  pub change-cut : (q : List ℕ) → Finished (formOf s) (words p) (aims s d (paintOf g r) (words p)) (words q)
+      → length q ≡ length p → n < differing p q → (x : List ℕ) × IsCut s d (paintOf g r) p n x
   change-cut q f l h =
-      let room = finished-fits (s .domains) (s .middles) (s .leaves) f in
-      let low = asked .right in
-      let (Q, kept, goal) = fits-goal s d (paintOf g r) p (omega arith) (asked .fits) (settled .sound) room in
-      ⊎-elim (λ (y, z). absurd (too-many y z)) (λ c. c) (goal-ends s d (paintOf g r) p Q kept n goal)
-    where
-      too-many : (y : List ℕ) → IsDone s d (paintOf g r) p n y → ⊥
-      too-many y z =
-          let e : y ≡ q = ext-getD 0 y q (z .long ∙ sym l)
-          (λ j i. one-finished (formOf s) (lawful _ _ _) (wanting _ _ _) (words p) (aims s d (paintOf g r) (words p)) (exact _ _ _) (z .finished) f j) in
-          let k = rw e at (z .enough) in
-          omega arith
+      let low = asked .right in was-cut s d (paintOf g r) p n (omega arith) (asked .fits) (settled .sound) q f l h
+
+-- The same of a tidying.
+module _ (p : List ℕ) (s : Shape) (n : ℕ) (fits : Fits s (length p)) (sound : SoundPool (formOf s) (words p)) where
+  pub tidy-done : (q : List ℕ) (k : ℕ) → Finished (formOf s) (words p) (aims s 0 noPaint (words p)) (words q)
+      → length q ≡ length p → differing p q ≡ k → k ≤ n → Tidies p s n (Done k) q
+  tidy-done q k f l e h =
+      let whole : IsDone s 0 noPaint p n q = record { finished = f; long = l; enough = rw e h } in
+      let c : Tidies p s n (Done (differing p q)) q = done fits sound q whole in
+      rw e at c
+
+  pub tidy-cut : (q : List ℕ) → Finished (formOf s) (words p) (aims s 0 noPaint (words p)) (words q)
+      → length q ≡ length p → n < differing p q → (x : List ℕ) × Tidies p s n Cut x
+  tidy-cut q f l h = let (x, c) = was-cut s 0 noPaint p n (omega arith) fits sound q f l h in (x, cut fits sound x c)

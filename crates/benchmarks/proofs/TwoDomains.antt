@@ -25,7 +25,7 @@ use Rattle.places.proofs.ChangedLaws.{changed-uncovered}
 use Rattle.places.specs.Final.{blocks, domainOf, addressOf, want}
 use Rattle.places.proofs.NumberLaws.{number-first}
 use Rattle.targets.specs.declared.Paint.{Paint}
-use Rattle.targets.specs.Targets.{region}
+use Rattle.targets.specs.Paints.{region}
 use Rattle.plan.specs.Aims.{aims}
 use Rattle.plan.proofs.AimLaws.{aims-covered, aims-other}
 use Rattle.change.specs.Answers.{paintOf, IsDone}

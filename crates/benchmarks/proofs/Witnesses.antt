@@ -3,7 +3,6 @@ use mathlib.Core.Path.{refl}
 use native.Mathlib.Omega.{arith}
 use Rattle.theory.specs.Walk.{walk}
 use Rattle.table.specs.Access.{store}
-use Rattle.change.proofs.Witness.{all-read, nothing, store-due}
 use Rattle.lookaside.specs.declared.Buffer.{Buffer}
 use Rattle.lookaside.specs.Slots.{emptyBuffer, firstMatch, matches, holdsFor, holds, inBlock}
 use Rattle.lookaside.specs.Agree.{nowhere}
@@ -11,12 +10,15 @@ use Rattle.lookaside.specs.Check.{refusalOf, checkOf}
 use Rattle.demands.specs.Watched.{Watched, emptied, checked}
 use Rattle.demands.proofs.WatchedLaws.{watched-sees}
 use Rattle.benchmarks.specs.Rows.{shape, needless}
-use Rattle.benchmarks.specs.Witnesses.{SomeSound, SomeDue, SomeBuffer, Met}
+use Rattle.benchmarks.specs.Witnesses.{SomeSound, SomeBuffer, Met}
 use Rattle.benchmarks.proofs.RowLaws.{in-range, listed}
 use Rattle.benchmarks.proofs.PageLaws.{after}
 use Rattle.benchmarks.proofs.PageRows.{leaf-pool}
 use Rattle.benchmarks.proofs.TidyRow.{needless-sound, needless-unsettled, needless-long}
 use Rattle.benchmarks.proofs.CutWitness.{some-cut, some-series}
+use Rattle.benchmarks.proofs.DueWitness.{some-give, some-fill, some-link}
+use Rattle.benchmarks.proofs.StaleWitness.{some-stale, some-tidied}
+use Rattle.benchmarks.proofs.TidyWitness.{some-tidy-cut}
 use Rattle.benchmarks.proofs.TwoDomains.{some-settled}
 
 some-sound : SomeSound
@@ -26,17 +28,6 @@ some-sound = record {
   fits = record { range = in-range 1 0 (omega arith) (omega arith); long = needless-long 0 };
   sound = needless-sound 0;
   unsettled = needless-unsettled 0;
-}
-
-some-due : SomeDue
-some-due = record {
-  shape = shape 0 0;
-  domain = 0;
-  paint = nothing;
-  pool = all-read;
-  word = 0;
-  value = 2147483648;
-  due = store-due (shape 0 0) refl;
 }
 
 -- A store at 0x1000 has filled the first slot with the leaf entry of row 2.
@@ -63,7 +54,12 @@ all-met = record {
   some-sound = some-sound;
   some-settled = some-settled;
   some-cut = some-cut;
-  some-due = some-due;
+  some-tidy-cut = some-tidy-cut;
+  some-give = some-give;
+  some-fill = some-fill;
+  some-link = some-link;
   some-buffer = some-buffer;
+  some-stale = some-stale;
+  some-tidied = some-tidied;
   some-series = some-series;
 }

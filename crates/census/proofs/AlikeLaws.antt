@@ -12,9 +12,9 @@ use lib.Seq.{getD-set-same, getD-set-other}
 use borrow.Author.Tests.{lt-ltb, eq-eqb, ne-eqb}
 use Rattle.theory.specs.Form.{Form}
 use Rattle.theory.specs.Pool.{words}
-use Rattle.theory.specs.Check.{Answer, met, mark, each, entryCheck, tableCheck, rootsCheck}
+use Rattle.theory.specs.Check.{Finding, met, mark, each, entryCheck, tableCheck, rootsCheck}
 use Rattle.theory.specs.Check as Check
-use Rattle.theory.proofs.RightLaws.{by-cases}
+use Rattle.theory.proofs.Logic.{by-cases}
 use Rattle.table.specs.declared.Shape.{Shape}
 use Rattle.table.specs.declared.Entry.{Entry}
 use Rattle.table.specs.declared.Entry.the-variants.{Rights, Leads, Bad}
@@ -63,7 +63,7 @@ pub record Alike (p : List ℕ) (s : Shape) (o : List ℕ) (u : ℕ → Bool) : 
   pub stands : (n : ℕ) → n < maxPlaces → taken o n ≡ true → StandsAt p s n (getD o n 0)
 
 -- The tally is what the theory's check answers.
-abbrev pub Matches : List ℕ → Shape → Tally → Answer → Type 0
+abbrev pub Matches : List ℕ → Shape → Tally → Finding → Type 0
 Matches p s refused Check.refused = Unit {0}
 Matches p s refused (met u) = ⊥
 Matches p s (owned o) Check.refused = ⊥
@@ -81,8 +81,8 @@ module _ (p : List ℕ) (s : Shape) where
       }
 
   -- One check after another.
-  then-alike : (F : List ℕ → Tally) (G : (ℕ → Bool) → Answer) → ((o : List ℕ) (u : ℕ → Bool) → Alike p s o u → Matches p s (F o) (G u))
-      → (y : Tally) (z : Answer) → Matches p s y z → Matches p s (andThen y F) (Check.andThen z G)
+  then-alike : (F : List ℕ → Tally) (G : (ℕ → Bool) → Finding) → ((o : List ℕ) (u : ℕ → Bool) → Alike p s o u → Matches p s (F o) (G u))
+      → (y : Tally) (z : Finding) → Matches p s y z → Matches p s (andThen y F) (Check.andThen z G)
   then-alike F G next refused Check.refused m = tt
   then-alike F G next refused (met u) m = absurd m
   then-alike F G next (owned o) Check.refused m = absurd m
@@ -128,7 +128,7 @@ module _ (p : List ℕ) (s : Shape) where
     give-again again = rw (taken-table ∙ again)
 
 -- Words in turn, where `f` and `g` check one alike.
-through-alike : (p : List ℕ) (s : Shape) (f : ℕ → ℕ → List ℕ → Tally) (g : ℕ → (ℕ → Bool) → Answer) (n k j : ℕ)
+through-alike : (p : List ℕ) (s : Shape) (f : ℕ → ℕ → List ℕ → Tally) (g : ℕ → (ℕ → Bool) → Finding) (n k j : ℕ)
     → ((e : ℕ) → e < n → (o : List ℕ) (u : ℕ → Bool) → Alike p s o u → Matches p s (f (k + e) (j + e) o) (g (k + e) u))
     → (o : List ℕ) (u : ℕ → Bool) → Alike p s o u → Matches p s (through f n k j o) (each g k n u)
 unfolding through each

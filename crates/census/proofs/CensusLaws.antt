@@ -11,14 +11,13 @@ use lib.Seq.{ext-getD}
 use borrow.Author.Tests.{eqb-true}
 use Rattle.theory.specs.Form.{Form}
 use Rattle.theory.specs.Pool.{words, start, step, SoundPool}
-use Rattle.theory.specs.Check.{Answer, met, rootsCheck}
+use Rattle.theory.specs.Check.{Finding, met, rootsCheck}
 use Rattle.theory.specs.Check as Check
-use Rattle.theory.proofs.RightLaws.{by-cases}
+use Rattle.theory.proofs.Logic.{by-cases, and-both}
 use Rattle.theory.proofs.CheckLaws.{CheckedPool, roots-check-sound, sound-roots-check}
 use Rattle.table.specs.declared.Shape.{Shape}
 use Rattle.table.specs.Shape.{Fits, firstPlace}
 use Rattle.table.specs.Map.{size, leads, formOf}
-use Rattle.table.proofs.ShapeLaws.{and-both}
 use Rattle.table.proofs.FormLaws.{lawful}
 use Rattle.places.specs.Final.{blocks, entryOf, oldMiddle, old}
 use Rattle.places.proofs.OldLaws.{old-one}
@@ -76,7 +75,7 @@ module _ (p : List ℕ) (s : Shape) (fits : Fits s (length p)) where
     pub fine-census : (o : List ℕ) → rootsTally s p (s .domains) ≡ owned o → Census p s true o
     fine-census o e = go (rootsCheck F (words p) (s .domains) (λ x. false)) refl (rw e at all)
       where
-        go : (y : Answer) → rootsCheck F (words p) (s .domains) (λ x. false) ≡ y → Matches p s (owned o) y → Census p s true o
+        go : (y : Finding) → rootsCheck F (words p) (s .domains) (λ x. false) ≡ y → Matches p s (owned o) y → Census p s true o
         go Check.refused f m = absurd m
         go (met u) f m =
             let c = roots-check-sound F (lawful _ _ _) (words p) u f in

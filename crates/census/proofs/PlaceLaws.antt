@@ -6,7 +6,7 @@ use mathlib.Core.Bool.{Bool, true, false, cond}
 use native.Mathlib.Omega.{arith}
 use lib.Dec.{ltb}
 use borrow.Author.Tests.{lt-ltb, le-ltb, ltb-true, ltb-false}
-use Rattle.theory.proofs.RightLaws.{by-cases}
+use Rattle.theory.proofs.Logic.{by-cases}
 use Rattle.words.specs.declared.PoolWord.{PoolWord}
 use Rattle.table.specs.declared.Shape.{Shape}
 use Rattle.table.specs.declared.Entry.the-variants.{Leads, Bad}

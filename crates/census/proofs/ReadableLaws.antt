@@ -23,7 +23,7 @@ use Rattle.census.proofs.PlaceLaws.{PlaceAt, decoded-place, led-room}
 abbrev pub Reached : List ℕ → Shape → ℕ → ℕ → Type 0
 Reached p s = Reach (formOf s) (words p) (Roots (formOf s))
 
-pub record Readable (p : List ℕ) (s : Shape) : Type 0 where
+pub record Walkable (p : List ℕ) (s : Shape) : Type 0 where
   -- The pool has the shape.
   pub fits : Fits s (length p)
   -- Every root word is reached.
@@ -50,7 +50,7 @@ module _ (p : List ℕ) (s : Shape) (fits : Fits s (length p)) (sound : SoundPoo
   reached-inside (start (d, i, e, f, b, c)) = omega (arith, fits .long)
   reached-inside (step i m l b) = let r = reached-room m l in omega arith
 
-  pub sound-readable : Readable p s
+  pub sound-readable : Walkable p s
   sound-readable = record {
     fits = fits;
     root = λ d i b c. start (d, i, refl, refl, b, c);
@@ -72,7 +72,7 @@ pub record Below (p : List ℕ) (s : Shape) (h k : ℕ) (t : PoolWord) (n : ℕ)
   pub used : InUse p s n
   pub rights : (a : ℕ) → right (formOf s) (words p) h k a ≡ right (formOf s) (words p) (h - 1) (t .0 + index (h - 1) a) a
 
-module _ (p : List ℕ) (s : Shape) (r : Readable p s) where
+module _ (p : List ℕ) (s : Shape) (r : Walkable p s) where
   -- The words of all roots, in one count; and the words by which an address goes.
   pub root-reached : (k : ℕ) → k < 1024 * s .domains → Reached p s 2 k
   root-reached k b =

@@ -1,5 +1,6 @@
-// The census of a pool: whether it is sound, and which block's table stands at each place. A table is sound when each of its entries is, and an
-// entry is sound when it is eight rights or leads to a sound table one level down. No place may have two owners.
+// The census of a pool: whether it is sound, and which block's table stands at each place. A table is sound when each
+// of its entries is, and an entry is sound when it is eight rights or leads to a sound table one level down. No place
+// may have two owners.
 ghost use mathlib.Core.Path.{_≡_};
 ghost use Prim.Native.Nat.{_+_, _-_, _%_, _≤_, _<_};
 ghost use lib.ListN.{length, replicate};
@@ -28,18 +29,18 @@ pub fn place_height(n: usize) -> u32
     0
 }
 
-// The pool word where place `n` begins: an entry that leads there.
-pub fn place_word(shape: Shape, n: usize) -> u32
+// The pool word where place `n` begins.
+pub fn place_word(shape: Shape, n: usize) -> PoolWord
     requires { ⌜ InRange (shape .domains) (shape .middles) (shape .leaves) ⌝ }
     requires { ⌜ n < maxPlaces ⌝ }
-    ensures { λ r. ⌜ r ≡ placeWord shape n ⌝ }
+    ensures { λ r. ⌜ r ≡ record { 0 = placeWord shape n } ⌝ }
 {
     let domains = shape.domains;
     let middles = shape.middles;
     if n < 8 {
-        return 1024 * domains + 1024 * n as u32;
+        return words::pool_word(1024 * domains + 1024 * n as u32);
     }
-    1024 * domains + 1024 * middles + 64 * (n - 8) as u32
+    words::pool_word(1024 * domains + 1024 * middles + 64 * (n - 8) as u32)
 }
 
 // The number of the first place for tables of a height.
@@ -96,20 +97,20 @@ fn give_place(n: usize, block: u32, owners: &mut [u32]) -> bool
     true
 }
 
-// How many words from word `k` on, entry `i` of its table, are eight rights: up to the first that is not, or to the table's end.
-pub fn plain_ahead(pool: &[u32], k: usize, i: u32) -> u32
-    requires { ⌜ (i < 1024) × (k + (1024 - i) ≤ length (now pool)) ⌝ }
-    ensures { λ r. ⌜ (i + r ≤ 1024) × AllPlain (words (now (pool .entry))) k r ⌝ }
+// How many words from `word` on, entry `i` of its table, are eight rights: up to the first that is not, or to the
+// table's end.
+pub fn plain_ahead(pool: &[u32], word: PoolWord, i: u32) -> u32
+    requires { ⌜ (i < 1024) × (word .0 + (1024 - i) ≤ length (now pool)) ⌝ }
+    ensures { λ r. ⌜ (i + r ≤ 1024) × AllPlain (words (now (pool .entry))) (word .0) r ⌝ }
 {
+    let k = words::pool_index(word);
     let w = pool[k];
     let plain = words::good_rights(w);
     if !plain {
         return 0;
     }
     let rest = 1024 - i;
-    let end = k + rest as usize;
-    let at = words::skip_rights(pool, k, end);
-    let n = at - k;
+    let n = words::skip_rights(pool, word, rest as usize);
     n as u32
 }
 
@@ -126,18 +127,19 @@ fn table_check(
     requires { ⌜ (height ≤ 2) × (block < tables (shape .domains) height) ⌝ }
     requires { ⌜ base .0 + size height ≤ length (now pool) ⌝ }
     requires { ⌜ length (now owners) ≡ maxPlaces ⌝ }
-    ensures { λ r. ⌜ Answers (tableTally shape (now (pool .entry)) height (base .0) block (now (owners .entry))) r (now (owners .exit)) ⌝ }
+    ensures { λ r. ⌜ Answers (tableTally shape (now (pool .entry)) height (base .0) block (now (owners .entry))) r
+        (now (owners .exit)) ⌝ }
 {
     if height == 0 {
         return true;
     }
-    let at = words::pool_index(base);
     let first = 1024 * block;
     let mut i: u32 = 0;
     while i < 1024 {
-        let k = at + i as usize;
-        let n = plain_ahead(pool, k, i);
+        let word = words::word_after(base, i as usize);
+        let n = plain_ahead(pool, word, i);
         if n == 0 {
+            let k = words::pool_index(word);
             let w = pool[k];
             let fine = entry_check(pool, shape, height, w, first + i, owners);
             if !fine {
@@ -163,7 +165,8 @@ fn entry_check(
     requires { ⌜ Fits shape (length (now pool)) ⌝ }
     requires { ⌜ (0 < height) × (height ≤ 2) × (block < tables (shape .domains) (height - 1)) ⌝ }
     requires { ⌜ length (now owners) ≡ maxPlaces ⌝ }
-    ensures { λ r. ⌜ Answers (entryTally shape (now (pool .entry)) height w block (now (owners .entry))) r (now (owners .exit)) ⌝ }
+    ensures { λ r. ⌜ Answers (entryTally shape (now (pool .entry)) height w block (now (owners .entry))) r
+        (now (owners .exit)) ⌝ }
 {
     let e = table::decode(shape, height, w);
     match e {
@@ -180,8 +183,8 @@ fn entry_check(
     }
 }
 
-// Whether the pool is sound, and, where it is, the owners of its places: of each place the number of the block whose table stands there, over all
-// domains (1024 * d + b for block b of domain d, 1048576 * d + p for page p), or NONE.
+// Whether the pool is sound, and, where it is, the owners of its places: of each place the number of the block whose
+// table stands there, over all domains (1024 * d + b for block b of domain d, 1048576 * d + p for page p), or NONE.
 pub fn census(pool: &[u32], shape: Shape, owners: &mut [u32]) -> bool
     requires { ⌜ Fits shape (length (now pool)) ⌝ }
     requires { ⌜ length (now owners) ≡ maxPlaces ⌝ }

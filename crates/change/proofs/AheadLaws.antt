@@ -10,7 +10,7 @@ use lib.Dec.{eqb, ltb}
 use borrow.Author.Tests.{lt-ltb, le-ltb, ne-eqb, eqb-true, eqb-false, not-true, not-false}
 use lib.ListN.{length}
 use Rattle.theory.specs.Pool.{words}
-use Rattle.theory.proofs.RightLaws.{by-cases}
+use Rattle.theory.proofs.Logic.{by-cases, and-both}
 use Rattle.words.specs.Rights.{rightAt, eightOf}
 use Rattle.table.specs.declared.Shape.{Shape}
 use Rattle.table.specs.Shape.{Fits}
@@ -18,12 +18,11 @@ use Rattle.table.specs.Map.{leads, zone}
 use Rattle.targets.specs.declared.Paint.{Paint}
 use Rattle.plan.specs.declared.Edge.{Edge}
 use Rattle.plan.specs.declared.Plan.{Plan}
-use Rattle.table.proofs.ShapeLaws.{and-both}
 use Rattle.plan.specs.Plan.{isLead, isNew, InTable, tableOf, rootAfter, pageAfter, after, newWord, PlanFits}
 use Rattle.plan.specs.Goals.{Planned}
 use Rattle.change.specs.Runs.{phases, At}
 use Rattle.change.specs.declared.ahead.Span.{Span}
-use Rattle.change.specs.Ahead.{Ahead, Outside, Stays, RootIdle, MiddleIdle, LeafIdle, NotNew, KeptIdle, NewIdle, Idle, PagesBefore}
+use Rattle.change.specs.Ahead.{Ahead, Outside, Untouched, RootIdle, MiddleIdle, LeafIdle, NotNew, KeptIdle, NewIdle, Idle, PagesBefore}
 use Rattle.change.proofs.TableLaws.{in-within, table-within}
 use Rattle.change.proofs.StateLaws.{at-pass}
 

@@ -14,7 +14,7 @@ use borrow.Author.Tests.{eq-eqb, eqb-true}
 use Rattle.theory.specs.Pool.{words, SoundPool, rightOf}
 use Rattle.theory.specs.Finished.{Finished}
 use Rattle.theory.specs.Stores.{Cut, Stage, Next}
-use Rattle.theory.proofs.RightLaws.{by-cases}
+use Rattle.theory.proofs.Logic.{by-cases}
 use Rattle.theory.proofs.StoreLaws.{Store, store-set}
 use Rattle.theory.proofs.BetweenLaws.{Mixed, next-stage, stage-mixed, put-cut}
 use Rattle.theory.proofs.FinishedLaws.{one-finished, finished-same, finished-words}
@@ -26,7 +26,7 @@ use Rattle.table.specs.Map.{addresses, formOf, form}
 use Rattle.table.proofs.FormLaws.{lawful, exact}
 use Rattle.table.proofs.WantLaws.{wanting}
 use Rattle.targets.specs.declared.Paint.{Paint}
-use Rattle.targets.specs.Targets.{region}
+use Rattle.targets.specs.Paints.{region}
 use Rattle.plan.specs.Aims.{aims, Covered}
 use Rattle.change.specs.Cuts.{differing, CutAt, Due}
 use Rattle.plan.proofs.AimLaws.{aims-covered, aims-other, covered-or}

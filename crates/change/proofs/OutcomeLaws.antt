@@ -15,10 +15,9 @@ use Rattle.table.specs.Map.{formOf}
 use Rattle.table.proofs.FormLaws.{lawful, exact}
 use Rattle.table.proofs.WantLaws.{wanting}
 use Rattle.targets.specs.declared.Paint.{Paint}
-use Rattle.plan.specs.Aims.{aims}
+use Rattle.plan.specs.Aims.{aims, Goal}
 use Rattle.change.specs.Cuts.{differing, CutAt}
 use Rattle.theory.specs.Phase.{midway}
-use Rattle.plan.specs.Goals.{Goal}
 use Rattle.change.specs.Runs.{phases, At}
 use Rattle.change.specs.Answers.{OnTheWay, IsCut, IsDone}
 use Rattle.change.proofs.DifferLaws.{differing-less}

@@ -14,7 +14,7 @@ use Rattle.theory.specs.Form.{Form}
 use Rattle.theory.specs.Pool.{words}
 use Rattle.theory.specs.Phase.{midway, Tells}
 use Rattle.theory.proofs.PhaseLaws.{midway-new, midway-old}
-use Rattle.theory.proofs.RightLaws.{by-cases}
+use Rattle.theory.proofs.Logic.{by-cases}
 use Rattle.theory.proofs.FinishedLaws.{one-finished}
 use Rattle.table.specs.declared.Shape.{Shape}
 use Rattle.table.specs.Map.{formOf}

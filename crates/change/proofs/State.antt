@@ -16,7 +16,7 @@ use Rattle.theory.specs.Finished.{Finished}
 use Rattle.theory.specs.Stores.{Next}
 use Rattle.theory.specs.Phase.{phase, midway, Tells}
 use Rattle.theory.proofs.PhaseLaws.{midway-new, midway-old, midway-either, phase-next}
-use Rattle.theory.proofs.RightLaws.{by-cases}
+use Rattle.theory.proofs.Logic.{by-cases}
 use Rattle.theory.proofs.FinishedLaws.{finished-words, one-finished}
 use Rattle.theory.proofs.StayLaws.{next-here}
 use Rattle.table.specs.declared.Shape.{Shape}
@@ -27,10 +27,10 @@ use Rattle.table.proofs.WantLaws.{wanting}
 use Rattle.targets.specs.declared.Paint.{Paint}
 use Rattle.plan.specs.declared.Plan.{Plan}
 use Rattle.plan.specs.Plan.{isLead, after, newWord, phaseOf}
-use Rattle.plan.specs.Aims.{aims}
+use Rattle.plan.specs.Aims.{aims, Goal}
 use Rattle.change.specs.Cuts.{differing, CutAt, Due}
 use Rattle.change.proofs.CutLaws.{put-cuts}
-use Rattle.plan.specs.Goals.{Planned, Goal}
+use Rattle.plan.specs.Goals.{Planned}
 use Rattle.change.specs.Runs.{phases, At}
 
 module _ {s : Shape} {d : ℕ} {paint : Paint} {old : List ℕ} {Q : ℕ → ℕ} {kept : ℕ → Bool} {n c k : ℕ} {x : List ℕ} {left : ℕ}

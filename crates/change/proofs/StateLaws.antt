@@ -17,7 +17,7 @@ use Rattle.table.specs.Map.{leads, zone}
 use Rattle.targets.specs.declared.Paint.{Paint}
 use Rattle.change.specs.Cuts.{CutAt}
 use Rattle.change.proofs.DifferLaws.{differing-self}
-use Rattle.plan.specs.Goals.{Goal}
+use Rattle.plan.specs.Aims.{Goal}
 use Rattle.change.specs.Runs.{phases, At}
 
 -- The phases are 1, 2 and 3.

@@ -20,8 +20,7 @@ use Rattle.table.proofs.WantLaws.{wanting}
 use Rattle.places.specs.Count.{Room}
 use Rattle.places.proofs.Exists.{finished-fits}
 use Rattle.targets.specs.declared.Paint.{Paint}
-use Rattle.plan.specs.Aims.{aims}
-use Rattle.plan.specs.Goals.{Goal}
+use Rattle.plan.specs.Aims.{aims, Goal}
 use Rattle.change.specs.declared.Answer.{Answer}
 use Rattle.change.specs.declared.Answer.the-variants.{Done, Cut, Refused}
 use Rattle.change.specs.Cuts.{differing, CutAt}

@@ -11,11 +11,10 @@ use lib.ListN.{length, set, take, length-append}
 use lib.Seq.{take-append-le}
 use borrow.Author.Tests.{eqb-true, eqb-false, eq-eqb, not-true, not-false}
 use Rattle.theory.specs.Pool.{words}
-use Rattle.theory.proofs.RightLaws.{by-cases}
+use Rattle.theory.proofs.Logic.{by-cases, and-both}
 use Rattle.table.specs.declared.Shape.{Shape}
-use Rattle.table.proofs.ShapeLaws.{and-both}
 use Rattle.targets.specs.declared.Paint.{Paint}
-use Rattle.plan.specs.Goals.{Goal}
+use Rattle.plan.specs.Aims.{Goal}
 use Rattle.change.specs.Cuts.{differing, CutAt}
 use Rattle.change.specs.Runs.{phases, At}
 use Rattle.change.specs.Answers.{IsCut, IsDone}

@@ -13,7 +13,7 @@ use Rattle.theory.specs.Pool.{words, SoundPool, rightOf}
 use Rattle.table.specs.declared.Shape.{Shape}
 use Rattle.table.specs.Shape.{Fits, firstMiddle, firstLeaf}
 use Rattle.table.specs.Map.{leads, formOf}
-use Rattle.table.proofs.ShapeLaws.{and-both}
+use Rattle.theory.proofs.Logic.{and-both}
 use Rattle.census.proofs.PlaceLaws.{middle-number}
 use Rattle.census.specs.Tally.{AllPlain}
 use Rattle.census.specs.Census.{Owners}

@@ -14,7 +14,7 @@ use Rattle.table.specs.declared.Shape.{Shape}
 use Rattle.table.specs.Shape.{Fits}
 use Rattle.table.specs.Map.{formOf}
 use Rattle.table.specs.Wants.{WordRights}
-use Rattle.table.proofs.ShapeLaws.{and-both}
+use Rattle.theory.proofs.Logic.{and-both}
 use Rattle.table.proofs.WantLaws.{pool-rights}
 use Rattle.places.specs.Count.{wantMiddle, wantLeaf, Room}
 use Rattle.places.proofs.ChangedLaws.{changed-rights}
@@ -26,9 +26,8 @@ use Rattle.places.proofs.KeepLaws.{owners}
 use Rattle.places.proofs.OldLaws.{old-one, old-below}
 use Rattle.places.proofs.TellsLaws.{final-tells}
 use Rattle.targets.specs.declared.Paint.{Paint}
-use Rattle.targets.specs.Targets.{region}
-use Rattle.plan.specs.Aims.{aims, Covered}
-use Rattle.plan.specs.Goals.{Goal}
+use Rattle.targets.specs.Paints.{region}
+use Rattle.plan.specs.Aims.{aims, Covered, Goal}
 use Rattle.change.specs.Answers.{noPaint}
 use Rattle.plan.proofs.AimLaws.{aims-other}
 

@@ -10,7 +10,7 @@ use Rattle.theory.specs.Finished.{Finished}
 use Rattle.theory.specs.Lawful.{Lawful, Exact, Wanting}
 use Rattle.theory.specs.Stores.{Kept, top, down}
 use Rattle.theory.specs.Phase.{phase, Tells}
-use Rattle.theory.proofs.RightLaws.{by-cases}
+use Rattle.theory.proofs.Logic.{by-cases}
 use Rattle.theory.proofs.ReachLaws.{visits-down, reach-zone}
 use Rattle.theory.proofs.BlockLaws.{one-word, met-by}
 use Rattle.theory.proofs.SettledLaws.{says-at, says-same, wants-table}

@@ -11,7 +11,7 @@ use borrow.Author.Tests.{lt-ltb, le-ltb}
 use Rattle.theory.specs.Pool.{SoundPool, Visits, here, next, entry, rightOf}
 use Rattle.theory.specs.Finished.{Finished}
 use Rattle.theory.specs.Stores.{Kept, top, down}
-use Rattle.theory.proofs.RightLaws.{by-cases}
+use Rattle.theory.proofs.Logic.{by-cases}
 use Rattle.theory.proofs.ReachLaws.{visits-down}
 use Rattle.theory.proofs.BlockLaws.{one-word}
 use Rattle.theory.proofs.SettledLaws.{says-at, says-same}

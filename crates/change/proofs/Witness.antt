@@ -19,7 +19,7 @@ use Rattle.table.specs.Map.{addresses, formOf}
 use Rattle.table.specs.Fresh.{freshPool}
 use Rattle.table.proofs.FreshWordLaws.{fresh-word, fresh-led, fresh-right, fresh-settled}
 use Rattle.targets.specs.declared.Paint.{Paint}
-use Rattle.targets.specs.Targets.{region}
+use Rattle.targets.specs.Paints.{region}
 use Rattle.plan.specs.Aims.{aims}
 use Rattle.plan.proofs.AimLaws.{aims-covered}
 use Rattle.change.specs.Cuts.{Due}

@@ -27,8 +27,8 @@ abbrev pub Outside : ℕ → ℕ → ℕ → Type 0
 Outside start past j = start ≤ j → j < past → ⊥
 
 -- The plan leaves word `j` as it is.
-abbrev pub Stays : Plan → ℕ → Type 0
-Stays q j = (x : ℕ) → after q j x ≡ x
+abbrev pub Untouched : Plan → ℕ → Type 0
+Untouched q j = (x : ℕ) → after q j x ≡ x
 
 -- Of the words of the domain's root, of an edge's middle table that stays and of its leaf that stays, `j` is none that the plan alters.
 abbrev pub RootIdle : Plan → ℕ → Type 0
@@ -46,14 +46,14 @@ NotNew e n j = (isNew e && InTable (e .last) n j) ≡ false
 
 -- In the phases of words that stay in place: it stays as it is, or is of a new table. In the phase of new tables: it is of none.
 abbrev pub KeptIdle : Plan → ℕ → Type 0
-KeptIdle q j = Stays q j ⊎ (newWord q j ≡ true)
+KeptIdle q j = Untouched q j ⊎ (newWord q j ≡ true)
 
 abbrev pub NewIdle : Plan → ℕ → Type 0
 NewIdle q j = newWord q j ≡ false
 
 -- In phase `c` there is nothing to do at word `j`.
 abbrev pub Idle : Plan → ℕ → ℕ → Type 0
-Idle q c j = Stays q j ⊎ (newWord q j ≡ not (eqb c 2))
+Idle q c j = Untouched q j ⊎ (newWord q j ≡ not (eqb c 2))
 
 -- After the cursor's row comes the row of the cursor `r`, in a pool of `n` words: of the same phase, or of the next one once this is through.
 pub record NextRow (q : Plan) (at : Cursor) (n : ℕ) (r : Cursor) : Type 0 where

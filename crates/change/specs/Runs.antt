@@ -13,7 +13,8 @@ use Rattle.table.specs.Map.{formOf}
 use Rattle.census.specs.Places.{maxPlaces}
 use Rattle.targets.specs.declared.Paint.{Paint}
 use Rattle.plan.specs.Plan.{PlanFits}
-use Rattle.plan.specs.Goals.{Goal, Planned}
+use Rattle.plan.specs.Aims.{Goal}
+use Rattle.plan.specs.Goals.{Planned}
 use Rattle.change.specs.declared.Answer.{Answer}
 use Rattle.change.specs.declared.Answer.the-variants.{Done, Cut}
 use Rattle.change.specs.declared.Cursor.{Cursor}

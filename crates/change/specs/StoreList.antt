@@ -10,7 +10,7 @@ use Rattle.theory.specs.Phase.{phase}
 use Rattle.table.specs.declared.Shape.{Shape}
 use Rattle.table.specs.Map.{formOf}
 use Rattle.targets.specs.declared.Paint.{Paint}
-use Rattle.plan.specs.Goals.{Goal}
+use Rattle.plan.specs.Aims.{Goal}
 use Rattle.change.specs.declared.Answer.{Answer}
 use Rattle.change.specs.declared.Answer.the-variants.{Done, Cut, Refused}
 

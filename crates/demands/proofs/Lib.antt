@@ -1,2 +1,4 @@
 pub mod SeriesLaws
+pub mod RoomLaws
+pub mod ClearLaws
 pub mod WatchedLaws

@@ -1,11 +1,11 @@
 -- Demand 2: a lookup is exact, in at most three loads, and a check through the buffer gives the walk's verdict.
 use Prim.Native.Nat.{ℕ, _≤_, _<_}
 use mathlib.Core.Path.{_≡_, refl, sym, ap, _∙_}
-use mathlib.Core.Logic.{_≢_, ⊎-elim}
-use mathlib.Core.Bool.{Bool, true, false, cond, _&&_, _||_, not, false≢true}
+use mathlib.Core.Logic.{_≢_, _⊎_, inl, inr, ⊎-elim}
+use mathlib.Core.Bool.{Bool, true, false, _&&_, false≢true}
 use mathlib.Core.List.{List}
 use native.Mathlib.Omega.{arith}
-use lib.Dec.{eqb}
+use native.Mathlib.Decide.{ℕ-discrete}
 use lib.ListN.{length}
 use borrow.Author.Tests.{eq-eqb}
 use Rattle.theory.specs.Pool.{words, SoundPool, rightOf}
@@ -14,6 +14,7 @@ use Rattle.words.specs.declared.Region.{Region}
 use Rattle.words.specs.declared.Rounded.{Rounded}
 use Rattle.words.specs.declared.Rounded.the-variants.{Covers, Refused as NoRegion}
 use Rattle.table.specs.declared.Shape.{Shape}
+use Rattle.table.specs.declared.Found.{Found}
 use Rattle.table.specs.declared.Found.the-variants.{Right, Refused as NotFound}
 use Rattle.table.specs.Shape.{Fits}
 use Rattle.table.specs.Map.{addresses, formOf}
@@ -21,23 +22,32 @@ use Rattle.table.specs.Lookup.{lookupOf}
 use Rattle.table.proofs.LookupLaws.{right-loads, sound-lookup}
 use Rattle.plan.proofs.AimLaws.{aims-other}
 use Rattle.change.specs.declared.Answer.{Answer}
-use Rattle.change.specs.Answers.{paintOf, noPaint, ChangesRegion, Changes, Tidies, no-shape, no-domain, no-right, no-region, in-order, unsound, unsettled, no-room, done, cut}
+use Rattle.change.specs.Answers.{paintOf, noPaint, ChangesRegion, Changes, Tidies, no-shape, no-domain, no-right}
+use Rattle.change.specs.Answers.{no-region, in-order, unsound, unsettled, no-room, done, cut}
 use Rattle.lookaside.specs.declared.Buffer.{Buffer}
+use Rattle.lookaside.specs.declared.Flushed.{Flushed}
+use Rattle.lookaside.specs.declared.Flushing.{Flushing}
 use Rattle.lookaside.specs.declared.Flushing.the-variants.{Whole, OfDomain, OfRegion}
+use Rattle.lookaside.specs.declared.Verdict.the-variants.{Refused}
 use Rattle.lookaside.specs.Slots.{emptyBuffer}
-use Rattle.lookaside.specs.Check.{refusalOf, verdictOf, said, checkOf}
-use Rattle.lookaside.specs.Flushes.{flushedBuffer, flushedWhole, flushedDomain, flushedRegion, flushedRounded, pointed}
+use Rattle.lookaside.specs.Check.{refusalOf, verdictOf, withoutLoads, checkOf}
+use Rattle.lookaside.specs.Flushes.{flushedBuffer, flushedRounded, pointed}
 use Rattle.lookaside.specs.Agree.{Places, nowhere, within, clears, both, less, rightsOf, SameBut, AgreesBut}
-use Rattle.lookaside.proofs.CheckLaws.{check-pointer}
+use Rattle.lookaside.proofs.CheckLaws.{check-pointer, refusal-pointer}
 use Rattle.lookaside.proofs.FlushLaws.{pointed-goes}
-use Rattle.lookaside.proofs.AgreeLaws.{emptied-agrees, change-agrees, tidy-agrees, more-agrees, flush-agrees, check-agrees}
+use Rattle.lookaside.proofs.AgreeLaws.{emptied-agrees, change-agrees, tidy-agrees, more-agrees, flush-agrees}
+use Rattle.lookaside.proofs.AgreeLaws.{check-agrees}
 use Rattle.lookaside.proofs.VerdictLaws.{check-right, check-as-emptied}
-use Rattle.demands.specs.Series.{History, Series}
-use Rattle.demands.specs.Watched.{placesOf, altered, Watched, emptied, checked, changed, tidied, flushed-all, flushed-domain, flushed-region}
+use Rattle.demands.specs.Series.{History, Series, fresh, change, tidy}
+use Rattle.demands.specs.Watched.{placesOf, altered, Watched, emptied, checked, changed, tidied, flushed-all}
+use Rattle.demands.specs.Watched.{flushed-domain, flushed-region, unflushed}
 use Rattle.demands.proofs.SeriesLaws.{nothing-covered, series-holds}
+use Rattle.demands.proofs.ClearLaws.{AllClear, not-six, orSix, emptied-clear, flushed-clear, check-clear}
+use Rattle.demands.proofs.ClearLaws.{change-clear, tidy-clear, check-six}
 
 -- A lookup in a sound pool finds exactly the right that the table holds, in one to three loads.
-pub lookup-exact : (p : List ℕ) (s : Shape) (d a : ℕ) → SoundPool (formOf s) (words p) → Fits s (length p) → d < s .domains
+pub lookup-exact : (p : List ℕ) (s : Shape) (d a : ℕ) → SoundPool (formOf s) (words p) → Fits s (length p)
+    → d < s .domains
     → (w : ℕ) × (n : ℕ) × (lookupOf p s d a ≡ Right (rightOf (formOf s) (words p) d a) w n) × (1 ≤ n) × (n ≤ 3)
 lookup-exact p s d a q f h =
     let (w, n, e) = sound-lookup p s d a q f h in
@@ -49,7 +59,8 @@ lookup-exact p s d a q f h =
 uncovered : (d : ℕ) (g : Region) (e a : ℕ) → within d g e a ≡ false → (e ≡ d) × (covered g a ≡ true) → ⊥
 uncovered d g e a z (q, c) = false≢true (sym z ∙ ap (λ t. t && covered g a) (eq-eqb e d q) ∙ c)
 
-region-same : {p q : List ℕ} {s : Shape} {d r n : ℕ} (g : Region) {c : Answer} → ChangesRegion p s d (paintOf g r) n c q
+region-same : {p q : List ℕ} {s : Shape} {d r n : ℕ} (g : Region) {c : Answer}
+    → ChangesRegion p s d (paintOf g r) n c q
     → SameBut (s .domains) (altered c (Covers g) d) (rightsOf s p) (rightsOf s q)
 region-same g (unsound x) e a be ba z = refl
 region-same g (unsettled x y) e a be ba z = refl
@@ -68,27 +79,70 @@ change-same {d = d} {start} {len} {c = c} (in-order g asked x) e a be ba z =
     region-same g x e a be ba (ap (λ t. altered c t d e a) (sym (asked .region)) ∙ z)
 
 -- A tidying, finished or cut, leaves all rights: it needs no flush.
-pub tidy-same : {p q : List ℕ} {s : Shape} {n : ℕ} {c : Answer} → Tidies p s n c q → SameBut (s .domains) nowhere (rightsOf s p) (rightsOf s q)
+pub tidy-same : {p q : List ℕ} {s : Shape} {n : ℕ} {c : Answer} → Tidies p s n c q
+    → SameBut (s .domains) nowhere (rightsOf s p) (rightsOf s q)
 tidy-same (no-shape x) e a be ba z = refl
 tidy-same (unsound x y) e a be ba z = refl
 tidy-same {p} {s = s} (done x y q f) e a be ba z =
     sym (f .finished .rights e a be ba ∙ aims-other s 0 noPaint (words p) e a (nothing-covered 0 e a))
 tidy-same (cut x y q f) e a be ba z = sym (f .cut .others e a be ba (nothing-covered 0 e a))
 
--- The buffer agrees with the table but where it is stale, and its pointer is in order.
+-- The buffer agrees with the table but where it is stale, no slot answers where the walk is refused 6, and its pointer
+-- is in order.
 pub record Sees (s : Shape) (p : List ℕ) (b : Buffer) (x : Places) : Type 0 where
   pub agrees : AgreesBut (s .domains) (rightsOf s p) x b
+  pub clear : AllClear p s b
   pub pointer : b .next < 64
 
+first-pointer : emptyBuffer .next < 64
+unfolding emptyBuffer
+first-pointer = omega arith
+
+emptied-sees : (s : Shape) (p : List ℕ) → Sees s p emptyBuffer nowhere
+emptied-sees s p = record {
+  agrees = emptied-agrees (s .domains) (rightsOf s p) nowhere;
+  clear = emptied-clear p s;
+  pointer = first-pointer;
+}
+
+-- Each use of a buffer and of the table beside it leaves the buffer so.
 module _ {s : Shape} {p : List ℕ} {b : Buffer} {x : Places} (o : Sees s p b x) where
-  flush-sees : (f : _) → Sees s p (flushedBuffer f b) (less x (clears f))
+  check-sees : (d kind size a : ℕ) → Sees s p (checkOf p s b d kind size a .buffer) x
+  check-sees d kind size a = record {
+    agrees = check-agrees p s x b d kind size a (o .agrees);
+    clear = check-clear p s b (o .clear) d kind size a;
+    pointer = check-pointer p s b d kind size a (o .pointer);
+  }
+
+  change-sees : {q : List ℕ} {d start len r n : ℕ} {c : Answer} → Changes p s d start len r n c q
+      → Sees s q b (both x (altered c (regionOf start len) d))
+  change-sees {q} {d} {start} {len} {c = c} y = record {
+    agrees = change-agrees (s .domains) (rightsOf s p) (rightsOf s q) b x (altered c (regionOf start len) d)
+        (change-same y) (o .agrees);
+    clear = change-clear p s b (o .clear) y;
+    pointer = o .pointer;
+  }
+
+  tidy-sees : {q : List ℕ} {n : ℕ} {c : Answer} → Tidies p s n c q → Sees s q b x
+  tidy-sees {q} y = record {
+    agrees = tidy-agrees (s .domains) (rightsOf s p) (rightsOf s q) b x (tidy-same y) (o .agrees);
+    clear = tidy-clear p s b (o .clear) y;
+    pointer = o .pointer;
+  }
+
+  flush-sees : (f : Flushing) → Sees s p (flushedBuffer f b) (less x (clears f))
   unfolding flushedBuffer
-  flush-sees f = record { agrees = flush-agrees (s .domains) (rightsOf s p) x f b (o .agrees); pointer = o .pointer }
+  flush-sees f = record {
+    agrees = flush-agrees (s .domains) (rightsOf s p) x f b (o .agrees);
+    clear = flushed-clear p s b (o .clear) f;
+    pointer = o .pointer;
+  }
 
   rounded-sees : (g : Rounded) (d : ℕ) → Sees s p (flushedRounded g b d .buffer) (less x (placesOf g d))
   rounded-sees (Covers g) d = flush-sees (OfRegion d g)
   rounded-sees (NoRegion k) d = record {
     agrees = more-agrees (s .domains) (rightsOf s p) b x (less x nowhere) (λ e a z. all (x e a) z) (o .agrees);
+    clear = o .clear;
     pointer = o .pointer;
   }
     where
@@ -96,44 +150,56 @@ module _ {s : Shape} {p : List ℕ} {b : Buffer} {x : Places} (o : Sees s p b x)
       all true z = z
       all false z = refl
 
-first-pointer : emptyBuffer .next < 64
-unfolding emptyBuffer
-first-pointer = omega arith
+  -- A flush is not refused 18.
+  pointed-sees : (f : Flushed) {y : Places} → Sees s p (f .buffer) y → Sees s p (pointed b f .buffer) y
+  pointed-sees f z = rw (pointed-goes b f (o .pointer)) z
 
 pub watched-sees : {s : Shape} {p : List ℕ} {b : Buffer} {x : Places} → Watched s p b x → Sees s p b x
-watched-sees {s} (emptied p) = record { agrees = emptied-agrees (s .domains) (rightsOf s p) nowhere; pointer = first-pointer }
-watched-sees {s} (checked {p} {b} {x} w d kind size a) = let o = watched-sees w in record {
-  agrees = check-agrees p s x b d kind size a (o .agrees);
-  pointer = check-pointer p s b d kind size a (o .pointer);
-}
-watched-sees {s} (changed {p} {q} {b} {x} {d} {start} {len} {c = c} w y) = let o = watched-sees w in record {
-  agrees = change-agrees (s .domains) (rightsOf s p) (rightsOf s q) b x (altered c (regionOf start len) d) (change-same y) (o .agrees);
-  pointer = o .pointer;
-}
-watched-sees {s} (tidied {p} {q} {b} {x} w y) = let o = watched-sees w in record {
-  agrees = tidy-agrees (s .domains) (rightsOf s p) (rightsOf s q) b x (tidy-same y) (o .agrees);
-  pointer = o .pointer;
-}
-watched-sees (flushed-all {b = b} w) = let o = watched-sees w in rw (pointed-goes b _ (o .pointer)) (flush-sees o Whole)
-watched-sees (flushed-domain {b = b} w d) = let o = watched-sees w in rw (pointed-goes b _ (o .pointer)) (flush-sees o (OfDomain d))
-watched-sees (flushed-region {b = b} w d start len) = let o = watched-sees w in
-    rw (pointed-goes b _ (o .pointer)) (rounded-sees o (regionOf start len) d)
+watched-sees {s} (emptied p) = emptied-sees s p
+watched-sees (checked w d kind size a) = check-sees (watched-sees w) d kind size a
+watched-sees (changed w y) = change-sees (watched-sees w) y
+watched-sees (tidied w y) = tidy-sees (watched-sees w) y
+watched-sees (flushed-all w) = let o = watched-sees w in pointed-sees o _ (flush-sees o Whole)
+watched-sees (flushed-domain w d) = let o = watched-sees w in pointed-sees o _ (flush-sees o (OfDomain d))
+watched-sees (flushed-region w d start len) =
+    let o = watched-sees w in pointed-sees o _ (rounded-sees o (regionOf start len) d)
 
--- Demand 2. Where no change is left without its flush, a check says what it says with an emptied buffer, by a walk; refusals are the same too.
--- In an unsound pool the claim is for the walks that meet no bad entry.
-pub same-verdict : {s : Shape} {p : List ℕ} {b : Buffer} {x : Places} → Watched s p b x → (d kind size a : ℕ) → a < addresses → x d a ≡ false
-    → lookupOf p s d a ≢ NotFound 6 → said (checkOf p s b d kind size a .verdict) ≡ said (checkOf p s emptyBuffer d kind size a .verdict)
-same-verdict {s} {p} {b} {x} w d kind size a h z n =
+six-or-not : (f : Found) → (f ≡ NotFound 6) ⊎ (f ≢ NotFound 6)
+six-or-not (Right r w n) = inr not-six
+six-or-not (NotFound n) = elim (ℕ-discrete n 6) [ yes e ↦ inl (ap NotFound e) | no e ↦ inr (λ q. e (cc)) ]
+
+-- Demand 2. Where no change is left without its flush, a check says what it says with an emptied buffer, by a walk;
+-- refusals are the same too. Of every pool, sound or not.
+pub same-verdict : {s : Shape} {p : List ℕ} {b : Buffer} {x : Places} → Watched s p b x → (d kind size a : ℕ)
+    → a < addresses → x d a ≡ false
+    → withoutLoads (checkOf p s b d kind size a .verdict) ≡ withoutLoads (checkOf p s emptyBuffer d kind size a .verdict)
+same-verdict {s} {p} {b} {x} w d kind size a h z =
     let o = watched-sees w in
-    check-as-emptied p s x d kind size a z h n b (o .agrees) (o .pointer)
+    let same = refusal-pointer s (length p) d kind size a (b .next) (emptyBuffer .next) (o .pointer) first-pointer in
+    ⊎-elim
+    (λ six.
+    let here = check-six p s b (o .clear) d kind size a h six in
+    let there = check-six p s emptyBuffer (emptied-clear p s) d kind size a h six in
+    ap withoutLoads (here ∙ ap (λ n. Refused (orSix n)) same ∙ sym there))
+    (λ n. check-as-emptied p s x d kind size a z h n b (o .agrees) (o .pointer))
+    (six-or-not (lookupOf p s d a))
+
+-- `Watched` leaves out no call of a series: beside every series there may be a buffer, emptied as the pool was made.
+pub series-watched : {s : Shape} {p : List ℕ} {h : History} → Series s p h → Watched s p emptyBuffer (unflushed h)
+series-watched (fresh {p} {q} m) = emptied q
+series-watched (change x c) = changed (series-watched x) c
+series-watched (tidy x c) = tidied (series-watched x) c
 
 -- In a pool of any series it passes exactly where the table's right lets it, in at most three loads.
-pub series-verdict : {s : Shape} {p : List ℕ} {b : Buffer} {x : Places} {h : History} → Series s p h → Watched s p b x → (d kind size a : ℕ)
-    → d < s .domains → a < addresses → x d a ≡ false → refusalOf s (length p) (b .next) d kind size a ≡ 0
+pub series-verdict : {s : Shape} {p : List ℕ} {b : Buffer} {x : Places} {h : History} → Series s p h → Watched s p b x
+    → (d kind size a : ℕ) → d < s .domains → a < addresses → x d a ≡ false
+    → refusalOf s (length p) (b .next) d kind size a ≡ 0
     → (n : ℕ) × (n ≤ 3) × (checkOf p s b d kind size a .verdict ≡ verdictOf kind (rightOf (formOf s) (words p) d a) n)
 series-verdict {s} {p} {b} {x} y w d kind size a hd ha z e =
     let o = series-holds y in
-    check-right p s x d kind size a z ha (found (sound-lookup p s d a (o .sound) (o .fits) hd)) b (watched-sees w .agrees) e
+    let six = found (sound-lookup p s d a (o .sound) (o .fits) hd) in
+    check-right p s x d kind size a z ha six b (watched-sees w .agrees) e
   where
-    found : (w : ℕ) × (n : ℕ) × (lookupOf p s d a ≡ Right (rightOf (formOf s) (words p) d a) w n) → lookupOf p s d a ≢ NotFound 6
-    found (w, n, q) c = let k : _≡_ {A = ℕ} 0 1 = cc in omega arith
+    found : (w : ℕ) × (n : ℕ) × (lookupOf p s d a ≡ Right (rightOf (formOf s) (words p) d a) w n)
+        → lookupOf p s d a ≢ NotFound 6
+    found (w, n, q) c = not-six (sym q ∙ c)

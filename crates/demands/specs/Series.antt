@@ -1,4 +1,5 @@
--- Series of changes and tidyings, from a fresh pool on, each of them finished, cut or refused; and which right a word may then have.
+-- Series of changes and tidyings, from a fresh pool on, each of them finished, cut or refused; which right a word may
+-- then have; and what there is room for.
 use Prim.Native.Nat.{ℕ, _<_}
 use mathlib.Core.Path.{_≡_}
 use mathlib.Core.Logic.{_⊎_}
@@ -14,9 +15,11 @@ use Rattle.table.specs.declared.Made.the-variants.{Done as Made}
 use Rattle.table.specs.Shape.{Fits}
 use Rattle.table.specs.Fresh.{MakesFresh}
 use Rattle.table.specs.Map.{addresses, formOf}
+use Rattle.places.specs.Count.{Room}
 use Rattle.change.specs.declared.Answer.{Answer}
 use Rattle.change.specs.declared.Answer.the-variants.{Done, Cut, Refused}
-use Rattle.change.specs.Answers.{Changes, Tidies}
+use Rattle.plan.specs.Aims.{aims}
+use Rattle.change.specs.Answers.{paintOf, Changes, Tidies}
 
 -- What has happened to a pool: it was made fresh; then changes and tidyings, each with what it answered.
 pub data History : Type 0 where
@@ -28,20 +31,21 @@ pub data History : Type 0 where
 abbrev pub Covers-it : (d start len e a : ℕ) → Type 0
 Covers-it d start len e a = (g : Region) × (regionOf start len ≡ Covers g) × (e ≡ d) × (covered g a ≡ true)
 
--- The right `x` is one that the address `a` of domain `e` may have: that of the last finished change that covers it (none: 0), or that of a
--- later one that was cut.
+-- The right `x` is one that the address `a` of domain `e` may have: that of the last finished change that covers it
+-- (none: 0), or that of a later one that was cut.
 abbrev pub May : History → ℕ → ℕ → ℕ → Type 0
 May made e a x = x ≡ 0
 May (tidied h c) e a x = May h e a x
 May (changed h d start len r (Refused k)) e a x = May h e a x
-May (changed h d start len r (Done k)) e a x = (Covers-it d start len e a × (x ≡ r)) ⊎ ((Covers-it d start len e a → ⊥) × May h e a x)
+May (changed h d start len r (Done k)) e a x =
+    (Covers-it d start len e a × (x ≡ r)) ⊎ ((Covers-it d start len e a → ⊥) × May h e a x)
 May (changed h d start len r Cut) e a x = (Covers-it d start len e a × (x ≡ r)) ⊎ May h e a x
 
 -- A series: the pool `p`, of one shape throughout, has this history.
 pub data Series (s : Shape) : List ℕ → History → Type 0 where
   fresh : {p q : List ℕ} → MakesFresh s p Made q → Series s q made
-  change : {p q : List ℕ} {h : History} {d start len r n : ℕ} {c : Answer} → Series s p h → Changes p s d start len r n c q
-      → Series s q (changed h d start len r c)
+  change : {p q : List ℕ} {h : History} {d start len r n : ℕ} {c : Answer} → Series s p h
+      → Changes p s d start len r n c q → Series s q (changed h d start len r c)
   tidy : {p q : List ℕ} {h : History} {n : ℕ} {c : Answer} → Series s p h → Tidies p s n c q → Series s q (tidied h c)
 
 -- What holds of the pool of every series.
@@ -49,3 +53,13 @@ pub record Holds (s : Shape) (p : List ℕ) (h : History) : Type 0 where
   pub fits : Fits s (length p)
   pub sound : SoundPool (formOf s) (words p)
   pub rights : (e a : ℕ) → e < s .domains → a < addresses → May h e a (rightOf (formOf s) (words p) e a)
+
+-- There is room for the rights that a change of the region `g` to the right `r` would leave.
+abbrev pub RoomFor : Shape → List ℕ → ℕ → Region → ℕ → Type 0
+RoomFor s p d g r = Room (s .domains) (s .middles) (s .leaves) (aims s d (paintOf g r) (words p))
+
+-- The answer is refused 8, and there is no room; or there is room, and it is done or cut.
+pub data ByRoom (s : Shape) (p : List ℕ) (d : ℕ) (g : Region) (r : ℕ) : Answer → Type 0 where
+  full : (RoomFor s p d g r → ⊥) → ByRoom s p d g r (Refused 8)
+  finishes : RoomFor s p d g r → (k : ℕ) → ByRoom s p d g r (Done k)
+  is-cut : RoomFor s p d g r → ByRoom s p d g r Cut

@@ -1,4 +1,5 @@
--- A buffer in use beside a table: the buffer was emptied, and since then there were checks, changes, tidyings and flushes, in any order.
+-- A buffer in use beside a table: the buffer was emptied, and since then there were checks, changes, tidyings and
+-- flushes, in any order.
 use Prim.Native.Nat.{ℕ}
 use mathlib.Core.List.{List}
 use Rattle.words.specs.Region.{regionOf}
@@ -14,6 +15,7 @@ use Rattle.lookaside.specs.Slots.{emptyBuffer}
 use Rattle.lookaside.specs.Check.{checkOf}
 use Rattle.lookaside.specs.Flushes.{flushedWhole, flushedDomain, flushedRegion}
 use Rattle.lookaside.specs.Agree.{Places, nowhere, within, clears, both, less}
+use Rattle.demands.specs.Series.{History, made as freshly, changed as after-change, tidied as after-tidying}
 
 -- The places of domain `d` in a region, as it was rounded; none where it was refused.
 abbrev pub placesOf : Rounded → ℕ → Places
@@ -26,16 +28,25 @@ altered (Done k) g d = placesOf g d
 altered Cut g d = placesOf g d
 altered (Refused k) g d = nowhere
 
--- The buffer `b` was emptied beside some pool and used since; the pool is now `p`, and the places `x` are stale: a change covered them, and no
--- flush has covered them since.
+-- The buffer `b` was emptied beside some pool and used since; the pool is now `p`, and the places `x` are stale: a
+-- change covered them, and no flush has covered them since.
 pub data Watched (s : Shape) : List ℕ → Buffer → Places → Type 0 where
   emptied : (p : List ℕ) → Watched s p emptyBuffer nowhere
-  checked : {p : List ℕ} {b : Buffer} {x : Places} → Watched s p b x → (d kind size a : ℕ) → Watched s p (checkOf p s b d kind size a .buffer) x
-  changed : {p q : List ℕ} {b : Buffer} {x : Places} {d start len r n : ℕ} {c : Answer} → Watched s p b x → Changes p s d start len r n c q
-      → Watched s q b (both x (altered c (regionOf start len) d))
-  tidied : {p q : List ℕ} {b : Buffer} {x : Places} {n : ℕ} {c : Answer} → Watched s p b x → Tidies p s n c q → Watched s q b x
-  flushed-all : {p : List ℕ} {b : Buffer} {x : Places} → Watched s p b x → Watched s p (flushedWhole b .buffer) (less x (clears Whole))
-  flushed-domain : {p : List ℕ} {b : Buffer} {x : Places} → Watched s p b x → (d : ℕ)
-      → Watched s p (flushedDomain b d .buffer) (less x (clears (OfDomain d)))
+  checked : {p : List ℕ} {b : Buffer} {x : Places} → Watched s p b x
+      → (d kind size a : ℕ) → Watched s p (checkOf p s b d kind size a .buffer) x
+  changed : {p q : List ℕ} {b : Buffer} {x : Places} {d start len r n : ℕ} {c : Answer} → Watched s p b x
+      → Changes p s d start len r n c q → Watched s q b (both x (altered c (regionOf start len) d))
+  tidied : {p q : List ℕ} {b : Buffer} {x : Places} {n : ℕ} {c : Answer}
+      → Watched s p b x → Tidies p s n c q → Watched s q b x
+  flushed-all : {p : List ℕ} {b : Buffer} {x : Places} → Watched s p b x
+      → Watched s p (flushedWhole b .buffer) (less x (clears Whole))
+  flushed-domain : {p : List ℕ} {b : Buffer} {x : Places} → Watched s p b x
+      → (d : ℕ) → Watched s p (flushedDomain b d .buffer) (less x (clears (OfDomain d)))
   flushed-region : {p : List ℕ} {b : Buffer} {x : Places} → Watched s p b x → (d start len : ℕ)
       → Watched s p (flushedRegion b d start len .buffer) (less x (placesOf (regionOf start len) d))
+
+-- What is stale in a buffer that was last emptied as the pool was made, and not flushed since.
+abbrev pub unflushed : History → Places
+unflushed freshly = nowhere
+unflushed (after-change h d start len r c) = both (unflushed h) (altered c (regionOf start len) d)
+unflushed (after-tidying h c) = unflushed h

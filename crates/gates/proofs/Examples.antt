@@ -16,7 +16,7 @@ use Rattle.gates.specs.declared.CallStack.{CallStack}
 use Rattle.gates.specs.declared.Stepped.{Stepped}
 use Rattle.gates.specs.declared.Stepped.the-variants.{Pass, Deny}
 use Rattle.gates.specs.Lists.{before, every}
-use Rattle.gates.specs.Gates.{noGate, held, gateIn, gateOf, placeRefusal, placed, setOf, removeOf}
+use Rattle.gates.specs.Gates.{noGate, held, gateIn, gateOf, placeRefusal, setAtPlace, setOf, removeOf}
 use Rattle.gates.specs.Steps.{numbers, noFrame, emptyStack, pushed, domainsKnown, stepRefusal, switchStep, givenBack, gateStep}
 
 abbrev at : ℕ → ByteAddr
@@ -35,11 +35,11 @@ four = gate 0 4096 (Switch 1) ∷ gate 1 8192 Return ∷ gate 0 4096 (Switch 2) 
 
 -- A new gate goes last, and one at an existing place in that place.
 goes-last : held (setOf 4 (holding four 2) 2 (at 64) Return .gates) ≡ gate 0 4096 (Switch 1) ∷ gate 1 8192 Return ∷ gate 2 64 Return ∷ []
-unfolding setOf placeRefusal placed before
+unfolding setOf placeRefusal setAtPlace before
 goes-last = refl
 
 replaces : held (setOf 4 (holding four 2) 0 (at 4096) (Switch 3) .gates) ≡ gate 0 4096 (Switch 3) ∷ gate 1 8192 Return ∷ []
-unfolding setOf placeRefusal placed before
+unfolding setOf placeRefusal setAtPlace before
 replaces = refl
 
 -- Of two gates at one place the earlier counts; without it the later one does.
@@ -65,7 +65,7 @@ setting-refuses :
     ∷ setOf 4 (holding four 64) 3 (at 4) (Switch 3) ∷ setOf 4 (holding four 64) 3 (at 4) (Switch 2) ∷ setOf 4 (holding four 63) 3 (at 4) (Switch 2)
     ∷ [])
     ≡ 1 ∷ 1 ∷ 18 ∷ 2 ∷ 2 ∷ 11 ∷ 14 ∷ 12 ∷ 0 ∷ []
-unfolding setOf placeRefusal placed before
+unfolding setOf placeRefusal setAtPlace before
 setting-refuses = refl
 
 -- Removing refuses in the order 1, 18, 2, 11, 13.

@@ -17,8 +17,9 @@ use Rattle.gates.specs.declared.GateAt.{GateAt}
 use Rattle.gates.specs.declared.Gates.{Gates}
 use Rattle.gates.specs.declared.Here.the-variants.{Nothing, Stands}
 use Rattle.gates.specs.Lists.{before, others, takeOut}
-use Rattle.gates.specs.Gates.{maxGates, held, standsAt, placeOf, gateIn, gateOf, leadsTo, placeRefusal, setRefused, setDone, stored, placed, setOf, without, removeOf}
-use Rattle.gates.proofs.ListLaws.{by-cases, both, none-refuses}
+use Rattle.gates.specs.Gates.{maxGates, held, standsAt, placeOf, gateIn, gateOf, leadsTo, placeRefusal, setRefused, setDone, stored, setAtPlace, setOf, without, removeOf}
+use Rattle.theory.proofs.Logic.{by-cases, and-both}
+use Rattle.gates.proofs.ListLaws.{none-refuses}
 
 -- Nothing is refused of a place: the set holds at most 64 gates.
 pub place-in-order : (D n d : ℕ) (x : Gate) (a : ℕ) → placeRefusal D n d x a ≡ 0 → n ≤ maxGates
@@ -30,7 +31,7 @@ place-in-order D n d x a e =
 
 stands : (x : GateAt) (d a : ℕ) → standsAt d a x ≡ true → (x .domain ≡ d) × (x .address .0 ≡ a)
 stands x d a e =
-    let (p, q) = both (eqb (x .domain) d) (eqb (x .address .0) a) e in
+    let (p, q) = and-both (eqb (x .domain) d) (eqb (x .address .0) a) e in
     (eqb-true (x .domain) d p, eqb-true (x .address .0) a q)
 
 module _ (d a : ℕ) where
@@ -112,20 +113,20 @@ module _ (D : ℕ) (G : Gates) (d : ℕ) (a : ByteAddr) (x : Gate) where
   set-refused h = rw (ne-eqb refusal 0 h)
 
   pub set-own : refusal ≡ 0 → leadsTo d x ≡ true → setOf D G d a x ≡ setRefused 14 G
-  unfolding setOf placed
+  unfolding setOf setAtPlace
   set-own h o = rw (eq-eqb refusal 0 h, o)
 
   pub set-replaces : refusal ≡ 0 → leadsTo d x ≡ false → place < G .count → setOf D G d a x ≡ setDone (stored G place new (G .count))
-  unfolding setOf placed
+  unfolding setOf setAtPlace
   set-replaces h o l = rw (eq-eqb refusal 0 h, o, lt-ltb place (G .count) l)
 
   pub set-full : refusal ≡ 0 → leadsTo d x ≡ false → G .count ≤ place → G .count ≡ maxGates → setOf D G d a x ≡ setRefused 12 G
-  unfolding setOf placed
+  unfolding setOf setAtPlace
   set-full h o l f = rw (eq-eqb refusal 0 h, o, le-ltb place (G .count) l, eq-eqb (G .count) maxGates f)
 
   pub set-adds : refusal ≡ 0 → leadsTo d x ≡ false → G .count ≤ place → (G .count ≡ maxGates → ⊥)
       → setOf D G d a x ≡ setDone (stored G (G .count) new (G .count + 1))
-  unfolding setOf placed
+  unfolding setOf setAtPlace
   set-adds h o l f = rw (eq-eqb refusal 0 h, o, le-ltb place (G .count) l, ne-eqb (G .count) maxGates f)
 
 -- The cases of removing a gate.

@@ -9,18 +9,11 @@ use native.Mathlib.Omega.{arith}
 use lib.ListN.{length, getD, take, drop, set, drop-of-length-le, take-append-drop, length-map}
 use lib.Seq.{drop-cons, getD-take, length-take-le, take-take, take-at, drop-at, take-set-lt, drop-set-lt}
 use Rattle.gates.specs.Lists.{before, every, others, takeOut}
+use Rattle.theory.proofs.Logic.{by-cases}
 
 -- What a field that is an array of structs tells of its list: `search (needs, unmapped)` finds that it has the array's length.
 pub unmapped : {X Y : Type 0} (f : X → Y) (l : List X) (n : ℕ) → length (map f l) ≡ n → length l ≡ n
 unmapped f l n p = sym (length-map l f) ∙ p
-
-pub by-cases : {A : Type 0} (b : Bool) → (b ≡ true → A) → (b ≡ false → A) → A
-by-cases true f g = f refl
-by-cases false f g = g refl
-
-pub both : (a b : Bool) → (a && b) ≡ true → (a ≡ true) × (b ≡ true)
-both true b e = (refl, e)
-both false b e = absurd (true≢false (sym e))
 
 pub neither : (a b : Bool) → (a || b) ≡ false → (a ≡ false) × (b ≡ false)
 neither true b e = absurd (true≢false e)

@@ -19,7 +19,8 @@ use Rattle.gates.specs.declared.GatesSet.{GatesSet}
 use Rattle.gates.specs.declared.Here.the-variants.{Stands}
 use Rattle.gates.specs.Lists.{others, takeOut}
 use Rattle.gates.specs.Gates.{maxGates, held, standsAt, placeOf, gateIn, gateOf, leadsTo, setRefused, setDone, stored, setOf, without, removeOf}
-use Rattle.gates.proofs.ListLaws.{by-cases, others-set, others-last, others-takeOut, take-closed, drop-closed}
+use Rattle.theory.proofs.Logic.{by-cases}
+use Rattle.gates.proofs.ListLaws.{others-set, others-last, others-takeOut, take-closed, drop-closed}
 use Rattle.gates.proofs.GateLaws.{refusal, new, place-in-order, held-long, gate-set, gate-last, gate-takeOut, gate-others, set-refused, set-own, set-replaces, set-full, set-adds, remove-refused, remove-missing, remove-takes-out}
 
 -- Setting a gate.

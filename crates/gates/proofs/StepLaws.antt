@@ -27,7 +27,8 @@ use Rattle.gates.specs.declared.Step.{Step}
 use Rattle.gates.specs.Gates.{maxGates, gateOf}
 use Rattle.gates.specs.Steps.{maxDepth, noFrame, inUse, top, pushed, popped, stepRefusal, stepRefused, verdict, fetchOf, onPass, switchStep, givenBack, gateStep, stepOf}
 use Rattle.gates.specs.Moves.{Moves, stays, calls, returns}
-use Rattle.gates.proofs.ListLaws.{by-cases, neither, none-refuses}
+use Rattle.theory.proofs.Logic.{by-cases}
+use Rattle.gates.proofs.ListLaws.{neither, none-refuses}
 
 -- Nothing is refused before the gate: the counts are in range.
 pub step-in-order : (n : ℕ) (s : Shape) (G : Gates) (k : CallStack) (a t : ℕ) → stepRefusal n s G k a t ≡ 0

@@ -79,8 +79,8 @@ stored G k g n = record { places = set (G .places) k g; count = n }
 
 -- Setting the gate `g` once its place is in order: 14 for a switch to its own domain; else in the place of the gate that stands there, else last,
 -- and 12 where 64 are present.
-unfoldable pub placed : Gates → GateAt → GatesSet
-placed G g =
+unfoldable pub setAtPlace : Gates → GateAt → GatesSet
+setAtPlace G g =
     let k = placeOf G (g .domain) (g .address .0) in
     cond (leadsTo (g .domain) (g .gate)) (setRefused 14 G)
     (cond (ltb k (G .count)) (setDone (stored G k g (G .count)))
@@ -91,7 +91,7 @@ placed G g =
 unfoldable pub setOf : ℕ → Gates → ℕ → ByteAddr → Gate → GatesSet
 setOf D G d a x =
     let n = placeRefusal D (G .count) d x (a .0) in
-    cond (eqb n 0) (placed G (record { domain = d; address = a; gate = x })) (setRefused n G)
+    cond (eqb n 0) (setAtPlace G (record { domain = d; address = a; gate = x })) (setRefused n G)
 
 -- The set without the gate of place `k`: later gates move down, and every place past the new count keeps what it held.
 abbrev pub without : Gates → ℕ → Gates

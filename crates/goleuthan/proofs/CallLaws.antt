@@ -18,7 +18,7 @@ use Rattle.gates.specs.declared.Step.{Step}
 use Rattle.gates.specs.Steps.{stepOf, numbers as stepNumbers}
 use Rattle.goleuthan.specs.Out.{outWith, wrongLength}
 use Rattle.goleuthan.specs.States.{bufferLong, bufferOf, bufferWords, gatesLong, gatesOf, gatesWords, stackLong, stackOf, stackWords}
-use Rattle.goleuthan.specs.StateCalls.{kept, back, verdictResults, checkCall, flushCall, gatesCall, stepResults, stepCall}
+use Rattle.goleuthan.specs.StateCalls.{stateAfter, back, verdictResults, checkCall, flushCall, gatesCall, stepResults, stepCall}
 
 module _ (p : List ℕ) (s : Shape) (ws : List ℕ) (d kind size a : ℕ) (out res : List ℕ) where
   pub check-wrong : (length ws ≡ bufferLong → ⊥) → res ≡ outWith (0 ∷ 0 ∷ []) out → back wrongLength ws res ≡ checkCall p s ws d kind size a out
@@ -40,24 +40,24 @@ module _ (p : List ℕ) (s : Shape) (ws : List ℕ) (d kind size a : ℕ) (out r
       check-made h (record { verdict = x .verdict; buffer = filledBy (bufferOf ws) (x .fill) }) (rw e (sym (check-decided p s (bufferOf ws) d kind size a))) n new en ew er
 
 module _ (f : Buffer → Flushed) (ws : List ℕ) where
-  pub flush-wrong : (length ws ≡ bufferLong → ⊥) → kept wrongLength ws ≡ flushCall f ws
+  pub flush-wrong : (length ws ≡ bufferLong → ⊥) → stateAfter wrongLength ws ≡ flushCall f ws
   unfolding flushCall
   flush-wrong h = rw (ne-eqb (length ws) bufferLong h)
 
   -- By the flush that was made.
   pub flush-made : length ws ≡ bufferLong → (r : Flushed) → r ≡ f (bufferOf ws) → (new : List ℕ) → new ≡ bufferWords (r .buffer)
-      → kept (r .refusal) new ≡ flushCall f ws
+      → stateAfter (r .refusal) new ≡ flushCall f ws
   unfolding flushCall
   flush-made h r e new ew = rw (ew, e, eq-eqb (length ws) bufferLong h)
 
 module _ (f : Gates → GatesSet) (ws : List ℕ) where
-  pub gates-wrong : (length ws ≡ gatesLong → ⊥) → kept wrongLength ws ≡ gatesCall f ws
+  pub gates-wrong : (length ws ≡ gatesLong → ⊥) → stateAfter wrongLength ws ≡ gatesCall f ws
   unfolding gatesCall
   gates-wrong h = rw (ne-eqb (length ws) gatesLong h)
 
   -- By the setting or removal that was made.
   pub gates-made : length ws ≡ gatesLong → (r : GatesSet) → r ≡ f (gatesOf ws) → (new : List ℕ) → new ≡ gatesWords (r .gates)
-      → kept (r .refusal) new ≡ gatesCall f ws
+      → stateAfter (r .refusal) new ≡ gatesCall f ws
   unfolding gatesCall
   gates-made h r e new ew = rw (ew, e, eq-eqb (length ws) gatesLong h)
 

@@ -16,7 +16,7 @@ use Rattle.gates.specs.declared.Gate.{Gate}
 use Rattle.gates.specs.declared.Gate.the-variants.{Switch, Return}
 use Rattle.gates.specs.declared.GateAt.{GateAt}
 use Rattle.gates.specs.declared.Gates.{Gates}
-use Rattle.gates.specs.Gates.{maxGates, noGate, placeOf, leadsBelow, leadsTo, placeRefusal, setRefused, setDone, stored, placed, setOf, without, removeOf}
+use Rattle.gates.specs.Gates.{maxGates, noGate, placeOf, leadsBelow, leadsTo, placeRefusal, setRefused, setDone, stored, setAtPlace, setOf, without, removeOf}
 use Rattle.gates.proofs.ListLaws.{both, none-refuses}
 use Rattle.goleuthan.specs.Rows.{rowsOf}
 use Rattle.goleuthan.specs.States.{returnWord, gateIn, gateAt, gatesOf, gatesWords}
@@ -93,8 +93,8 @@ stored-words : (G : Gates) (k : ℕ) (g : GateAt) (n : ℕ) → HasWords G → R
 stored-words G k g n h r =
     record { long = length-set (G .places) k g ∙ h .long; real = all-set RealAt (G .places) k g r (h .real) }
 
-placed-words : (G : Gates) (g : GateAt) → HasWords G → Real (g .gate) → HasWords (placed G g .gates)
-unfolding placed
+placed-words : (G : Gates) (g : GateAt) → HasWords G → Real (g .gate) → HasWords (setAtPlace G g .gates)
+unfolding setAtPlace
 placed-words G g h r =
     go (leadsTo (g .domain) (g .gate)) (ltb (placeOf G (g .domain) (g .address .0)) (G .count)) (eqb (G .count) maxGates)
   where
@@ -128,7 +128,7 @@ set-words D G d a x h = go (eqb n 0) refl
     n : ℕ
     n = placeRefusal D (G .count) d x (a .0)
 
-    go : (t : Bool) → eqb n 0 ≡ t → HasWords (cond t (placed G (record { domain = d; address = a; gate = x })) (setRefused n G) .gates)
+    go : (t : Bool) → eqb n 0 ≡ t → HasWords (cond t (setAtPlace G (record { domain = d; address = a; gate = x })) (setRefused n G) .gates)
     go true e = placed-words G (record { domain = d; address = a; gate = x }) h (in-order D (G .count) d x (a .0) (eqb-true n 0 e) .1)
     go false e = h
 

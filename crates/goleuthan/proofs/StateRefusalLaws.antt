@@ -38,7 +38,7 @@ use Rattle.gates.proofs.SetLaws.{set-refusal-keeps, remove-refusal-keeps}
 use Rattle.gates.proofs.StepLaws.{step-moves, moves-unless-pass}
 use Rattle.goleuthan.specs.Out.{outWith, wrongLength}
 use Rattle.goleuthan.specs.States.{bufferLong, bufferOf, bufferWords, gatesLong, gatesOf, gatesWords, stackLong, stackOf, stackWords}
-use Rattle.goleuthan.specs.StateCalls.{kept, Back, back, verdictResults, checkedBack, checkCall, flushedKept, flushCall, gatesKept, gatesCall, stepResults, steppedBack, stepCall}
+use Rattle.goleuthan.specs.StateCalls.{stateAfter, Back, back, verdictResults, checkedBack, checkCall, flushedKept, flushCall, gatesKept, gatesCall, stepResults, steppedBack, stepCall}
 use Rattle.goleuthan.proofs.StateLaws.{buffer-words, gates-words, stack-words}
 use Rattle.goleuthan.proofs.SaysLaws.{Flushes, refuses, empties}
 
@@ -95,7 +95,7 @@ pub flush-call-refused : (f : Buffer → Flushed) → ((b : Buffer) → Flushes 
 unfolding flushCall
 flush-call-refused f x ws = go (eqb (length ws) bufferLong) refl
   where
-    go : (t : Bool) → eqb (length ws) bufferLong ≡ t → let r = cond t (flushedKept (f (bufferOf ws))) (kept wrongLength ws) in r .number ≢ 0 → r .state ≡ ws
+    go : (t : Bool) → eqb (length ws) bufferLong ≡ t → let r = cond t (flushedKept (f (bufferOf ws))) (stateAfter wrongLength ws) in r .number ≢ 0 → r .state ≡ ws
     go true e h = ap bufferWords (flush-keeps (x (bufferOf ws)) h) ∙ buffer-words ws (eqb-true (length ws) bufferLong e)
     go false e h = refl
 
@@ -105,7 +105,7 @@ pub gates-call-refused : (f : Gates → GatesSet) → ((G : Gates) → 0 < f G .
 unfolding gatesCall
 gates-call-refused f x ws = go (eqb (length ws) gatesLong) refl
   where
-    go : (t : Bool) → eqb (length ws) gatesLong ≡ t → let r = cond t (gatesKept (f (gatesOf ws))) (kept wrongLength ws) in r .number ≢ 0 → r .state ≡ ws
+    go : (t : Bool) → eqb (length ws) gatesLong ≡ t → let r = cond t (gatesKept (f (gatesOf ws))) (stateAfter wrongLength ws) in r .number ≢ 0 → r .state ≡ ws
     go true e h = ap gatesWords (x (gatesOf ws) (omega arith)) ∙ gates-words ws (eqb-true (length ws) gatesLong e)
     go false e h = refl
 

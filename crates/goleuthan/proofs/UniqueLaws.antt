@@ -16,7 +16,7 @@ use Rattle.listing.specs.Listing.{numbers as listedNumbers}
 use Rattle.listing.proofs.ListingLaws.{one-listing}
 use Rattle.goleuthan.specs.Out.{outWith}
 use Rattle.goleuthan.specs.Calls.{answerNumber, foundResults, answerResults, listedResults, FreshCall, LookupCall, ChangeCall, TidyCall, ListCall}
-use Rattle.goleuthan.specs.StateCalls.{Back, Kept, back, kept}
+use Rattle.goleuthan.specs.StateCalls.{Back, StateAfter, back, stateAfter}
 
 module _ {p : List ℕ} {s : Shape} where
   pub one-fresh-call : {m n : ℕ} {q r : List ℕ} → FreshCall p s m q → FreshCall p s n r → (m ≡ n) × (q ≡ r)
@@ -62,5 +62,5 @@ pub one-back : {c : Back} {m n : ℕ} {q r t u : List ℕ} → back m q t ≡ c 
 one-back x y = let e = x ∙ sym y in (ap (λ b. b .number) e, ap (λ b. b .state) e, ap (λ b. b .out) e)
 
 -- A flush, or the setting or removing of a gate.
-pub one-kept : {c : Kept} {m n : ℕ} {q r : List ℕ} → kept m q ≡ c → kept n r ≡ c → (m ≡ n) × (q ≡ r)
+pub one-kept : {c : StateAfter} {m n : ℕ} {q r : List ℕ} → stateAfter m q ≡ c → stateAfter n r ≡ c → (m ≡ n) × (q ≡ r)
 one-kept x y = let e = x ∙ sym y in (ap (λ b. b .number) e, ap (λ b. b .state) e)

@@ -23,12 +23,12 @@ use Rattle.goleuthan.specs.Out.{outWith, wrongLength}
 use Rattle.goleuthan.specs.States.{bufferLong, gatesLong, stackLong, bufferOf, bufferWords, gatesOf, gatesWords, stackOf, stackWords}
 
 -- What a call on a state leaves: the number, and the words of the state.
-pub record Kept : Type 0 where
+pub record StateAfter : Type 0 where
   pub number : ℕ
   pub state : List ℕ
 
-abbrev pub kept : ℕ → List ℕ → Kept
-kept n ws = record { number = n; state = ws }
+abbrev pub stateAfter : ℕ → List ℕ → StateAfter
+stateAfter n ws = record { number = n; state = ws }
 
 -- The same with the words of `out`.
 pub record Back : Type 0 where
@@ -54,43 +54,43 @@ checkCall p s ws d kind size a out =
     (back wrongLength ws (outWith (0 ∷ 0 ∷ []) out))
 
 -- A flush that was made, as words.
-abbrev pub flushedKept : Flushed → Kept
-flushedKept f = kept (f .refusal) (bufferWords (f .buffer))
+abbrev pub flushedKept : Flushed → StateAfter
+flushedKept f = stateAfter (f .refusal) (bufferWords (f .buffer))
 
 -- What a flush gives back, of the buffer's words `ws`, by what it leaves of a buffer.
-unfoldable pub flushCall : (Buffer → Flushed) → List ℕ → Kept
-flushCall f ws = cond (eqb (length ws) bufferLong) (flushedKept (f (bufferOf ws))) (kept wrongLength ws)
+unfoldable pub flushCall : (Buffer → Flushed) → List ℕ → StateAfter
+flushCall f ws = cond (eqb (length ws) bufferLong) (flushedKept (f (bufferOf ws))) (stateAfter wrongLength ws)
 
 -- What gol_flush_all gives back.
-abbrev pub flushAllCall : List ℕ → Kept
+abbrev pub flushAllCall : List ℕ → StateAfter
 flushAllCall ws = flushCall flushedWhole ws
 
 -- What gol_flush_domain gives back.
-abbrev pub flushDomainCall : List ℕ → ℕ → Kept
+abbrev pub flushDomainCall : List ℕ → ℕ → StateAfter
 flushDomainCall ws d = flushCall (λ b. flushedDomain b d) ws
 
 -- What gol_flush_region gives back.
-abbrev pub flushRegionCall : List ℕ → ℕ → ℕ → ℕ → Kept
+abbrev pub flushRegionCall : List ℕ → ℕ → ℕ → ℕ → StateAfter
 flushRegionCall ws d start len = flushCall (λ b. flushedRegion b d start len) ws
 
 -- A gate set or removed, as words.
-abbrev pub gatesKept : GatesSet → Kept
-gatesKept r = kept (r .refusal) (gatesWords (r .gates))
+abbrev pub gatesKept : GatesSet → StateAfter
+gatesKept r = stateAfter (r .refusal) (gatesWords (r .gates))
 
 -- What setting or removing a gate gives back, of the set's words `ws`, by what it leaves of a set.
-unfoldable pub gatesCall : (Gates → GatesSet) → List ℕ → Kept
-gatesCall f ws = cond (eqb (length ws) gatesLong) (gatesKept (f (gatesOf ws))) (kept wrongLength ws)
+unfoldable pub gatesCall : (Gates → GatesSet) → List ℕ → StateAfter
+gatesCall f ws = cond (eqb (length ws) gatesLong) (gatesKept (f (gatesOf ws))) (stateAfter wrongLength ws)
 
 -- What gol_set_switch_gate gives back.
-abbrev pub setSwitchCall : ℕ → List ℕ → ℕ → ℕ → ℕ → Kept
+abbrev pub setSwitchCall : ℕ → List ℕ → ℕ → ℕ → ℕ → StateAfter
 setSwitchCall D ws d a e = gatesCall (λ G. setOf D G d (record { 0 = a }) (Switch e)) ws
 
 -- What gol_set_return_gate gives back.
-abbrev pub setReturnCall : ℕ → List ℕ → ℕ → ℕ → Kept
+abbrev pub setReturnCall : ℕ → List ℕ → ℕ → ℕ → StateAfter
 setReturnCall D ws d a = gatesCall (λ G. setOf D G d (record { 0 = a }) Return) ws
 
 -- What gol_remove_gate gives back.
-abbrev pub removeCall : ℕ → List ℕ → ℕ → ℕ → Kept
+abbrev pub removeCall : ℕ → List ℕ → ℕ → ℕ → StateAfter
 removeCall D ws d a = gatesCall (λ G. removeOf D G d (record { 0 = a })) ws
 
 -- The result word of a step: the verdict.

@@ -4,7 +4,7 @@ mod results;
 mod states;
 
 ghost use mathlib.Core.Path.{_≡_};
-ghost use Rattle.goleuthan.specs.StateCalls.{back, kept, checkCall, flushAllCall, flushDomainCall, flushRegionCall, setSwitchCall, setReturnCall, removeCall, stepCall};
+ghost use Rattle.goleuthan.specs.StateCalls.{back, stateAfter, checkCall, flushAllCall, flushDomainCall, flushRegionCall, setSwitchCall, setReturnCall, removeCall, stepCall};
 ghost use Rattle.goleuthan.specs.Calls.{shapeOf, FreshCall, LookupCall, ChangeCall, TidyCall, ListCall};
 use gates::Gate;
 use table::Shape;
@@ -157,7 +157,7 @@ pub extern "C" fn gol_check(
 // Empties every slot of a buffer.
 #[no_mangle]
 pub extern "C" fn gol_flush_all(buffer: &mut [u32]) -> u32
-    ensures { λ r. ⌜ kept r (now (buffer .exit)) ≡ flushAllCall (now (buffer .entry)) ⌝ }
+    ensures { λ r. ⌜ stateAfter r (now (buffer .exit)) ≡ flushAllCall (now (buffer .entry)) ⌝ }
 {
     if buffer.len() != states::BUFFER_WORDS {
         return WRONG_LENGTH;
@@ -172,7 +172,7 @@ pub extern "C" fn gol_flush_all(buffer: &mut [u32]) -> u32
 // Empties the slots of a domain.
 #[no_mangle]
 pub extern "C" fn gol_flush_domain(buffer: &mut [u32], domain: u32) -> u32
-    ensures { λ r. ⌜ kept r (now (buffer .exit)) ≡ flushDomainCall (now (buffer .entry)) domain ⌝ }
+    ensures { λ r. ⌜ stateAfter r (now (buffer .exit)) ≡ flushDomainCall (now (buffer .entry)) domain ⌝ }
 {
     if buffer.len() != states::BUFFER_WORDS {
         return WRONG_LENGTH;
@@ -187,7 +187,7 @@ pub extern "C" fn gol_flush_domain(buffer: &mut [u32], domain: u32) -> u32
 // Empties the slots of a domain whose block meets a region.
 #[no_mangle]
 pub extern "C" fn gol_flush_region(buffer: &mut [u32], domain: u32, start: u32, length: u32) -> u32
-    ensures { λ r. ⌜ kept r (now (buffer .exit)) ≡ flushRegionCall (now (buffer .entry)) domain start length ⌝ }
+    ensures { λ r. ⌜ stateAfter r (now (buffer .exit)) ≡ flushRegionCall (now (buffer .entry)) domain start length ⌝ }
 {
     if buffer.len() != states::BUFFER_WORDS {
         return WRONG_LENGTH;
@@ -209,7 +209,7 @@ pub extern "C" fn gol_set_switch_gate(
     address: u32,
     destination: u32,
 ) -> u32
-    ensures { λ r. ⌜ kept r (now (gates .exit)) ≡ setSwitchCall d (now (gates .entry)) domain address destination ⌝ }
+    ensures { λ r. ⌜ stateAfter r (now (gates .exit)) ≡ setSwitchCall d (now (gates .entry)) domain address destination ⌝ }
 {
     if gates.len() != states::GATES_WORDS {
         return WRONG_LENGTH;
@@ -226,7 +226,7 @@ pub extern "C" fn gol_set_switch_gate(
 // Sets a return gate.
 #[no_mangle]
 pub extern "C" fn gol_set_return_gate(d: u32, gates: &mut [u32], domain: u32, address: u32) -> u32
-    ensures { λ r. ⌜ kept r (now (gates .exit)) ≡ setReturnCall d (now (gates .entry)) domain address ⌝ }
+    ensures { λ r. ⌜ stateAfter r (now (gates .exit)) ≡ setReturnCall d (now (gates .entry)) domain address ⌝ }
 {
     if gates.len() != states::GATES_WORDS {
         return WRONG_LENGTH;
@@ -243,7 +243,7 @@ pub extern "C" fn gol_set_return_gate(d: u32, gates: &mut [u32], domain: u32, ad
 // Removes a gate.
 #[no_mangle]
 pub extern "C" fn gol_remove_gate(d: u32, gates: &mut [u32], domain: u32, address: u32) -> u32
-    ensures { λ r. ⌜ kept r (now (gates .exit)) ≡ removeCall d (now (gates .entry)) domain address ⌝ }
+    ensures { λ r. ⌜ stateAfter r (now (gates .exit)) ≡ removeCall d (now (gates .entry)) domain address ⌝ }
 {
     if gates.len() != states::GATES_WORDS {
         return WRONG_LENGTH;

@@ -17,11 +17,11 @@ use Rattle.table.specs.Map.{part, parts, size, index, formOf}
 use Rattle.table.specs.Wants.{wordsIn}
 use Rattle.table.specs.Entries.{decodeOf}
 use Rattle.table.proofs.BlockLaws.{first-word}
-use Rattle.census.proofs.ReadableLaws.{Readable, sound-readable, reached-not-bad, reached-rights-right, reached-leads}
+use Rattle.census.proofs.ReadableLaws.{Walkable, sound-readable, reached-not-bad, reached-rights-right, reached-leads}
 use Rattle.listing.specs.declared.Level.{Level}
 use Rattle.listing.specs.Runs.{memoryWords}
 use Rattle.listing.specs.Sheets.{Sheet, feed, fed}
-use Rattle.listing.specs.Levels.{blockWords, tableWords, levelOf, sameOf, said, entryRight, tableRight, EntryAt, TableAt}
+use Rattle.listing.specs.Levels.{blockWords, tableWords, levelOf, sameOf, entrySays, entryRight, tableRight, EntryAt, TableAt}
 use Rattle.listing.proofs.SheetLaws.{fed-alike, fed-same, Along, along-next, room}
 
 -- The numbers of a height.
@@ -100,24 +100,24 @@ index-at (suc zero) a i j e b lo hi = omega arith
 index-at (suc (suc h)) a i j e b lo hi = omega arith
 
 -- An entry that says one right for its whole block.
-same-said : (h w j : ℕ) → w ≡ sameOf h (rightAt w 0) → said h w j ≡ rightAt w 0
+same-said : (h w j : ℕ) → w ≡ sameOf h (rightAt w 0) → entrySays h w j ≡ rightAt w 0
 same-said zero w j e = ap (λ v. rightAt v (4 * j / 4 % 16)) e ∙ sixteen-right (rightAt w 0) (4 * j / 4 % 16) (right-small w 0) (omega arith)
 same-said (suc h) w j e =
     let f = simp (ne-eqb (suc h) 0 (λ z. omega arith)) at e in
     ap (λ v. rightAt v (4 * j / part (suc h) % 8)) f ∙ eight-right (rightAt w 0) (4 * j / part (suc h) % 8) (right-small w 0) (omega arith)
 
 -- .. is fed at once.
-pub same-fed : (h w a : ℕ) (s : Sheet) → w ≡ sameOf h (rightAt w 0) → fed (blockWords h) (said h w) a s ≡ feed (rightAt w 0) a s
-same-fed h w a s e = fed-same (blockWords h) (rightAt w 0) (said h w) a s (block-some h) (λ j lo hi. same-said h w j e)
+pub same-fed : (h w a : ℕ) (s : Sheet) → w ≡ sameOf h (rightAt w 0) → fed (blockWords h) (entrySays h w) a s ≡ feed (rightAt w 0) a s
+same-fed h w a s e = fed-same (blockWords h) (rightAt w 0) (entrySays h w) a s (block-some h) (λ j lo hi. same-said h w j e)
 
 -- One part of an entry further.
 pub part-next : (h w a : ℕ) (v : Level) (s₀ : Sheet) (i : ℕ) (s t : Sheet) → v ≡ levelOf h → a % blockWords h ≡ 0
-    → Along (said h w) (v .parts) (v .step) a s₀ i s → i < v .parts → t ≡ feed (rightAt w i) (a + i * v .step) s
-    → Along (said h w) (v .parts) (v .step) a s₀ (i + 1) t
+    → Along (entrySays h w) (v .parts) (v .step) a s₀ i s → i < v .parts → t ≡ feed (rightAt w i) (a + i * v .step) s
+    → Along (entrySays h w) (v .parts) (v .step) a s₀ (i + 1) t
 part-next h w a v s₀ i s t e al l b k =
     let en = level-parts h v e in
     let eu = level-step h v e in
-    along-next (said h w) (λ j. rightAt w i) (v .parts) (v .step) a s₀ i s t l b
+    along-next (entrySays h w) (λ j. rightAt w i) (v .parts) (v .step) a s₀ i s t l b
     (λ j lo hi. ap (rightAt w) (sym (part-at h a i j al (rw en at b) (rw eu at lo) (rw eu at hi))))
     (k ∙ sym (fed-same (v .step) (rightAt w i) (λ j. rightAt w i) (a + i * v .step) s (rw eu (first-word h)) (λ j lo hi. refl)))
 
@@ -139,7 +139,7 @@ same-rights : {w x : ℕ} → Rights w ≡ Rights x → w ≡ x
 same-rights e = cc
 
 module _ (p : List ℕ) (s : Shape) where
-  readable : {h k a : ℕ} → EntryAt p s h k a → Readable p s
+  readable : {h k a : ℕ} → EntryAt p s h k a → Walkable p s
   readable x = sound-readable p s (x .fits) (x .sound)
 
   pub entry-low : {h k a : ℕ} → EntryAt p s h k a → h ≤ 2
@@ -154,9 +154,9 @@ module _ (p : List ℕ) (s : Shape) where
   entry-not-bad (suc h) k a x e = reached-not-bad p s (readable x) (x .reached) (omega arith) e
 
   -- its rights are those that it says,
-  entry-said : (h k a w : ℕ) → EntryAt p s h k a → decodeOf s h (words p k) ≡ Rights w → (j : ℕ) → entryRight s p h k j ≡ said h w j
+  entry-said : (h k a w : ℕ) → EntryAt p s h k a → decodeOf s h (words p k) ≡ Rights w → (j : ℕ) → entryRight s p h k j ≡ entrySays h w j
   unfolding right
-  entry-said zero k a w x e j = ap (λ v. said zero v j) (same-rights e)
+  entry-said zero k a w x e j = ap (λ v. entrySays zero v j) (same-rights e)
   entry-said (suc h) k a w x e j = reached-rights-right p s (readable x) (x .reached) (omega arith) (4 * j) e
 
   -- and it leads to a table for the same words.
@@ -182,8 +182,8 @@ module _ (p : List ℕ) (s : Shape) where
 
   -- So the words of an entry are fed by its rights, or by the table that it leads to.
   pub rights-fed : (h k a w : ℕ) (u : Sheet) → EntryAt p s h k a → decodeOf s h (words p k) ≡ Rights w
-      → fed (blockWords h) (said h w) a u ≡ fed (blockWords h) (entryRight s p h k) a u
-  rights-fed h k a w u x e = fed-alike (blockWords h) (said h w) (entryRight s p h k) a u (λ j lo hi. sym (entry-said h k a w x e j))
+      → fed (blockWords h) (entrySays h w) a u ≡ fed (blockWords h) (entryRight s p h k) a u
+  rights-fed h k a w u x e = fed-alike (blockWords h) (entrySays h w) (entryRight s p h k) a u (λ j lo hi. sym (entry-said h k a w x e j))
 
   pub leads-fed : (h k a n : ℕ) (t : PoolWord) (u : Sheet) → EntryAt p s h k a → decodeOf s h (words p k) ≡ Leads t n
       → fed (tableWords (h - 1)) (tableRight s p (h - 1) (t .0)) a u ≡ fed (blockWords h) (entryRight s p h k) a u

@@ -18,7 +18,7 @@ use Rattle.listing.specs.declared.Listed.{Listed}
 use Rattle.listing.specs.declared.Listed.the-variants.{Runs}
 use Rattle.listing.specs.Runs.{memoryWords, shown}
 use Rattle.listing.specs.Scan.{Scan, openRun, ended, next, scan, runsOf, listingOf}
-use Rattle.listing.specs.Sheets.{put, written, Sheet, sheet, counted, closed, opened, feed, fed, OpenAt, opening, Count, countOf}
+use Rattle.listing.specs.Sheets.{putRun, written, Sheet, sheet, counted, closed, opened, feed, fed, OpenAt, opening, Count, countOf}
 use Rattle.listing.specs.Listing.{wordRight, Lists, no-shape, unsound, listed}
 use Rattle.listing.proofs.RunLaws.{one-all-runs}
 use Rattle.listing.proofs.ScanLaws.{listing-all}
@@ -27,12 +27,12 @@ use Rattle.listing.proofs.SheetLaws.{open-fed}
 
 -- One run more is written after the others.
 written-more : (from n : ℕ) (rs : List Run) (r : Run) (l : List ℕ)
-    → written from n (rs ++ r ∷ []) l ≡ put from (n + length rs) r (written from n rs l)
+    → written from n (rs ++ r ∷ []) l ≡ putRun from (n + length rs) r (written from n rs l)
 unfolding written
 written-more from n [] r l = rw add-zero
 written-more from n (x ∷ rs) r l =
     let e : n + 1 + length rs ≡ n + length (x ∷ rs) = omega arith in
-    rw (← e) (written-more from (n + 1) rs r (put from n x l))
+    rw (← e) (written-more from (n + 1) rs r (putRun from n x l))
 
 -- Domain `d`, after the runs `rs` of earlier ones.
 module _ (d from : ℕ) (rs : List Run) (l : List ℕ) where
@@ -42,7 +42,7 @@ module _ (d from : ℕ) (rs : List Run) (l : List ℕ) where
       sheet (record { domain = d; right = s .right; first = s .first; count = length (rs ++ s .done); from = from })
       (written from 0 (rs ++ s .done) l)
 
-  more : (done : List Run) (r : Run) → written from 0 (rs ++ (done ++ r ∷ [])) l ≡ put from (length (rs ++ done)) r (written from 0 (rs ++ done) l)
+  more : (done : List Run) (r : Run) → written from 0 (rs ++ (done ++ r ∷ [])) l ≡ putRun from (length (rs ++ done)) r (written from 0 (rs ++ done) l)
   more done r = rw (← append-assoc rs done (r ∷ [])) (written-more from 0 (rs ++ done) r l ∙ rw (zero-add (length (rs ++ done))))
 
   long : (done : List Run) (r : Run) → length (rs ++ (done ++ r ∷ [])) ≡ length (rs ++ done) + 1
@@ -54,7 +54,7 @@ module _ (d from : ℕ) (rs : List Run) (l : List ℕ) where
     where
       go : (t : Bool)
           → cond t (sheetAt s) (sheet (counted (sheetAt s .run) (length (rs ++ s .done) + 1))
-          (put from (length (rs ++ s .done)) (openRun d at s) (written from 0 (rs ++ s .done) l)))
+          (putRun from (length (rs ++ s .done)) (openRun d at s) (written from 0 (rs ++ s .done) l)))
           ≡ sheetAt (record { right = s .right; first = s .first; done = cond t (s .done) (s .done ++ openRun d at s ∷ []) })
       go true = refl
       go false = rw (long (s .done) (openRun d at s), more (s .done) (openRun d at s))

@@ -5,7 +5,7 @@ use mathlib.Core.Path.{_≡_, refl, sym, ap, _∙_}
 use mathlib.Core.Logic.{_⊎_, inl, inr, ⊎-elim, _≢_}
 use mathlib.Core.List.{List, [], _∷_}
 use Rattle.listing.specs.declared.Run.{Run}
-use Rattle.listing.specs.Runs.{Each, Some, Has, IsRun, Before, Rising, AllRuns}
+use Rattle.listing.specs.Runs.{Each, Some, Has, IsRun, RunBefore, Rising, AllRuns}
 use Rattle.listing.proofs.RunLaws.{each-map, pick-some}
 
 -- The word before a run, if there is one, has another right, and so has the word after it.
@@ -24,7 +24,7 @@ module _ (D n : ℕ) (R : ℕ → ℕ → ℕ) where
     other : Run
     is : IsRun D n R other
     has : Has d w other
-    apart : (other ≡ r) ⊎ (Before r other ⊎ Before other r)
+    apart : (other ≡ r) ⊎ (RunBefore r other ⊎ RunBefore other r)
 
   beside : (rs : List Run) → Each (IsRun D n R) rs → Rising rs → Each (λ r. (d w : ℕ) → Some (Has d w) rs → Beside r d w) rs
   unfolding Each Rising Some
@@ -33,12 +33,12 @@ module _ (D n : ℕ) (R : ℕ → ℕ → ℕ) where
     λ d w s. ⊎-elim
         (λ h. record { other = x; is = e .0; has = h; apart = inl refl })
         (λ q.
-        let (u, i, b, h) = pick-some (IsRun D n R) (Before x) (Has d w) rs (e .1) (o .0) q in
+        let (u, i, b, h) = pick-some (IsRun D n R) (RunBefore x) (Has d w) rs (e .1) (o .0) q in
         record { other = u; is = i; has = h; apart = inr (inl b) })
         s,
-    each-map (λ r. Before x r × ((d w : ℕ) → Some (Has d w) rs → Beside r d w)) (λ r. (d w : ℕ) → Some (Has d w) (x ∷ rs) → Beside r d w) rs
+    each-map (λ r. RunBefore x r × ((d w : ℕ) → Some (Has d w) rs → Beside r d w)) (λ r. (d w : ℕ) → Some (Has d w) (x ∷ rs) → Beside r d w) rs
         (λ r (b, f) d w s. ⊎-elim (λ h. record { other = x; is = e .0; has = h; apart = inr (inr b) }) (λ q. f d w q) s)
-        (each-both (Before x) (λ r. (d w : ℕ) → Some (Has d w) rs → Beside r d w) rs (o .0) (beside rs (e .1) (o .1))),
+        (each-both (RunBefore x) (λ r. (d w : ℕ) → Some (Has d w) rs → Beside r d w) rs (o .0) (beside rs (e .1) (o .1))),
   )
 
   module _ (r : Run) (x : IsRun D n R r) where

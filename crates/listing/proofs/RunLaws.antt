@@ -6,7 +6,7 @@ use mathlib.Core.Path.{_≡_, refl, sym, ap, _∙_}
 use mathlib.Core.Logic.{_⊎_, inl, inr, ⊎-elim, _≢_}
 use mathlib.Core.List.{List, [], _∷_, _++_}
 use Rattle.listing.specs.declared.Run.{Run}
-use Rattle.listing.specs.Runs.{Each, Some, Has, IsRun, Before, Rising, AllRuns}
+use Rattle.listing.specs.Runs.{Each, Some, Has, IsRun, RunBefore, Rising, AllRuns}
 
 pub lt-or-ge : (a b : ℕ) → (a < b) ⊎ (b ≤ a)
 lt-or-ge a b = elim (decLt a b) [
@@ -44,10 +44,10 @@ pub some-one : (P : Run → Type 0) (r : Run) → P r → Some P (r ∷ [])
 unfolding Some
 some-one P r p = inl p
 
-pub rising-append : (rs ts : List Run) → Rising rs → Rising ts → Each (λ r. Each (Before r) ts) rs → Rising (rs ++ ts)
+pub rising-append : (rs ts : List Run) → Rising rs → Rising ts → Each (λ r. Each (RunBefore r) ts) rs → Rising (rs ++ ts)
 unfolding Rising Each
 rising-append [] ts p q e = q
-rising-append (x ∷ rs) ts p q e = (each-append (Before x) rs ts (p .0) (e .0), rising-append rs ts (p .1) q (e .1))
+rising-append (x ∷ rs) ts p q e = (each-append (RunBefore x) rs ts (p .0) (e .0), rising-append rs ts (p .1) q (e .1))
 
 pub rising-one : (r : Run) → Rising (r ∷ [])
 unfolding Rising Each
@@ -104,7 +104,7 @@ module _ (D n : ℕ) (R : ℕ → ℕ → ℕ) where
       ⊎-elim
       (λ h. inr (h .domain, h .from))
       (λ q.
-      let (u, x, y, h) = pick-some (IsRun D n R) (Before r) (Has d w) rs (e .1) (o .0) q in
+      let (u, x, y, h) = pick-some (IsRun D n R) (RunBefore r) (Has d w) rs (e .1) (o .0) q in
       ⊎-elim (λ l. inl (omega (arith, h .domain))) (λ (l, m, _). inr (l ∙ h .domain, omega (arith, e .0 .some, h .from))) y)
       s
 
@@ -136,7 +136,7 @@ module _ (D n : ℕ) (R : ℕ → ℕ → ℕ) where
             ⊎-elim
             (λ k. omega (arith, k .upto))
             (λ q.
-            let (u, i, j, k) = pick-some (IsRun D n R) (Before r) (Has (r .domain) (r .past)) rs (g .each .1) (g .order .0) q in
+            let (u, i, j, k) = pick-some (IsRun D n R) (RunBefore r) (Has (r .domain) (r .past)) rs (g .each .1) (g .order .0) q in
             ⊎-elim
             (λ l. omega (arith, k .domain))
             (λ (l, m, o). o (omega (arith, k .from))
@@ -149,7 +149,7 @@ module _ (D n : ℕ) (R : ℕ → ℕ → ℕ) where
     rest = record {
       each = g .each .1;
       order = g .order .1;
-      after = each-map (Before r) (λ t. After (r .domain) (r .past) (t .domain) (t .first)) rs
+      after = each-map (RunBefore r) (λ t. After (r .domain) (r .past) (t .domain) (t .first)) rs
           (λ t y. ⊎-elim (λ l. inl l) (λ (l, m, _). inr (l, m)) y) (g .order .0);
       whole = λ d w y hd hw hr.
           let z = after-join (g .after .0) (after-join (inr (refl, omega (arith, g .each .0 .some))) y) in

@@ -8,7 +8,7 @@ use mathlib.Core.List.{List, [], _∷_, _++_}
 use lib.Dec.{eqb}
 use borrow.Author.Tests.{eqb-true, eqb-false}
 use Rattle.listing.specs.declared.Run.{Run}
-use Rattle.listing.specs.Runs.{Each, Some, Has, IsRun, Before, Rising, AllRuns}
+use Rattle.listing.specs.Runs.{Each, Some, Has, IsRun, RunBefore, Rising, AllRuns}
 use Rattle.listing.specs.Scan.{Scan, openRun, ended, next, scan, runsOf, listingOf}
 use Rattle.listing.proofs.RunLaws.{lt-or-ge, each-map, each-append, each-one, some-left, some-right, some-one, rising-append, rising-one}
 
@@ -26,8 +26,8 @@ among-append lo mid hi n R rs ts b c g h = record {
   low = each-append (λ r. lo ≤ r .domain) rs ts (g .low) (each-map (λ r. mid ≤ r .domain) (λ r. lo ≤ r .domain) ts (λ r x. omega arith) (h .low));
   each = each-append (IsRun hi n R) rs ts (each-map (IsRun mid n R) (IsRun hi n R) rs wider (g .each)) (h .each);
   order = rising-append rs ts (g .order) (h .order)
-      (each-map (IsRun mid n R) (λ r. Each (Before r) ts) rs
-      (λ r x. each-map (λ t. mid ≤ t .domain) (Before r) ts (λ t y. inl (omega (arith, x .domain))) (h .low)) (g .each));
+      (each-map (IsRun mid n R) (λ r. Each (RunBefore r) ts) rs
+      (λ r x. each-map (λ t. mid ≤ t .domain) (RunBefore r) ts (λ t y. inl (omega (arith, x .domain))) (h .low)) (g .each));
   whole = λ d w l u m z. ⊎-elim
       (λ q. some-left (Has d w) rs ts (g .whole d w l q m z))
       (λ q. some-right (Has d w) rs ts (h .whole d w q u m z))
@@ -58,7 +58,7 @@ module _ (d : ℕ) (R : ℕ → ℕ → ℕ) where
     one : (j : ℕ) → s .first ≤ j → j < n → R d j ≡ s .right
     each : Each (Shut (s .first)) (s .done)
     order : Rising (s .done)
-    before : Each (λ r. Before r (openRun d n s)) (s .done)
+    before : Each (λ r. RunBefore r (openRun d n s)) (s .done)
     whole : (j : ℕ) → j < s .first → R d j ≢ 0 → Some (Has d j) (s .done)
 
   -- The closed runs after `n` words.
@@ -93,8 +93,8 @@ module _ (d : ℕ) (R : ℕ → ℕ → ℕ) where
         go false h = record {
           each = each-append (Shut n) (s .done) (openRun d n s ∷ []) earlier (each-one (Shut n) (openRun d n s) (open-shut (eqb-false _ _ h)));
           order = rising-append (s .done) (openRun d n s ∷ []) (g .order) (rising-one (openRun d n s))
-              (each-map (λ r. Before r (openRun d n s)) (λ r. Each (Before r) (openRun d n s ∷ [])) (s .done)
-              (λ r x. each-one (Before r) (openRun d n s) x) (g .before));
+              (each-map (λ r. RunBefore r (openRun d n s)) (λ r. Each (RunBefore r) (openRun d n s ∷ [])) (s .done)
+              (λ r x. each-one (RunBefore r) (openRun d n s) x) (g .before));
           whole = λ j k m. ⊎-elim
               (λ q. some-left (Has d j) (s .done) (openRun d n s ∷ []) (g .whole j q m))
               (λ q. some-right (Has d j) (s .done) (openRun d n s ∷ [])
@@ -103,11 +103,11 @@ module _ (d : ℕ) (R : ℕ → ℕ → ℕ) where
         }
 
     -- What is closed comes before a run that opens at word `n` with another right.
-    ended-before : (t : Run) → t .domain ≡ d → t .first ≡ n → s .right ≢ t .right → Each (λ r. Before r t) (ended d n s)
+    ended-before : (t : Run) → t .domain ≡ d → t .first ≡ n → s .right ≢ t .right → Each (λ r. RunBefore r t) (ended d n s)
     unfolding ended
     ended-before t ed ef er = go (eqb (s .right) 0)
       where
-        early : (r : Run) → Shut (s .first) r → Before r t
+        early : (r : Run) → Shut (s .first) r → RunBefore r t
         early r x =
             inr (
               x .domain ∙ sym ed,
@@ -115,14 +115,14 @@ module _ (d : ℕ) (R : ℕ → ℕ → ℕ) where
               λ e. absurd (omega (arith, x .is .some, x .is .inside, g .some (omega (arith, x .is .some, x .is .inside, g .low)))),
             )
 
-        done : Each (λ r. Before r t) (s .done)
-        done = each-map (Shut (s .first)) (λ r. Before r t) (s .done) early (g .each)
+        done : Each (λ r. RunBefore r t) (s .done)
+        done = each-map (Shut (s .first)) (λ r. RunBefore r t) (s .done) early (g .each)
 
-        go : (b : Bool) → Each (λ r. Before r t) (cond b (s .done) (s .done ++ openRun d n s ∷ []))
+        go : (b : Bool) → Each (λ r. RunBefore r t) (cond b (s .done) (s .done ++ openRun d n s ∷ []))
         go true = done
         go false =
-            each-append (λ r. Before r t) (s .done) (openRun d n s ∷ []) done
-            (each-one (λ r. Before r t) (openRun d n s) (inr (sym ed, omega arith, λ e. er)))
+            each-append (λ r. RunBefore r t) (s .done) (openRun d n s ∷ []) done
+            (each-one (λ r. RunBefore r t) (openRun d n s) (inr (sym ed, omega arith, λ e. er)))
 
     -- One word more.
     next-good : Good (n + 1) (next d (R d n) n s)

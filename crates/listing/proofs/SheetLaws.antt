@@ -6,7 +6,7 @@ use mathlib.Core.Path.{_≡_, refl, sym, ap, _∙_}
 use mathlib.Core.Bool.{Bool, true, false, cond}
 use lib.Dec.{eqb}
 use borrow.Author.Tests.{eqb-true, eq-eqb}
-use Rattle.listing.specs.Sheets.{Sheet, sheet, put, counted, runTo, closed, opened, feed, fed, OpenAt}
+use Rattle.listing.specs.Sheets.{Sheet, sheet, putRun, counted, runTo, closed, opened, feed, fed, OpenAt}
 
 -- Feeding.
 
@@ -53,7 +53,7 @@ open-feed q a s f = go (eqb q (s .run .right)) (eqb (s .run .right) 0)
   where
     go : (t z : Bool)
         → OpenAt (cond t s (opened q a (cond z s
-        (sheet (counted (s .run) (s .run .count + 1)) (put (s .run .from) (s .run .count) (runTo a (s .run)) (s .out))))) .run) (a + 1)
+        (sheet (counted (s .run) (s .run .count + 1)) (putRun (s .run .from) (s .run .count) (runTo a (s .run)) (s .out))))) .run) (a + 1)
     go true z = record { domain = f .domain; some = λ h. omega (arith, f .some h); few = omega (arith, f .few) }
     go false true = record { domain = f .domain; some = λ h. omega arith; few = omega (arith, f .few) }
     go false false = record { domain = f .domain; some = λ h. omega arith; few = omega (arith, f .few) }

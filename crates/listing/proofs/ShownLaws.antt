@@ -10,24 +10,24 @@ use lib.Seq.{sets-eq, take-nil, drop-nil, take-at, drop-at, drop-drop, length-ta
 use borrow.Author.Tests.{lt-ltb, le-ltb}
 use Rattle.listing.specs.declared.Run.{Run}
 use Rattle.listing.specs.Runs.{fourOf, flat, shown}
-use Rattle.listing.specs.Sheets.{put, written}
+use Rattle.listing.specs.Sheets.{putRun, written}
 use Rattle.listing.proofs.RunLaws.{lt-or-ge}
 
 -- One run.
 
-put-early : (from n : ℕ) (r : Run) (l : List ℕ) → n < from → put from n r l ≡ l
-unfolding put
+put-early : (from n : ℕ) (r : Run) (l : List ℕ) → n < from → putRun from n r l ≡ l
+unfolding putRun
 put-early from n r l h = simp (lt-ltb _ _ h)
 
-put-late : (from k : ℕ) (r : Run) (l : List ℕ) → length l / 4 ≤ k → put from (from + k) r l ≡ l
-unfolding put
+put-late : (from k : ℕ) (r : Run) (l : List ℕ) → length l / 4 ≤ k → putRun from (from + k) r l ≡ l
+unfolding putRun
 put-late from k r l h =
     let e : from + k - from ≡ k = omega arith in
     let g : from ≤ from + k = omega arith in
     simp (le-ltb _ _ g, e, le-ltb _ _ h)
 
-put-in : (from k : ℕ) (r : Run) (l : List ℕ) → k < length l / 4 → put from (from + k) r l ≡ take (4 * k) l ++ fourOf r ++ drop (4 * k + 4) l
-unfolding put
+put-in : (from k : ℕ) (r : Run) (l : List ℕ) → k < length l / 4 → putRun from (from + k) r l ≡ take (4 * k) l ++ fourOf r ++ drop (4 * k + 4) l
+unfolding putRun
 put-in from k r l h =
     let e : from + k - from ≡ k = omega arith in
     let g : from ≤ from + k = omega arith in

@@ -31,8 +31,8 @@ abbrev pub sameOf : ℕ → ℕ → ℕ
 sameOf h q = cond (eqb h 0) (sixteenOf q) (eightOf q)
 
 -- The right that an entry which is rights gives to word `w`.
-abbrev pub said : ℕ → ℕ → ℕ → ℕ
-said h e w = rightAt e (4 * w / part h % parts h)
+abbrev pub entrySays : ℕ → ℕ → ℕ → ℕ
+entrySays h e w = rightAt e (4 * w / part h % parts h)
 
 -- The right that the entry at pool word `k` gives to word `w`.
 abbrev pub entryRight : Shape → List ℕ → ℕ → ℕ → ℕ → ℕ

@@ -35,13 +35,13 @@ pub record IsRun (D n : ℕ) (R : ℕ → ℕ → ℕ) (r : Run) : Type 0 where
   pub one : (w : ℕ) → r .first ≤ w → w < r .past → R (r .domain) w ≡ r .right
 
 -- Run `r` comes before run `t`, by domain and then address; where they touch, they have two rights, so that neither could be longer.
-abbrev pub Before : Run → Run → Type 0
-Before r t = (r .domain < t .domain) ⊎ ((r .domain ≡ t .domain) × (r .past ≤ t .first) × (r .past ≡ t .first → r .right ≢ t .right))
+abbrev pub RunBefore : Run → Run → Type 0
+RunBefore r t = (r .domain < t .domain) ⊎ ((r .domain ≡ t .domain) × (r .past ≤ t .first) × (r .past ≡ t .first → r .right ≢ t .right))
 
 -- Each run comes before all that follow it.
 unfoldable pub Rising : List Run → Type 0
 Rising [] = Unit {0}
-Rising (r ∷ rs) = Each (Before r) rs × Rising rs
+Rising (r ∷ rs) = Each (RunBefore r) rs × Rising rs
 
 -- By domain and then address, each longest run of one right other than none.
 pub record AllRuns (D n : ℕ) (R : ℕ → ℕ → ℕ) (rs : List Run) : Type 0 where

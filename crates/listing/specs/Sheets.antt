@@ -11,13 +11,13 @@ use Rattle.listing.specs.declared.Open.{Open}
 use Rattle.listing.specs.Runs.{memoryWords, fourOf}
 
 -- Run number `n` at its place in the lent words `l`, where it has one.
-unfoldable pub put : ℕ → ℕ → Run → List ℕ → List ℕ
-put from n r l = cond (ltb n from) l (cond (ltb (n - from) (length l / 4)) (sets l (4 * (n - from)) (fourOf r)) l)
+unfoldable pub putRun : ℕ → ℕ → Run → List ℕ → List ℕ
+putRun from n r l = cond (ltb n from) l (cond (ltb (n - from) (length l / 4)) (sets l (4 * (n - from)) (fourOf r)) l)
 
 -- Runs number `n`, `n + 1` and so on, each at its place.
 unfoldable pub written : ℕ → ℕ → List Run → List ℕ → List ℕ
 written from n [] l = l
-written from n (r ∷ rs) l = written from (n + 1) rs (put from n r l)
+written from n (r ∷ rs) l = written from (n + 1) rs (putRun from n r l)
 
 -- The open run, and the lent words.
 pub record Sheet : Type 0 where
@@ -40,7 +40,7 @@ runTo at o = record { domain = o .domain; first = o .first; past = at; right = o
 unfoldable pub closed : ℕ → Sheet → Sheet
 closed at s =
     cond (eqb (s .run .right) 0) s
-    (sheet (counted (s .run) (s .run .count + 1)) (put (s .run .from) (s .run .count) (runTo at (s .run)) (s .out)))
+    (sheet (counted (s .run) (s .run .count + 1)) (putRun (s .run .from) (s .run .count) (runTo at (s .run)) (s .out)))
 
 -- A run of the right `q` opens at word `at`.
 abbrev pub opened : ℕ → ℕ → Sheet → Sheet

@@ -8,8 +8,8 @@ ghost use Rattle.table.specs.Shape.{Fits};
 ghost use Rattle.table.specs.Map.{formOf};
 ghost use Rattle.listing.specs.Runs.{memoryWords};
 ghost use Rattle.listing.specs.Scan.{listingOf};
-ghost use Rattle.listing.specs.Sheets.{put, sheet, counted, closed, feed, fed, OpenAt, written, opening, countOf};
-ghost use Rattle.listing.specs.Levels.{levelOf, blockWords, tableWords, sameOf, said, entryRight, tableRight, EntryAt, TableAt};
+ghost use Rattle.listing.specs.Sheets.{putRun, sheet, counted, closed, feed, fed, OpenAt, written, opening, countOf};
+ghost use Rattle.listing.specs.Levels.{levelOf, blockWords, tableWords, sameOf, entrySays, entryRight, tableRight, EntryAt, TableAt};
 ghost use Rattle.listing.specs.Listing.{wordRight, Lists};
 use table::Entry;
 use table::Shape;
@@ -91,7 +91,7 @@ fn same_entry(height: u32, right: u32) -> u32
 // Run number `n`, at its place in the lent words, where it has one. The last byte is reckoned so that no sum reaches 2^32.
 fn put_run(run: Run, n: usize, from: usize, runs: &mut [u32])
     requires { ⌜ (run .first < run .past) × (run .past ≤ memoryWords) ⌝ }
-    ensures { λ r. ⌜ now (runs .exit) ≡ put from n run (now (runs .entry)) ⌝ }
+    ensures { λ r. ⌜ now (runs .exit) ≡ putRun from n run (now (runs .entry)) ⌝ }
 {
     if n < from {
         return;
@@ -153,7 +153,7 @@ fn feed_right(right: u32, at: u32, run: Open, runs: &mut [u32]) -> Open
 fn feed_rights(height: u32, w: u32, at: u32, run: Open, runs: &mut [u32]) -> Open
     requires { ⌜ (at % blockWords height ≡ 0) × (at + blockWords height ≤ memoryWords) ⌝ }
     requires { ⌜ OpenAt run at ⌝ }
-    ensures { λ r. ⌜ sheet r (now (runs .exit)) ≡ fed (blockWords height) (said height w) at (sheet run (now (runs .entry))) ⌝ }
+    ensures { λ r. ⌜ sheet r (now (runs .exit)) ≡ fed (blockWords height) (entrySays height w) at (sheet run (now (runs .entry))) ⌝ }
 {
     let first = words::right_at(w, 0);
     let same = same_entry(height, first);

@@ -24,7 +24,7 @@ use Rattle.lookaside.specs.declared.Hit.{Hit}
 use Rattle.lookaside.specs.declared.Hit.the-variants.{At, Miss}
 use Rattle.lookaside.specs.declared.Verdict.the-variants.{Pass, Deny, Refused}
 use Rattle.lookaside.specs.Slots.{firstMatch, slotRight, emptyBuffer}
-use Rattle.lookaside.specs.Check.{refusalOf, verdictOf, said, walked, answered, checkOf}
+use Rattle.lookaside.specs.Check.{refusalOf, verdictOf, withoutLoads, walked, answered, checkOf}
 use Rattle.lookaside.specs.Agree.{Places, rightsOf, AgreesBut}
 use Rattle.lookaside.proofs.CheckLaws.{Allowed, allowed, check-refused, check-answered, refusal-pointer}
 use Rattle.lookaside.proofs.AgreeLaws.{emptied-agrees, hit-right}
@@ -42,10 +42,10 @@ lookup-cases p s d a f h =
     rw (lookup-walks p s d a f h) (found-cases (formOf s) (words p) a (walk (formOf s) (words p) a 2 (entry (formOf s) d a)))
 
 -- The verdict on a right, in numbers.
-pub said-verdict : (kind r n : ℕ) → said (verdictOf kind r n) ≡ record { refusal = 0; verdict = cond (passesOf kind r) 1 0; loads = 0 }
+pub said-verdict : (kind r n : ℕ) → withoutLoads (verdictOf kind r n) ≡ record { refusal = 0; verdict = cond (passesOf kind r) 1 0; loads = 0 }
 said-verdict kind r n = go (passesOf kind r)
   where
-    go : (t : Bool) → said (cond t (Pass n) (Deny n)) ≡ record { refusal = 0; verdict = cond t 1 0; loads = 0 }
+    go : (t : Bool) → withoutLoads (cond t (Pass n) (Deny n)) ≡ record { refusal = 0; verdict = cond t 1 0; loads = 0 }
     go true = refl
     go false = refl
 
@@ -96,19 +96,19 @@ module _ (p : List ℕ) (s : Shape) (x : Places) (d kind size a : ℕ) (z : x d 
           (lookup-cases p s d a (ok .fits) (ok .domain))
 
   pub check-says : (b : Buffer) → AgreesBut (s .domains) (rightsOf s p) x b → refusalOf s (length p) (b .next) d kind size a ≡ 0
-      → said (checkOf p s b d kind size a .verdict) ≡ record { refusal = 0; verdict = cond (passesOf kind (rightsOf s p d a)) 1 0; loads = 0 }
+      → withoutLoads (checkOf p s b d kind size a .verdict) ≡ record { refusal = 0; verdict = cond (passesOf kind (rightsOf s p d a)) 1 0; loads = 0 }
   check-says b g e =
       let (n, _, q) = check-right b g e in
-      ap said q ∙ said-verdict kind (rightsOf s p d a) n
+      ap withoutLoads q ∙ said-verdict kind (rightsOf s p d a) n
 
   -- It says what the same check says with an emptied buffer, refusals included.
   pub check-as-emptied : (b : Buffer) → AgreesBut (s .domains) (rightsOf s p) x b → b .next < 64
-      → said (checkOf p s b d kind size a .verdict) ≡ said (checkOf p s emptyBuffer d kind size a .verdict)
+      → withoutLoads (checkOf p s b d kind size a .verdict) ≡ withoutLoads (checkOf p s emptyBuffer d kind size a .verdict)
   unfolding emptyBuffer
   check-as-emptied b g h = elim (ℕ-discrete m 0) [
     | yes e ↦ check-says b g (same ∙ e) ∙ sym (check-says emptyBuffer (emptied-agrees (s .domains) (rightsOf s p) x) e)
-    | no e ↦ ap (λ c. said (c .verdict)) (check-refused p s b d kind size a m same e)
-        ∙ sym (ap (λ c. said (c .verdict)) (check-refused p s emptyBuffer d kind size a m refl e))
+    | no e ↦ ap (λ c. withoutLoads (c .verdict)) (check-refused p s b d kind size a m same e)
+        ∙ sym (ap (λ c. withoutLoads (c .verdict)) (check-refused p s emptyBuffer d kind size a m refl e))
   ]
     where
       m : ℕ

@@ -34,8 +34,8 @@ numbers (Deny n) = record { refusal = 0; verdict = 0; loads = n }
 numbers (Refused n) = record { refusal = n; verdict = 0; loads = 0 }
 
 -- The numbers but for the loads, which alone depend on what the buffer held.
-abbrev pub said : Verdict → Numbers
-said v = record { refusal = numbers v .refusal; verdict = numbers v .verdict; loads = 0 }
+abbrev pub withoutLoads : Verdict → Numbers
+withoutLoads v = record { refusal = numbers v .refusal; verdict = numbers v .verdict; loads = 0 }
 
 -- Loads and stores are of 1, 2 or 4 bytes, fetches of 4.
 abbrev pub isAccess : ℕ → ℕ → Bool

@@ -8,7 +8,7 @@ use native.Mathlib.Decide.{ℕ-discrete, decLt}
 use lib.Dec.{eqb}
 use borrow.Author.Tests.{eq-eqb, ne-eqb}
 use Rattle.places.specs.Count.{count}
-use Rattle.theory.proofs.RightLaws.{by-cases}
+use Rattle.theory.proofs.Logic.{by-cases}
 
 module _ (f : ℕ → Bool) where
   pub count-yes : (n : ℕ) → f n ≡ true → count f (suc n) ≡ suc (count f n)

@@ -8,7 +8,7 @@ use Rattle.theory.specs.Form.{Form}
 use Rattle.theory.specs.Pool.{SoundPool, rightOf}
 use Rattle.theory.specs.Settled.{Settled}
 use Rattle.theory.specs.Finished.{Finished}
-use Rattle.theory.proofs.RightLaws.{by-cases}
+use Rattle.theory.proofs.Logic.{by-cases}
 use Rattle.theory.proofs.SettledLaws.{wants-table}
 use Rattle.theory.proofs.FinishedLaws.{one-finished}
 use Rattle.words.specs.declared.Region.{Region}

@@ -5,7 +5,7 @@ use mathlib.Core.Logic.{_≢_}
 use mathlib.Core.Bool.{Bool, true, false, _&&_, not, true≢false, false≢true}
 use native.Mathlib.Omega.{arith}
 use native.Mathlib.Decide.{ℕ-discrete, decLt}
-use Rattle.theory.proofs.RightLaws.{by-cases}
+use Rattle.theory.proofs.Logic.{by-cases}
 use Rattle.places.specs.Count.{count}
 use Rattle.places.specs.Owners.{fresh, Held, Owned, Handing}
 use Rattle.places.proofs.CountLaws.{count-yes, count-none, count-less, count-flat, count-all, count-split, count-into}

@@ -7,20 +7,15 @@ use native.Mathlib.Omega.{arith}
 use native.Mathlib.Decide.{ℕ-discrete, decLt}
 use lib.Dec.{eqb}
 use borrow.Author.Tests.{eq-eqb, ne-eqb, lt-ltb, le-ltb}
-use Rattle.theory.proofs.RightLaws.{by-cases}
-use Rattle.table.proofs.ShapeLaws.{and-both}
+use Rattle.theory.proofs.Logic.{by-cases, and-both}
 use Rattle.places.specs.Count.{count}
-use Rattle.places.specs.Owners.{fresh, Owned, Handing, Keeping, vacant}
+use Rattle.places.specs.Owners.{fresh, Owned, Handing, Keeping, vacant, givenTo}
 use Rattle.places.proofs.HandLaws.{hand-start, hand-skip, hand-take, hand-done, hand-full}
 
--- One place given to `i`.
-abbrev given : (ℕ → ℕ) → ℕ → ℕ → ℕ → ℕ
-given owner p i q = cond (eqb q p) i (owner q)
-
-given-at : (owner : ℕ → ℕ) (p i : ℕ) → given owner p i p ≡ i
+given-at : (owner : ℕ → ℕ) (p i : ℕ) → givenTo owner p i p ≡ i
 given-at owner p i = rw (eq-eqb p p refl) refl
 
-given-off : (owner : ℕ → ℕ) (p i q : ℕ) → q ≢ p → given owner p i q ≡ owner q
+given-off : (owner : ℕ → ℕ) (p i q : ℕ) → q ≢ p → givenTo owner p i q ≡ owner q
 given-off owner p i q d = rw (ne-eqb q p d) refl
 
 module _ (n m : ℕ) (want old : ℕ → Bool) (was : ℕ → ℕ) (one : (i j : ℕ) → i < n → j < n → old i ≡ true → old j ≡ true → was i ≡ was j → i ≡ j) where
@@ -77,7 +72,7 @@ module _ (n m : ℕ) (want old : ℕ → Bool) (was : ℕ → ℕ) (one : (i j :
         by-cases (want i && old i)
         (λ e.
         let (v, w) = and-both (want i) (old i) e in
-        (given o (was i) i, keep-take (given o (was i) i) i k h v w (given-at o (was i) i) (given-off o (was i) i)))
+        (givenTo o (was i) i, keep-take (givenTo o (was i) i) i k h v w (given-at o (was i) i) (given-off o (was i) i)))
         (λ e. (o, keep-skip i k e))
 
   -- The next free place, or none.
@@ -109,7 +104,7 @@ module _ (n m : ℕ) (want old : ℕ → Bool) (was : ℕ → ℕ) (one : (i j :
             ⊎ ((q : ℕ) → c ≤ q → q < c + (m - c) → free q ≡ false)
             → (c : ℕ) × (owner : ℕ → ℕ) × Handing n m want old free was (suc i) c owner
         go c o s e (inl (p, lo, hi, f, g)) =
-            (suc p, given o p i, hand-take n m want old free was (given o p i) i c p s h e lo (let b = s .low in omega arith) f g (given-at o p i) (given-off o p i))
+            (suc p, givenTo o p i, hand-take n m want old free was (givenTo o p i) i c p s h e lo (let b = s .low in omega arith) f g (given-at o p i) (given-off o p i))
         go c o s e (inr g) =
             let x = hand-full n m want old free was i c s h e (λ k lo hi. g k lo (let b = s .low in omega arith)) in
             absurd (omega arith)

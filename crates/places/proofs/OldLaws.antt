@@ -5,11 +5,10 @@ use mathlib.Core.Bool.{true, false, _&&_}
 use native.Mathlib.Omega.{arith}
 use lib.Dec.{ltb}
 use Rattle.theory.specs.Pool.{SoundPool, Visits, here, next, entry, Led}
-use Rattle.theory.proofs.RightLaws.{by-cases}
+use Rattle.theory.proofs.Logic.{by-cases, and-both}
 use Rattle.theory.proofs.BlockLaws.{one-word, one-owner, led-low}
 use Rattle.theory.proofs.FinishedLaws.{led-place}
 use Rattle.table.specs.Map.{addresses, size, index, form}
-use Rattle.table.proofs.ShapeLaws.{and-both}
 use Rattle.table.proofs.BlockLaws.{together-block}
 use Rattle.table.specs.Shape.{firstPlace, places}
 use Rattle.table.proofs.FormLaws.{leads-place, lawful}

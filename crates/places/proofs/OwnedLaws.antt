@@ -5,7 +5,7 @@ use mathlib.Core.Bool.{Bool, true, false, _&&_, not, true≢false, false≢true}
 use native.Mathlib.Omega.{arith}
 use native.Mathlib.Decide.{ℕ-discrete, decLt}
 use borrow.Author.Tests.{eq-eqb, ne-eqb}
-use Rattle.theory.proofs.RightLaws.{by-cases}
+use Rattle.theory.proofs.Logic.{by-cases}
 use Rattle.places.specs.Count.{count}
 use Rattle.places.specs.Owners.{seek, fresh, Held, Owned}
 use Rattle.places.proofs.CountLaws.{count-mono, count-less, same-rank, ranked, count-all, count-into}

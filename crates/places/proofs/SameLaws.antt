@@ -11,7 +11,7 @@ use Rattle.theory.specs.Finished.{Finished}
 use Rattle.theory.specs.Lawful.{Lawful, Exact, Wanting}
 use Rattle.theory.specs.Stores.{Kept, top, down}
 use Rattle.theory.proofs.ReachLaws.{visits-down, visited-reach}
-use Rattle.theory.proofs.RightLaws.{by-cases}
+use Rattle.theory.proofs.Logic.{by-cases}
 use Rattle.theory.proofs.SettledLaws.{says-at}
 
 -- For what an entry says, only the rights of its block count.

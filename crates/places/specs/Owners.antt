@@ -46,3 +46,7 @@ pub record Keeping (n m : ℕ) (want old : ℕ → Bool) (was : ℕ → ℕ) (i 
 -- No kept table stands at place `p`, where only kept tables have an owner.
 abbrev pub vacant : ℕ → (ℕ → ℕ) → ℕ → Bool
 vacant n owner p = not (ltb (owner p) n)
+
+-- Place `p` given to block `i`, beside what `owner` says of the others.
+abbrev pub givenTo : (ℕ → ℕ) → ℕ → ℕ → ℕ → ℕ
+givenTo owner p i q = cond (eqb q p) i (owner q)

@@ -3,7 +3,7 @@ use Prim.Native.Nat.{ℕ, suc, _/_, _<_}
 use mathlib.Core.Path.{_≡_, refl, ap, _∙_}
 use mathlib.Core.Bool.{false, not}
 use lib.Dec.{eqb}
-use Rattle.theory.proofs.RightLaws.{by-cases}
+use Rattle.theory.proofs.Logic.{by-cases}
 use Rattle.words.specs.Rights.{eightOf}
 use Rattle.words.proofs.RightsLaws.{eight-pack, pack-same}
 use Rattle.table.specs.Map.{addresses, block, parts}

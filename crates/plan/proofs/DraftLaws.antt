@@ -9,7 +9,7 @@ use lib.ListN.{length}
 use borrow.Author.Tests.{eq-eqb}
 use Rattle.theory.specs.Pool.{words, rightOf}
 use Rattle.theory.specs.Settled.{Settled}
-use Rattle.theory.proofs.RightLaws.{by-cases}
+use Rattle.theory.proofs.Logic.{by-cases}
 use Rattle.words.specs.Rights.{rightAt, eightOf}
 use Rattle.words.specs.Region.{covered}
 use Rattle.words.proofs.RightsLaws.{right-small}
@@ -23,7 +23,8 @@ use Rattle.places.proofs.ChangedLaws.{changed-rights}
 use Rattle.targets.specs.declared.Paint.{Paint}
 use Rattle.targets.specs.declared.Target.{Target}
 use Rattle.targets.specs.declared.Target.the-variants.{Says, Mixed}
-use Rattle.targets.specs.Targets.{region, painted, targetOf, Gives, Readable}
+use Rattle.targets.specs.Paints.{region}
+use Rattle.targets.specs.Targets.{painted, targetOf, Gives, Readable}
 use Rattle.targets.proofs.TargetLaws.{wanted-mixed, unwanted-said}
 use Rattle.targets.proofs.PoolLaws.{root-gives, middle-gives, virtual-gives, virtual-readable, root-readable}
 use Rattle.plan.specs.declared.Edge.{Edge}

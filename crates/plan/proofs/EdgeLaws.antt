@@ -8,7 +8,7 @@ use borrow.Author.Tests.{leb-true, ltb-true, le-leb, lt-ltb}
 use Rattle.table.specs.declared.Shape.{Shape}
 use Rattle.table.specs.Map.{size}
 use Rattle.table.specs.Shape.{places}
-use Rattle.table.proofs.ShapeLaws.{and-both}
+use Rattle.theory.proofs.Logic.{and-both}
 use Rattle.places.specs.Owners.{seek}
 use Rattle.places.proofs.OwnedLaws.{seek-owner, owner-seek}
 use Rattle.places.specs.Final.{blocks, want, either, old, placeAt}

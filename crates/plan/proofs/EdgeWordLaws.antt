@@ -6,7 +6,7 @@ use mathlib.Core.Bool.{Bool, true, false, cond}
 use native.Mathlib.Omega.{arith}
 use Rattle.theory.specs.Form.{Form}
 use Rattle.theory.specs.Pool.{rightOf}
-use Rattle.theory.proofs.RightLaws.{by-cases}
+use Rattle.theory.proofs.Logic.{by-cases}
 use Rattle.theory.proofs.SettledLaws.{says-at}
 use Rattle.words.specs.Rights.{rightAt, eightOf, sixteenOf}
 use Rattle.words.specs.Region.{covered}
@@ -21,7 +21,8 @@ use Rattle.places.specs.Final.{blocks, domainOf, addressOf, either, old, entryW
 use Rattle.places.proofs.FinalWordLaws.{InPlace, final-place, place-owned}
 use Rattle.places.proofs.ChangedLaws.{changed-uncovered}
 use Rattle.targets.specs.declared.Paint.{Paint}
-use Rattle.targets.specs.Targets.{region, painted}
+use Rattle.targets.specs.Paints.{region}
+use Rattle.targets.specs.Targets.{painted}
 use Rattle.plan.specs.declared.Edge.{Edge}
 use Rattle.plan.specs.declared.Plan.{Plan}
 use Rattle.plan.specs.Plan.{isLead, tableOf as inEdge, pageAfter, paintedLeaf, leafAfter}
@@ -30,7 +31,7 @@ use Rattle.plan.proofs.AimLaws.{aims-covered}
 use Rattle.plan.specs.Edges.{firstOf, lastOf, EdgeIs, Edges}
 use Rattle.plan.proofs.Setting.{Setting}
 use Rattle.plan.proofs.BlockRightsLaws.{said-near}
-use Rattle.plan.proofs.MeetLaws.{Stays, Plain, chosen, apart-stays, between-plain}
+use Rattle.plan.proofs.MeetLaws.{RightsStay, Plain, chosen, apart-stays, between-plain}
 use Rattle.plan.proofs.OldEntryLaws.{old-says}
 use Rattle.plan.proofs.SettingLaws.{aims-rights, plain-entry}
 use Rattle.plan.proofs.StayWordLaws.{place-visits, middle-stays}
@@ -170,7 +171,7 @@ module _ {s : Shape} {d : ℕ} {paint : Paint} {P middle leaf : ℕ → ℕ} {fr
     page-number = omega arith
 
     -- A page whose rights stay keeps its entry, or gets the eight rights that stood for it.
-    page-outside : Stays s d paint P 0 i → (x : ℕ) → (x ≡ P k) ⊎ (x ≡ Q k)
+    page-outside : RightsStay s d paint P 0 i → (x : ℕ) → (x ≡ P k) ⊎ (x ≡ Q k)
         → cond (isLead (b .old)) x (eightOf (rightAt (b .old) (j / 128))) ≡ Q k
     page-outside st x v = by-cases (isLead (b .old))
         (λ l. ap (λ t. cond t x (eightOf (rightAt (b .old) (j / 128)))) l

@@ -9,7 +9,7 @@ use lib.Dec.{eqb, ltb}
 use borrow.Author.Tests.{eq-eqb, ne-eqb, lt-ltb, le-ltb}
 use Rattle.theory.specs.Pool.{rightOf}
 use Rattle.theory.specs.Settled.{Settled}
-use Rattle.theory.proofs.RightLaws.{by-cases}
+use Rattle.theory.proofs.Logic.{by-cases}
 use Rattle.table.specs.declared.Shape.{Shape}
 use Rattle.table.specs.Map.{formOf}
 use Rattle.places.specs.Owners.{fresh}
@@ -17,7 +17,7 @@ use Rattle.places.proofs.OwnedLaws.{fresh-wants, fresh-old}
 use Rattle.places.specs.Final.{blocks, domainOf, want, old}
 use Rattle.places.proofs.ChangedLaws.{changed-uncovered, changed-other}
 use Rattle.targets.specs.declared.Paint.{Paint}
-use Rattle.targets.specs.Targets.{region}
+use Rattle.targets.specs.Paints.{region}
 use Rattle.plan.specs.declared.Edge.{Edge}
 use Rattle.plan.specs.Plan.{isLead}
 use Rattle.plan.specs.Aims.{aims}

@@ -10,14 +10,13 @@ use native.Mathlib.Numerals.{add-one}
 use lib.Dec.{eqb}
 use lib.ListN.{getD}
 use borrow.Author.Tests.{eq-eqb, ne-eqb, lt-ltb}
-use Rattle.theory.proofs.RightLaws.{by-cases}
+use Rattle.theory.proofs.Logic.{by-cases, and-both}
 use Rattle.words.specs.Rights.{rightAt, eightOf}
 use Rattle.table.specs.declared.Shape.{Shape}
 use Rattle.table.specs.Shape.{InRange, firstPlace, places}
 use Rattle.table.specs.Wants.{saidOf}
-use Rattle.table.proofs.ShapeLaws.{and-both}
 use Rattle.places.specs.Count.{count}
-use Rattle.places.specs.Owners.{seek, fresh, Owned, Handing}
+use Rattle.places.specs.Owners.{seek, fresh, Owned, Handing, givenTo}
 use Rattle.places.proofs.OwnedLaws.{fresh-wants, fresh-old, owner-seek, seek-keeps}
 use Rattle.places.proofs.HandLaws.{hand-skip, hand-skip-to, hand-take, hand-done, hand-full}
 use Rattle.places.proofs.OldLaws.{old-at}
@@ -28,11 +27,11 @@ use Rattle.plan.specs.declared.Taken.the-variants.{At, None}
 use Rattle.plan.specs.declared.Ends.the-variants.{Both, Full}
 use Rattle.plan.specs.Plan.{isLead, isNew}
 use Rattle.plan.specs.Aims.{aims}
-use Rattle.plan.specs.Edges.{firstOf, lastOf, entryAt, Told, EdgeBy, EndsPlaced, EndsAre, Takes, TakenIs, Giving}
+use Rattle.plan.specs.Edges.{firstOf, lastOf, entryAt, Told, EdgeBy, EndsPlaced, EndsAre, Takes, TakenIs, GivesOut}
 use Rattle.plan.proofs.OldEntryLaws.{old-leads}
 use Rattle.plan.proofs.FreshLaws.{apart-not-fresh}
 use Rattle.plan.proofs.DraftLaws.{ends-below}
-use Rattle.plan.proofs.KeptLaws.{given, kept-free}
+use Rattle.plan.proofs.KeptLaws.{kept-free}
 
 -- A pointer is below bit 31.
 place-leads : (D M L h p : ℕ) → InRange D M L → h < 2 → p < places D M L h → isLead (placeAt D M L h p) ≡ true
@@ -57,7 +56,7 @@ entry-word P (suc zero) d n hi b o = refl
 entry-word P (suc (suc h)) d n hi b o = absurd (omega arith)
 
 module _ {s : Shape} {d : ℕ} {paint : Paint} {P : ℕ → ℕ} {h : ℕ} {f : List Bool} {m from long : ℕ} {first last : Edge}
-    (G : Giving s d paint P h f m from long first last) where
+    (G : GivesOut s d paint P h f m from long first last) where
   abbrev N : ℕ
   N = blocks h * s .domains
 
@@ -151,8 +150,8 @@ module _ {s : Shape} {d : ℕ} {paint : Paint} {P : ℕ → ℕ} {h : ℕ} {f : 
 
       take : (g : Edge) (x : ℕ) → Takes f c m from long e g x → Past n x g owner
       take g x k = subst (λ y. Past n y g owner) (sym (k .next ∙ add-one (k .place))) (record {
-        owner = given owner (k .place) (nth n);
-        state = hand-take N M W O free at (given owner (k .place) (nth n)) (nth n) c (k .place) here (low n b) new (k .first .low) below spare
+        owner = givenTo owner (k .place) (nth n);
+        state = hand-take N M W O free at (givenTo owner (k .place) (nth n)) (nth n) c (k .place) here (low n b) new (k .first .low) below spare
             (λ q lo up. is-free q (omega arith) ∙ ap not (k .first .gap q lo up))
             (ap (λ z. cond z (nth n) (owner (k .place))) (eq-eqb (k .place) (k .place) refl))
             (λ q z. ap (λ y. cond y (nth n) (owner q)) (ne-eqb q (k .place) z));

@@ -11,12 +11,11 @@ use lib.Seq.{getD-set-same, getD-set-other}
 use borrow.Author.Tests.{lt-ltb, le-ltb}
 use Rattle.theory.specs.Pool.{words}
 use Rattle.theory.specs.Settled.{Settled}
-use Rattle.theory.proofs.RightLaws.{by-cases}
+use Rattle.theory.proofs.Logic.{by-cases, and-both}
 use Rattle.table.specs.declared.Shape.{Shape}
 use Rattle.table.specs.Shape.{Fits, places}
 use Rattle.table.specs.Map.{formOf}
-use Rattle.table.proofs.ShapeLaws.{and-both}
-use Rattle.places.specs.Owners.{Handing, vacant}
+use Rattle.places.specs.Owners.{Handing, vacant, givenTo}
 use Rattle.places.proofs.KeepLaws.{keep-done}
 use Rattle.places.proofs.OldLaws.{old-below, old-one}
 use Rattle.places.specs.Final.{blocks, want, old, was}
@@ -27,7 +26,7 @@ use Rattle.census.proofs.OwnerLaws.{was-owner, was-taken, owner-stands}
 use Rattle.targets.specs.declared.Paint.{Paint}
 use Rattle.plan.specs.declared.Edge.{Edge}
 use Rattle.plan.specs.Aims.{aims}
-use Rattle.plan.specs.Edges.{ownerStays, Marked, EndsTold, Kept}
+use Rattle.plan.specs.Edges.{ownerStays, Marked, EndsTold, KeptMarked}
 use Rattle.plan.proofs.FreshLaws.{stays-is}
 
 -- The marks, place by place.
@@ -44,10 +43,6 @@ marked-next o h c d first last f b lo e k = record {
   ];
 }
 
--- One place given to `i`.
-abbrev pub given : (ℕ → ℕ) → ℕ → ℕ → ℕ → ℕ
-given owner p i q = cond (eqb q p) i (owner q)
-
 module _ (s : Shape) (d : ℕ) (paint : Paint) {P : ℕ → ℕ} (q : Settled (formOf s) P) (h : ℕ) (hi : h < 2) where
   abbrev n : ℕ
   n = blocks h * s .domains
@@ -62,7 +57,7 @@ module _ (s : Shape) (d : ℕ) (paint : Paint) {P : ℕ → ℕ} (q : Settled (f
   at = was (s .domains) (s .middles) (s .leaves) P h
 
   -- Once all places are marked, giving out can start: free are those that are not.
-  pub kept-free : {f : List Bool} → Kept s d paint P h n f
+  pub kept-free : {f : List Bool} → KeptMarked s d paint P h n f
       → (free : ℕ → Bool) × (owner : ℕ → ℕ) × Handing n m (want T h) (old P h) free at 0 0 owner × ((p : ℕ) → p < m → free p ≡ not (getD f p false))
   kept-free k = (
     vacant n (k .owner),
@@ -109,7 +104,7 @@ module _ (p : List ℕ) (s : Shape) (d : ℕ) (paint : Paint) (fits : Fits s (le
       (λ e. rw e (sym (lt-ltb (stood c) (n s d paint q h hi) (marked-kept c b e .0))))
       (λ e. rw e (sym (le-ltb (n s d paint q h hi) (n s d paint q h hi) (omega arith))))
 
-  pub marked-all : Kept s d paint P h (n s d paint q h hi) f
+  pub marked-all : KeptMarked s d paint P h (n s d paint q h hi) f
   marked-all = record {
     owner = stays;
     keeping = record {

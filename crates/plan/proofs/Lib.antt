@@ -15,3 +15,4 @@ pub mod EdgeLaws
 pub mod AfterLaws
 pub mod EdgeWordLaws
 pub mod PlannedLaws
+pub mod OnePlanLaws

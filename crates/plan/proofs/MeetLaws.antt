@@ -15,7 +15,7 @@ use Rattle.table.specs.Map.{addresses, block, formOf}
 use Rattle.places.specs.Final.{blocks, domainOf}
 use Rattle.places.proofs.ChangedLaws.{changed-uncovered, changed-other}
 use Rattle.targets.specs.declared.Paint.{Paint}
-use Rattle.targets.specs.Targets.{region}
+use Rattle.targets.specs.Paints.{region}
 use Rattle.plan.specs.Aims.{aims}
 use Rattle.plan.proofs.AimLaws.{aims-covered}
 use Rattle.plan.specs.Edges.{firstOf, lastOf}
@@ -90,8 +90,8 @@ module _ (paint : Paint) (h n : ℕ) (hi : h < 2) (b : ℕ) (e : b / block (suc 
 
 module _ (s : Shape) (d : ℕ) (paint : Paint) (P : ℕ → ℕ) where
   -- The rights of block `i`, of the numbers over all domains, are to stay as they were; they are all to be `r`.
-  abbrev pub Stays : ℕ → ℕ → Type 0
-  Stays h i = (b : ℕ) → b < addresses → b / block (suc h) ≡ i % blocks h
+  abbrev pub RightsStay : ℕ → ℕ → Type 0
+  RightsStay h i = (b : ℕ) → b < addresses → b / block (suc h) ≡ i % blocks h
       → aims s d paint P (domainOf h i) b ≡ rightOf (formOf s) P (domainOf h i) b
 
   abbrev pub Plain : ℕ → ℕ → ℕ → Type 0
@@ -99,7 +99,7 @@ module _ (s : Shape) (d : ℕ) (paint : Paint) (P : ℕ → ℕ) where
 
   -- A block that lies apart from the region stays; one between its ends gets the right.
   pub apart-stays : (h i n : ℕ) → h < 2 → i % blocks h ≡ n → n ≢ firstOf h paint → n ≢ lastOf h paint
-      → (firstOf h paint < n → n < lastOf h paint → ⊥) → Stays h i
+      → (firstOf h paint < n → n < lastOf h paint → ⊥) → RightsStay h i
   apart-stays h i n hi q y z f b bb e = changed-uncovered (rightOf (formOf s) P) d (region paint) (paint .right) (domainOf h i) b
       (apart-uncovered paint h n hi b (e ∙ q) y z f)
 
@@ -108,7 +108,7 @@ module _ (s : Shape) (d : ℕ) (paint : Paint) (P : ℕ → ℕ) where
   between-plain h i n hi x q y z b bb e = aims-covered s d paint P (domainOf h i) b (x, between-covered paint h n hi b (e ∙ q) y z)
 
   -- A block of another domain stays.
-  pub other-stays : (h i : ℕ) → domainOf h i ≢ d → Stays h i
+  pub other-stays : (h i : ℕ) → domainOf h i ≢ d → RightsStay h i
   other-stays h i x b bb e = changed-other (rightOf (formOf s) P) d (region paint) (paint .right) (domainOf h i) b x
 
   -- Block `i` is block `n` of the domain of the change.
@@ -119,7 +119,7 @@ module _ (s : Shape) (d : ℕ) (paint : Paint) (P : ℕ → ℕ) where
 
   -- Block `i` stays, gets the right, or is the first or the last block that the region meets.
   pub meeting : (h i : ℕ) → h < 2
-      → Stays h i ⊎ (Plain h i (paint .right) ⊎ ((i ≡ blocks h * d + firstOf h paint) ⊎ (i ≡ blocks h * d + lastOf h paint)))
+      → RightsStay h i ⊎ (Plain h i (paint .right) ⊎ ((i ≡ blocks h * d + firstOf h paint) ⊎ (i ≡ blocks h * d + lastOf h paint)))
   meeting h i hi = elim (ℕ-discrete (domainOf h i) d) [
     | no x ↦ inl (other-stays h i x)
     | yes x ↦ elim (ℕ-discrete (i % blocks h) (firstOf h paint)) [

@@ -6,7 +6,8 @@ use native.Mathlib.Omega.{arith}
 use borrow.Author.Tests.{le-ltb}
 use Rattle.theory.specs.Form.{Form}
 use Rattle.theory.specs.Pool.{right, rightOf}
-use Rattle.theory.proofs.RightLaws.{by-cases, right-down, right-says}
+use Rattle.theory.proofs.Logic.{by-cases}
+use Rattle.theory.proofs.RightLaws.{right-down, right-says}
 use Rattle.words.specs.Rights.{rightAt, eightOf}
 use Rattle.words.proofs.RightsLaws.{right-small, eight-right}
 use Rattle.table.specs.Map.{addresses, block, part, index, form}

@@ -17,7 +17,7 @@ use Rattle.plan.specs.declared.Plan.{Plan}
 use Rattle.plan.specs.declared.Ends.the-variants.{Full}
 use Rattle.plan.specs.Aims.{aims}
 use Rattle.plan.specs.Planning.{Regular}
-use Rattle.plan.specs.Edges.{EdgeIs, PlanReady, draftOf, EndsTold, Kept, EdgeBy, EndsPlaced, EndsAre, Giving}
+use Rattle.plan.specs.Edges.{EdgeIs, PlanReady, draftOf, EndsTold, KeptMarked, EdgeBy, EndsPlaced, EndsAre, GivesOut}
 use Rattle.plan.proofs.DraftLaws.{drafted-ends}
 
 -- A draft tells its edges, and once the kept places are marked, places can be given out.
@@ -31,8 +31,8 @@ module _ (s : Shape) (d : ℕ) (paint : Paint) (P : ℕ → ℕ) (g : Regular pa
       (drafted-ends s d paint P g 0 (omega arith))
 
   module _ (range : InRange (s .domains) (s .middles) (s .leaves)) (settled : Settled (formOf s) P) (b : d < s .domains) (f : List Bool) where
-    pub giving-middles : Kept s d paint P 1 (1024 * s .domains) f
-        → Giving s d paint P 1 f (s .middles) (firstMiddle (s .domains)) 1024 (q .«first_block») (q .«last_block»)
+    pub giving-middles : KeptMarked s d paint P 1 (1024 * s .domains) f
+        → GivesOut s d paint P 1 f (s .middles) (firstMiddle (s .domains)) 1024 (q .«first_block») (q .«last_block»)
     giving-middles k = record {
       height = omega arith;
       range = range;
@@ -46,8 +46,8 @@ module _ (s : Shape) (d : ℕ) (paint : Paint) (P : ℕ → ℕ) (g : Regular pa
       told = told-blocks;
     }
 
-    pub giving-leaves : Kept s d paint P 0 (1048576 * s .domains) f
-        → Giving s d paint P 0 f (s .leaves) (firstLeaf (s .domains) (s .middles)) 64 (q .«first_page») (q .«last_page»)
+    pub giving-leaves : KeptMarked s d paint P 0 (1048576 * s .domains) f
+        → GivesOut s d paint P 0 f (s .leaves) (firstLeaf (s .domains) (s .middles)) 64 (q .«first_page») (q .«last_page»)
     giving-leaves k = record {
       height = omega arith;
       range = range;

@@ -11,12 +11,11 @@ use lib.ListN.{length}
 use borrow.Author.Tests.{leb-true, ltb-true, le-leb, lt-ltb}
 use Rattle.theory.specs.Pool.{words}
 use Rattle.theory.specs.Settled.{Settled}
-use Rattle.theory.proofs.RightLaws.{by-cases}
+use Rattle.theory.proofs.Logic.{by-cases, and-both}
 use Rattle.words.specs.Rights.{eightOf}
 use Rattle.table.specs.declared.Shape.{Shape}
 use Rattle.table.specs.Shape.{Fits, poolLength}
 use Rattle.table.specs.Map.{formOf, size}
-use Rattle.table.proofs.ShapeLaws.{and-both}
 use Rattle.places.specs.Final.{blocks, domainOf, either, old, entryWord, tableWord, final, keptWord}
 use Rattle.places.proofs.FinalWordLaws.{InPlace, which-word, final-root, final-place, final-past, place-idle, kept-root, kept-place}
 use Rattle.places.proofs.FinalLaws.{final-finished}
@@ -30,7 +29,7 @@ use Rattle.plan.specs.Planning.{Regular}
 use Rattle.plan.specs.Goals.{Planned}
 use Rattle.plan.specs.Edges.{firstOf, lastOf, EdgeIs, Edges, Placed}
 use Rattle.plan.proofs.Setting.{Setting}
-use Rattle.plan.proofs.MeetLaws.{Stays, chosen, apart-stays, between-plain, other-stays, meeting}
+use Rattle.plan.proofs.MeetLaws.{RightsStay, chosen, apart-stays, between-plain, other-stays, meeting}
 use Rattle.plan.proofs.WantedLaws.{stays-want, plain-want, only-edges-fresh}
 use Rattle.plan.proofs.SettingLaws.{aims-rights, placed, plain-entry}
 use Rattle.plan.proofs.StayWordLaws.{root-stays, middle-stays, leaf-stays, page-stays}
@@ -95,7 +94,7 @@ module _ {s : Shape} {d : ℕ} {paint : Paint} {P middle leaf : ℕ → ℕ} {fr
       (apart-stays s d paint P 1 k n (omega arith) z (λ t. g (t ∙ sym f)) (λ t. h (t ∙ sym l)) (λ t w. u (rw f t) (rw l w)))) v)
 
   -- A word of a place that no edge's block owns is what it was.
-  place-stays : (k h p j : ℕ) → InPlace D M L k h p j → owner h p < blocks h * D → Stays s d paint P h (owner h p)
+  place-stays : (k h p j : ℕ) → InPlace D M L k h p j → owner h p < blocks h * D → RightsStay s d paint P h (owner h p)
       → tableWord D M L middle leaf T P h (owner h p) j ≡ P k
   place-stays k zero p j ip bo st =
       leaf-stays c k p j ip bo (sym (stays-want s d paint P 0 (leaf p) (omega arith) bo (c .settled) st) ∙ placed c 0 (omega arith) .held .only p (ip .1) bo) st

@@ -6,7 +6,7 @@ use mathlib.Core.Bool.{Bool, true}
 use native.Mathlib.Omega.{arith}
 use borrow.Author.Tests.{lt-ltb}
 use Rattle.theory.specs.Pool.{rightOf}
-use Rattle.theory.proofs.RightLaws.{by-cases}
+use Rattle.theory.proofs.Logic.{by-cases}
 use Rattle.words.specs.Rights.{eightOf}
 use Rattle.table.specs.declared.Shape.{Shape}
 use Rattle.table.specs.Shape.{InRange, places}
@@ -20,7 +20,7 @@ use Rattle.places.proofs.NumberLaws.{number-first}
 use Rattle.places.proofs.ChangedLaws.{changed-rights}
 use Rattle.places.proofs.FinalWordLaws.{entry-leads, entry-says}
 use Rattle.targets.specs.declared.Paint.{Paint}
-use Rattle.targets.specs.Targets.{region}
+use Rattle.targets.specs.Paints.{region}
 use Rattle.plan.specs.Plan.{isLead}
 use Rattle.plan.specs.Aims.{aims}
 use Rattle.plan.proofs.Setting.{Setting}

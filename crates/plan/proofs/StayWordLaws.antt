@@ -5,7 +5,7 @@ use mathlib.Core.Bool.{Bool, true, false}
 use native.Mathlib.Omega.{arith}
 use Rattle.theory.specs.Form.{Form}
 use Rattle.theory.specs.Pool.{Visits, here, next, entry, rightOf}
-use Rattle.theory.proofs.RightLaws.{by-cases}
+use Rattle.theory.proofs.Logic.{by-cases}
 use Rattle.theory.proofs.SettledLaws.{says-at}
 use Rattle.table.specs.declared.Shape.{Shape}
 use Rattle.table.specs.Map.{addresses, block, leads, index, formOf}
@@ -22,7 +22,7 @@ use Rattle.targets.specs.declared.Paint.{Paint}
 use Rattle.plan.specs.Aims.{aims}
 use Rattle.plan.proofs.Setting.{Setting}
 use Rattle.plan.proofs.BlockRightsLaws.{wants-near, said-near}
-use Rattle.plan.proofs.MeetLaws.{Stays}
+use Rattle.plan.proofs.MeetLaws.{RightsStay}
 use Rattle.plan.proofs.WantedLaws.{first-address, stays-want}
 use Rattle.plan.proofs.SettingLaws.{placed}
 
@@ -78,7 +78,7 @@ module _ {s : Shape} {d : ℕ} {paint : Paint} {P middle leaf : ℕ → ℕ} {fr
         (λ w. w)
 
   -- The entry of a block whose rights stay, where the old walk comes to it.
-  entry-stays : (h i k : ℕ) → h < 2 → i < blocks h * D → Stays s d paint P h i
+  entry-stays : (h i k : ℕ) → h < 2 → i < blocks h * D → RightsStay s d paint P h i
       → Visits F P (addressOf h i) 2 (entry F (domainOf h i) (addressOf h i)) (suc h) k → entryWord D M L middle leaf T P h i ≡ P k
   entry-stays h i k hi bi st v =
       let (be, ba, x) = number-first h D i hi bi in
@@ -98,14 +98,14 @@ module _ {s : Shape} {d : ℕ} {paint : Paint} {P middle leaf : ℕ → ℕ} {fr
       near b bb y = st b bb (y ∙ first-address h i hi)
 
   -- A root word.
-  pub root-stays : (k : ℕ) → k < 1024 * D → Stays s d paint P 1 k → entryWord D M L middle leaf T P 1 k ≡ P k
+  pub root-stays : (k : ℕ) → k < 1024 * D → RightsStay s d paint P 1 k → entryWord D M L middle leaf T P 1 k ≡ P k
   root-stays k bk st =
       let (be, ba, x) = number-first 1 D k (omega arith) bk in
       entry-stays 1 k k (omega arith) bk st (rw (root-number (domainOf 1 k) (addressOf 1 k) ba ∙ x) here)
 
   -- A word of a middle table, by its page ..
   pub middle-stays : (k p j : ℕ) → InPlace D M L k 1 p j → middle p < 1024 * D → old P 1 (middle p) ≡ true
-      → Stays s d paint P 0 (1024 * middle p + j) → tableWord D M L middle leaf T P 1 (middle p) j ≡ P k
+      → RightsStay s d paint P 0 (1024 * middle p + j) → tableWord D M L middle leaf T P 1 (middle p) j ≡ P k
   middle-stays k p j x bo o st =
       let u : domainOf 0 (1024 * middle p + j) ≡ domainOf 1 (middle p) = omega arith in
       let w : addressOf 0 (1024 * middle p + j) ≡ addressOf 1 (middle p) + 4096 * j = omega arith in
@@ -113,7 +113,7 @@ module _ {s : Shape} {d : ℕ} {paint : Paint} {P middle leaf : ℕ → ℕ} {fr
 
   -- .. and of a leaf.
   pub leaf-stays : (k p j : ℕ) → InPlace D M L k 0 p j → leaf p < 1048576 * D → old P 0 (leaf p) ≡ true
-      → Stays s d paint P 0 (leaf p) → tableWord D M L middle leaf T P 0 (leaf p) j ≡ P k
+      → RightsStay s d paint P 0 (leaf p) → tableWord D M L middle leaf T P 0 (leaf p) j ≡ P k
   leaf-stays k p j x bo o st =
       let (be, ba, _) = number-of 0 D (leaf p) (64 * j) (omega arith) bo (omega arith) in
       let w : (addressOf 0 (leaf p) + 64 * j) / 4096 ≡ leaf p % 1048576 = omega arith in
@@ -121,7 +121,7 @@ module _ {s : Shape} {d : ℕ} {paint : Paint} {P middle leaf : ℕ → ℕ} {fr
       (λ b bb y. st b bb (block-above 1 0 b _ (omega arith) (omega arith) y ∙ w))
 
   -- The pages of a block whose rights stay, stay.
-  pub page-stays : (i j : ℕ) → j < 1024 → Stays s d paint P 1 i → Stays s d paint P 0 (1024 * i + j)
+  pub page-stays : (i j : ℕ) → j < 1024 → RightsStay s d paint P 1 i → RightsStay s d paint P 0 (1024 * i + j)
   page-stays i j bj st b bb e =
       let u : domainOf 0 (1024 * i + j) ≡ domainOf 1 i = omega arith in
       let w : b / 4194304 ≡ i % 1024 = omega arith in

@@ -17,7 +17,7 @@ use Rattle.targets.specs.declared.Paint.{Paint}
 use Rattle.plan.specs.Aims.{aims}
 use Rattle.plan.specs.Edges.{firstOf, lastOf}
 use Rattle.plan.proofs.BlockRightsLaws.{wants-near, wants-plain}
-use Rattle.plan.proofs.MeetLaws.{Stays, Plain, meeting}
+use Rattle.plan.proofs.MeetLaws.{RightsStay, Plain, meeting}
 
 -- The first address of a block is in the block.
 pub first-address : (h i : ℕ) → h < 2 → addressOf h i / block (suc h) ≡ i % blocks h
@@ -42,7 +42,7 @@ module _ (s : Shape) (d : ℕ) (paint : Paint) (P : ℕ → ℕ) (h i : ℕ) (hi
 
   module _ (st : Settled (formOf s) P) where
     -- A block whose rights stay wants a table where it had one.
-    pub stays-want : Stays s d paint P h i → want (aims s d paint P) h i ≡ old P h i
+    pub stays-want : RightsStay s d paint P h i → want (aims s d paint P) h i ≡ old P h i
     stays-want same =
         wants-near (aims s d paint P (domainOf h i)) (rightOf (formOf s) P (domainOf h i)) (suc h) (addressOf h i)
         (number-first h (s .domains) i hi bi .1) (λ b bb x. same b bb (x ∙ first-address h i hi))

@@ -148,7 +148,7 @@ module _ (s : Shape) (d : ℕ) (paint : Paint) (P : ℕ → ℕ) where
     pub last-told : Told h (lastOf h paint) last
 
   -- Of the tables of height `h` of the blocks below `i`, the places of those that are kept are marked.
-  pub record Kept (h i : ℕ) (f : List Bool) : Type 0 where
+  pub record KeptMarked (h i : ℕ) (f : List Bool) : Type 0 where
     pub owner : ℕ → ℕ
     pub keeping : Keeping (blocks h * s .domains) (places (s .domains) (s .middles) (s .leaves) h) (want (aims s d paint P) h) (old P h)
         (was (s .domains) (s .middles) (s .leaves) P h) i owner
@@ -200,7 +200,7 @@ TakenIs f c m from long e (At g b) = ((isNew e ≡ false) × (g ≡ e) × (b ≡
 TakenIs f c m from long e None = (isNew e ≡ true) × ((q : ℕ) → c ≤ q → q < m → getD f q false ≡ true)
 
 -- What the loops over kept places have found, and what is known of the edges: enough to give the places out.
-pub record Giving (s : Shape) (d : ℕ) (paint : Paint) (P : ℕ → ℕ) (h : ℕ) (f : List Bool) (m from long : ℕ) (first last : Edge) : Type 0 where
+pub record GivesOut (s : Shape) (d : ℕ) (paint : Paint) (P : ℕ → ℕ) (h : ℕ) (f : List Bool) (m from long : ℕ) (first last : Edge) : Type 0 where
   pub height : h < 2
   pub range : InRange (s .domains) (s .middles) (s .leaves)
   pub settled : Settled (formOf s) P
@@ -209,10 +209,10 @@ pub record Giving (s : Shape) (d : ℕ) (paint : Paint) (P : ℕ → ℕ) (h : �
   pub count-is : m ≡ places (s .domains) (s .middles) (s .leaves) h
   pub from-is : from ≡ firstPlace (s .domains) (s .middles) (s .leaves) h
   pub long-is : long ≡ size h
-  pub kept : Kept s d paint P h (blocks h * s .domains) f
+  pub kept : KeptMarked s d paint P h (blocks h * s .domains) f
   pub told : EndsTold s d paint P h first last
 
 -- Whichever change that is, the places are right for it.
 abbrev pub EndsGiven : List Bool → ℕ → ℕ → ℕ → Edge → Edge → Ends → Type 0
 EndsGiven f m from long first last r =
-    (s : Shape) (d : ℕ) (paint : Paint) (P : ℕ → ℕ) (h : ℕ) → Giving s d paint P h f m from long first last → EndsAre s d paint P h r
+    (s : Shape) (d : ℕ) (paint : Paint) (P : ℕ → ℕ) (h : ℕ) → GivesOut s d paint P h f m from long first last → EndsAre s d paint P h r

@@ -13,21 +13,24 @@ ghost use Rattle.plan.specs.Edges.{FirstFree, TakenIs, EndsGiven};
 use table::Shape;
 use targets::Paint;
 use targets::Target;
+use words::PoolWord;
 
 mod keeping; // keeping.rt: the places of tables that stay
 
-// What a pointer holds while the place of its new table is still to be found: it leads, and no pool word has this number.
+// What a pointer holds while the place of its new table is still to be found: it leads, and no pool word has this
+// number.
 pub const PENDING: u32 = 0x7FFF_FFFF;
 
-// A block or a page at an end of the region: its number in the domain, the entry that it had, and the entry that it will have. Of a page in a
-// block of eight rights the old entry is the eight rights that stand for it.
+// A block or a page at an end of the region: its number in the domain, the entry that it had, and the entry that it
+// will have. Of a page in a block of eight rights the old entry is the eight rights that stand for it.
 pub struct Edge {
     pub number: u32,
     pub old: u32,
     pub last: u32,
 }
 
-// All that the stores of a change need to know. The blocks and pages between the two edges are covered whole; those outside stay.
+// All that the stores of a change need to know. The blocks and pages between the two edges are covered whole; those
+// outside stay.
 pub struct Plan {
     pub domain: u32,
     pub paint: Paint,
@@ -54,7 +57,8 @@ pub enum Ends {
     Full,
 }
 
-// An edge whose new table, if it needs one, has its place, with the place from which the next is looked for; or none is left.
+// An edge whose new table, if it needs one, has its place, with the place from which the next is looked for; or none
+// is left.
 pub enum Taken {
     At(Edge, u32),
     None,
@@ -87,22 +91,36 @@ fn edge_of(number: u32, old: u32, target: Target) -> Edge
     }
 }
 
+// The root word of a block of a domain.
+fn root_word(domain: u32, block: u32) -> PoolWord
+    requires { ⌜ (domain < 4) × (block < 1024) ⌝ }
+    ensures { λ r. ⌜ r ≡ record { 0 = 1024 * domain + block } ⌝ }
+{
+    let root = words::pool_word(1024 * domain);
+    words::word_after(root, block as usize)
+}
+
 fn block_edge(pool: &[u32], domain: u32, paint: Paint, n: u32) -> Edge
     requires { ⌜ ReadableRoot (now pool) domain ⌝ }
     requires { ⌜ (domain < 4) × (n < 1024) × (paint .right < 4) ⌝ }
-    ensures { λ r. ⌜ ((R : ℕ → ℕ) → RootGives (words (now (pool .entry))) domain R → r ≡ edgeAt (words (now (pool .entry))) domain paint R 1 n) ⌝ }
+    ensures { λ r. ⌜ ((R : ℕ → ℕ) → RootGives (words (now (pool .entry))) domain R
+        → r ≡ edgeAt (words (now (pool .entry))) domain paint R 1 n) ⌝ }
 {
-    let at = (1024 * domain + n) as usize;
+    let word = root_word(domain, n);
+    let at = words::pool_index(word);
     let old = pool[at];
     let target = targets::block_target(pool, paint, old, n);
     edge_of(n, old, target)
 }
 
-// The edge of the last block: that of the first where they are one, since the search of a block is the longest part of planning.
+// The edge of the last block: that of the first where they are one, since the search of a block is the longest part
+// of planning.
 fn last_block_edge(pool: &[u32], domain: u32, paint: Paint, first: Edge, n: u32) -> Edge
     requires { ⌜ ReadableRoot (now pool) domain ⌝ }
     requires { ⌜ (domain < 4) × (n < 1024) × (paint .right < 4) ⌝ }
-    ensures { λ r. ⌜ ((R : ℕ → ℕ) → RootGives (words (now (pool .entry))) domain R → first ≡ edgeAt (words (now (pool .entry))) domain paint R 1 (first .number) → r ≡ edgeAt (words (now (pool .entry))) domain paint R 1 n) ⌝ }
+    ensures { λ r. ⌜ ((R : ℕ → ℕ) → RootGives (words (now (pool .entry))) domain R
+        → first ≡ edgeAt (words (now (pool .entry))) domain paint R 1 (first .number)
+        → r ≡ edgeAt (words (now (pool .entry))) domain paint R 1 n) ⌝ }
 {
     let number = first.number;
     if n == number {
@@ -117,11 +135,14 @@ fn page_entry(pool: &[u32], domain: u32, n: u32) -> u32
     requires { ⌜ (domain < 4) × (n < 1048576) ⌝ }
     ensures { λ r. ⌜ r ≡ entryAt (words (now (pool .entry))) 0 domain n ⌝ }
 {
-    let at = (1024 * domain + n / 1024) as usize;
+    let word = root_word(domain, n / 1024);
+    let at = words::pool_index(word);
     let root = pool[at];
     if root < 0x8000_0000 {
-        let word = root as usize + (n % 1024) as usize;
-        return pool[word];
+        let table = words::pool_word(root);
+        let page = words::word_after(table, (n % 1024) as usize);
+        let k = words::pool_index(page);
+        return pool[k];
     }
     targets::virtual_entry(root, n)
 }
@@ -129,7 +150,8 @@ fn page_entry(pool: &[u32], domain: u32, n: u32) -> u32
 fn page_edge(pool: &[u32], domain: u32, paint: Paint, n: u32) -> Edge
     requires { ⌜ ReadableRoot (now pool) domain ⌝ }
     requires { ⌜ (domain < 4) × (n < 1048576) × (paint .right < 4) ⌝ }
-    ensures { λ r. ⌜ ((R : ℕ → ℕ) → RootGives (words (now (pool .entry))) domain R → r ≡ edgeAt (words (now (pool .entry))) domain paint R 0 n) ⌝ }
+    ensures { λ r. ⌜ ((R : ℕ → ℕ) → RootGives (words (now (pool .entry))) domain R
+        → r ≡ edgeAt (words (now (pool .entry))) domain paint R 0 n) ⌝ }
 {
     let old = page_entry(pool, domain, n);
     let target = targets::page_target(pool, paint, old, n);
@@ -141,7 +163,8 @@ fn draft_plan(pool: &[u32], domain: u32, paint: Paint) -> Plan
     requires { ⌜ ReadableRoot (now pool) domain ⌝ }
     requires { ⌜ domain < 4 ⌝ }
     requires { ⌜ Regular paint ⌝ }
-    ensures { λ r. ⌜ ((R : ℕ → ℕ) → RootGives (words (now (pool .entry))) domain R → r ≡ draftOf (words (now (pool .entry))) domain paint R) ⌝ }
+    ensures { λ r. ⌜ ((R : ℕ → ℕ) → RootGives (words (now (pool .entry))) domain R
+        → r ≡ draftOf (words (now (pool .entry))) domain paint R) ⌝ }
 {
     let lo = paint.lo;
     let hi = paint.hi;
@@ -176,10 +199,11 @@ fn next_free(kept: Marks, from: u32, to: u32) -> u32
     p
 }
 
-// A new table takes the lowest place from `from` on that no kept table has. The `count` places are of `long` words, and the first begins at `base`.
-fn take_place(kept: Marks, from: u32, count: u32, base: u32, long: u32, edge: Edge) -> Taken
-    requires { ⌜ (from ≤ count) × (count ≤ 64) × (base ≤ 12288) × (long ≤ 1024) ⌝ }
-    ensures { λ r. ⌜ TakenIs (kept .on) from count base long edge r ⌝ }
+// A new table takes the lowest place from `from` on that no kept table has. The `count` places are of `long` words,
+// and the first begins at `base`.
+fn take_place(kept: Marks, from: u32, count: u32, base: PoolWord, long: u32, edge: Edge) -> Taken
+    requires { ⌜ (from ≤ count) × (count ≤ 64) × (base .0 ≤ 12288) × (long ≤ 1024) ⌝ }
+    ensures { λ r. ⌜ TakenIs (kept .on) from count (base .0) long edge r ⌝ }
 {
     let number = edge.number;
     let old = edge.old;
@@ -194,20 +218,22 @@ fn take_place(kept: Marks, from: u32, count: u32, base: u32, long: u32, edge: Ed
     if place == count {
         return Taken::None;
     }
-    let table = base + long * place;
+    let table = words::word_after(base, (long * place) as usize);
+    let pointer = words::entry_of(table);
     let placed = Edge {
         number,
         old,
-        last: table,
+        last: pointer,
     };
     let next = place + 1;
     Taken::At(placed, next)
 }
 
-// Places for the new tables of one height, in the order of their blocks. Where the region begins and ends in one block, its edges are one.
-fn place_ends(kept: Marks, count: u32, base: u32, long: u32, first: Edge, last: Edge) -> Ends
-    requires { ⌜ (count ≤ 64) × (base ≤ 12288) × (long ≤ 1024) ⌝ }
-    ensures { λ r. ⌜ EndsGiven (kept .on) count base long first last r ⌝ }
+// Places for the new tables of one height, in the order of their blocks. Where the region begins and ends in one
+// block, its edges are one.
+fn place_ends(kept: Marks, count: u32, base: PoolWord, long: u32, first: Edge, last: Edge) -> Ends
+    requires { ⌜ (count ≤ 64) × (base .0 ≤ 12288) × (long ≤ 1024) ⌝ }
+    ensures { λ r. ⌜ EndsGiven (kept .on) count (base .0) long first last r ⌝ }
 {
     let f = first.number;
     let l = last.number;
@@ -225,8 +251,8 @@ fn place_ends(kept: Marks, count: u32, base: u32, long: u32, first: Edge, last: 
     Ends::Both(a, b)
 }
 
-// The plan of a change, before its first store: which entries it ends with, and where its new tables stand. Places that the change gives up count as
-// free; a place that a table of any domain keeps does not.
+// The plan of a change, before its first store: which entries it ends with, and where its new tables stand. Places
+// that the change gives up count as free; a place that a table of any domain keeps does not.
 pub fn plan_change(
     pool: &[u32],
     shape: Shape,
@@ -244,8 +270,8 @@ pub fn plan_change(
     let domains = shape.domains;
     let middles = shape.middles;
     let leaves = shape.leaves;
-    let first_middle = 1024 * domains;
-    let first_leaf = first_middle + 1024 * middles;
+    let first_middle = words::pool_word(1024 * domains);
+    let first_leaf = words::pool_word(1024 * domains + 1024 * middles);
     let draft = draft_plan(pool, domain, paint);
     let first_block = draft.first_block;
     let last_block = draft.last_block;

@@ -7,7 +7,8 @@ paper-numbers : text 1 (0 ∷ 0 ∷ 0 ∷ []) ≡ 48 ∷ 10 ∷ 48 ∷ 10 ∷ 48
 unfolding placesIn numeral endOf textFrom
 paper-numbers = refl
 
-paper-run : text 4 (1 ∷ 4096 ∷ 4103 ∷ 2 ∷ []) ≡ 49 ∷ 32 ∷ 52 ∷ 48 ∷ 57 ∷ 54 ∷ 32 ∷ 52 ∷ 49 ∷ 48 ∷ 51 ∷ 32 ∷ 50 ∷ 10 ∷ []
+paper-run : text 4 (1 ∷ 4096 ∷ 4103 ∷ 2 ∷ [])
+    ≡ 49 ∷ 32 ∷ 52 ∷ 48 ∷ 57 ∷ 54 ∷ 32 ∷ 52 ∷ 49 ∷ 48 ∷ 51 ∷ 32 ∷ 50 ∷ 10 ∷ []
 unfolding placesIn numeral endOf textFrom
 paper-run = refl
 

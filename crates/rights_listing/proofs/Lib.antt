@@ -5,4 +5,6 @@ pub mod ServesLaws
 pub mod HearsLaws
 pub mod ChunkLaws
 pub mod PageLaws
+pub mod ShowLaws
+pub mod ProgramLaws
 mod Examples

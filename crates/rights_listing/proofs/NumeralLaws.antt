@@ -53,7 +53,10 @@ places-hold (suc f) n h = ⊎-elim
 places-some : (f n : ℕ) → 0 < placesIn f n
 unfolding placesIn
 places-some zero n = omega arith
-places-some (suc f) n = ⊎-elim (λ g. rw (lt-ltb n 10 g) (omega arith)) (λ g. rw (le-ltb n 10 g) (omega arith)) (lt-or-ge n 10)
+places-some (suc f) n = ⊎-elim
+    (λ g. rw (lt-ltb n 10 g) (omega arith))
+    (λ g. rw (le-ltb n 10 g) (omega arith))
+    (lt-or-ge n 10)
 
 pub numeral-reads : (n : ℕ) → n < 4294967296 → Number (numeral n) n
 unfolding numeral

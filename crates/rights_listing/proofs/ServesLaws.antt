@@ -1,21 +1,23 @@
 -- What the program answers to a line, and to an input.
-use Prim.Native.Nat.{ℕ, suc, _≤_}
+use Prim.Native.Nat.{ℕ, suc, _<_, _≤_}
 use native.Mathlib.Omega.{arith}
 use mathlib.Core.Path.{_≡_, refl, sym, ap, _∙_}
 use mathlib.Core.Bool.{Bool, true, false, cond}
 use mathlib.Core.List.{List, [], _∷_, _++_}
-use lib.Dec.{eqb}
+use lib.Dec.{eqb, ltb}
 use lib.ListN.{length}
+use Rattle.words.specs.declared.Rounded.the-variants.{Covers, Refused as NoRegion}
+use Rattle.words.specs.Region.{roundedEnd, rounded, regionOf}
 use Rattle.table.specs.declared.Shape.{Shape}
 use Rattle.change.specs.declared.Answer.{Answer}
 use Rattle.change.specs.declared.Answer.the-variants.{Done, Cut, Refused}
 use Rattle.change.specs.Cuts.{differing}
-use Rattle.change.specs.Answers.{ChangesRegion, Changes}
+use Rattle.change.specs.Answers.{numbers, ChangesRegion, Changes}
 use Rattle.change.specs.Answers as answers
 use Rattle.change.proofs.ChangesLaws.{one-change}
 use Rattle.lines.specs.declared.Parsed.{Parsed}
 use Rattle.lines.specs.declared.Parsed.the-variants.{Request, NotOfForm}
-use Rattle.rights_listing.specs.Serves.{whole, suffices, Serves, not-of-form, done, refused, Replies, none, next}
+use Rattle.rights_listing.specs.Serves.{whole, suffices, Serves, not-of-form, request, Replies, none, next}
 
 -- ---- One line.
 
@@ -36,7 +38,8 @@ not-refused : {n : ℕ} → Refused n ≡ Cut → ⊥
 not-refused e = let z : _≡_ {A = ℕ} 0 1 = cc in omega arith
 
 -- The allowance suffices: no change is cut.
-never-cut : {p q : List ℕ} {d start len r : ℕ} {a : Answer} → a ≡ Cut → Changes p whole d start len r suffices a q → ⊥
+pub never-cut : {p q : List ℕ} {d start len r : ℕ} {a : Answer} → a ≡ Cut
+    → Changes p whole d start len r suffices a q → ⊥
 never-cut e (answers.no-shape f) = not-refused e
 never-cut e (answers.no-domain f h) = not-refused e
 never-cut e (answers.no-right f h g) = not-refused e
@@ -52,37 +55,65 @@ never-cut {p = p} e (answers.in-order g o (answers.cut t x z)) =
     omega arith
 
 -- A request is answered by its change.
-module _ {p q : List ℕ} {d start len r : ℕ} {said : Parsed} (e : said ≡ Request d start len r) where
-  pub serves-done : {n : ℕ} {a : Answer} → a ≡ Done n → Changes p whole d start len r suffices a q → Serves p said 0 q
-  serves-done z h = rw e (done (rw z at h))
-
-  pub serves-refused : {k : ℕ} {a : Answer} → a ≡ Refused k → Changes p whole d start len r suffices a q → Serves p said k q
-  serves-refused z h = rw e (refused (rw z at h))
-
-  pub serves-cut : {k : ℕ} {a : Answer} → a ≡ Cut → Changes p whole d start len r suffices a q → Serves p said k q
-  serves-cut z h = absurd (never-cut z h)
+pub serves-request : {p q : List ℕ} {d start len r k : ℕ} {said : Parsed} {a : Answer} → said ≡ Request d start len r
+    → numbers a .refusal ≡ k → Changes p whole d start len r suffices a q → Serves p said k q
+serves-request e z h = rw (e, ← z) (request h)
 
 pub serves-none : {p : List ℕ} {said : Parsed} → said ≡ NotOfForm → Serves p said 99 p
 serves-none e = rw e not-of-form
 
+-- ---- 0 means done.
+
+same-number : {j k : ℕ} → Refused j ≡ Refused k → j ≡ k
+same-number e = cc
+
+-- A region is refused with 4 or 5.
+region-number : (start len k : ℕ) → regionOf start len ≡ NoRegion k → 4 ≤ k
+unfolding regionOf
+region-number start len k = go (eqb len 0) (ltb 4294967296 (roundedEnd start len))
+  where
+    go : (b c : Bool) → cond b (NoRegion 4) (cond c (NoRegion 5) (Covers (rounded start len))) ≡ NoRegion k → 4 ≤ k
+    go true c e = let z : 4 ≡ k = cc in omega arith
+    go false true e = let z : 5 ≡ k = cc in omega arith
+    go false false e = let z : _≡_ {A = ℕ} 0 1 = cc in omega arith
+
+-- No refusal has the number 0.
+refused-some : {p q : List ℕ} {d start len r n k : ℕ} {a : Answer} → a ≡ Refused k
+    → Changes p whole d start len r n a q → 0 < k
+refused-some e (answers.no-shape f) = let z = same-number e in omega arith
+refused-some e (answers.no-domain f h) = let z = same-number e in omega arith
+refused-some e (answers.no-right f h g) = let z = same-number e in omega arith
+refused-some {start = start} {len = len} e (answers.no-region f h g k z) =
+    let y = region-number start len k z in
+    let x = same-number e in
+    omega arith
+refused-some e (answers.in-order g o (answers.unsound u)) = let z = same-number e in omega arith
+refused-some e (answers.in-order g o (answers.unsettled u v)) = let z = same-number e in omega arith
+refused-some e (answers.in-order g o (answers.no-room u v)) = let z = same-number e in omega arith
+refused-some e (answers.in-order g o (answers.done t q z)) = let y : _≡_ {A = ℕ} 0 1 = cc in omega arith
+refused-some e (answers.in-order g o (answers.cut t x z)) = let y : _≡_ {A = ℕ} 0 1 = cc in omega arith
+
+-- A request that is answered with 0 was done.
+pub zero-done : {p q : List ℕ} {d start len r k : ℕ} → k ≡ 0 → Serves p (Request d start len r) k q
+    → (n : ℕ) × Changes p whole d start len r suffices (Done n) q
+zero-done {p} {q} {d} {start} {len} {r} e (request {a = a} h) = go a e h
+  where
+    go : (a : Answer) → numbers a .refusal ≡ 0 → Changes p whole d start len r suffices a q
+        → (n : ℕ) × Changes p whole d start len r suffices (Done n) q
+    go (Done n) e h = (n, h)
+    go Cut e h = absurd (never-cut refl h)
+    go (Refused k) e h = let z = refused-some refl h in absurd (omega arith)
+
 -- ---- One outcome.
-
-numbers-same : {a b : Answer} {k m : ℕ} → a ≡ b → a ≡ Refused k → b ≡ Refused m → k ≡ m
-numbers-same e f g = cc
-
-done-refused : {a b : Answer} {n k : ℕ} → a ≡ b → a ≡ Done n → b ≡ Refused k → ⊥
-done-refused e f g = let z : _≡_ {A = ℕ} 0 1 = cc in omega arith
 
 -- A line has one answer, and leaves one pool.
 pub one-answer : {p x y : List ℕ} {said : Parsed} {k m : ℕ} → Serves p said k x → Serves p said m y → (k ≡ m) × (x ≡ y)
 one-answer not-of-form not-of-form = (refl, refl)
-one-answer (done a) (done b) = (refl, one-change a b .1)
-one-answer (done a) (refused b) = absurd (done-refused (one-change a b .0) refl refl)
-one-answer (refused a) (done b) = absurd (done-refused (one-change b a .0) refl refl)
-one-answer (refused a) (refused b) = let z = one-change a b in (numbers-same (z .0) refl refl, z .1)
+one-answer (request a) (request b) = let z = one-change a b in (ap (λ c. numbers c .refusal) (z .0), z .1)
 
 -- So have lines one after the other.
-pub one-replies : {p x y : List ℕ} {said : List Parsed} {ks ms : List ℕ} → Replies p said ks x → Replies p said ms y → (ks ≡ ms) × (x ≡ y)
+pub one-replies : {p x y : List ℕ} {said : List Parsed} {ks ms : List ℕ} → Replies p said ks x → Replies p said ms y
+    → (ks ≡ ms) × (x ≡ y)
 one-replies none none = (refl, refl)
 one-replies (next a r) (next b t) =
     let (e, f) = one-answer a b in

@@ -51,7 +51,9 @@ fewest-places (suc f) n (suc k) h w = ⊎-elim
 
 pub digits-length : (k n : ℕ) → length (digits 10 k n) ≡ k
 digits-length zero n = refl
-digits-length (suc k) n = length-append (digits 10 k (n / 10)) (glyph (n % 10) ∷ []) ∙ (let z = digits-length k (n / 10) in omega arith)
+digits-length (suc k) n =
+    let z = digits-length k (n / 10) in
+    length-append (digits 10 k (n / 10)) (glyph (n % 10) ∷ []) ∙ (omega arith)
 
 places-most : (f n : ℕ) → placesIn f n ≤ f + 1
 unfolding placesIn
@@ -72,15 +74,18 @@ module _ (n k : ℕ) (h : n < 4294967296) (w : Fewest 10 1 n k) where
   fewest-numeral = ap (λ j. digits 10 j n) (fewest-places 9 n k (omega arith) w)
 
 -- A number more.
-pub text-more : (per i n : ℕ) (ns : List ℕ) → textFrom per i (ns ++ n ∷ []) ≡ textFrom per i ns ++ (numeral n ++ endOf per (i + length ns) ∷ [])
+pub text-more : (per i n : ℕ) (ns : List ℕ)
+    → textFrom per i (ns ++ n ∷ []) ≡ textFrom per i ns ++ (numeral n ++ endOf per (i + length ns) ∷ [])
 unfolding textFrom
 text-more per i n [] = rw (add-zero i) refl
 text-more per i n (m ∷ ns) =
     let e : i + length (m ∷ ns) ≡ i + 1 + length ns = omega arith in
-    ap (λ t. numeral m ++ endOf per i ∷ t) (text-more per (i + 1) n ns) ∙ rw (e) (sym (append-assoc (numeral m) (endOf per i ∷ textFrom per (i + 1) ns) _))
+    ap (λ t. numeral m ++ endOf per i ∷ t) (text-more per (i + 1) n ns)
+    ∙ rw (e) (sym (append-assoc (numeral m) (endOf per i ∷ textFrom per (i + 1) ns) _))
 
 -- A number more of a list.
-pub text-took : (per i : ℕ) (ns : List ℕ) → i < length ns → text per (take (i + 1) ns) ≡ text per (take i ns) ++ (numeral (getD ns i 0) ++ endOf per i ∷ [])
+pub text-took : (per i : ℕ) (ns : List ℕ) → i < length ns
+    → text per (take (i + 1) ns) ≡ text per (take i ns) ++ (numeral (getD ns i 0) ++ endOf per i ∷ [])
 text-took per i ns h =
     let e : length (take i ns) ≡ i = length-take-le i ns (omega arith) in
     rw (add-one i, take-suc ns i 0 h) (text-more per 0 (getD ns i 0) (take i ns) ∙ rw (e, zero-add i) refl)

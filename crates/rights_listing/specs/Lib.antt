@@ -2,3 +2,4 @@
 pub mod Text
 pub mod Serves
 pub mod Pages
+pub mod Program

@@ -57,8 +57,6 @@ pub fn write_page(pool: &[u32], from: usize, out: &mut [u8]) -> Page
         return Page { len, left: 0 };
     }
     let len = write_fours(out, &runs, 4096);
-    Page {
-        len,
-        left: rest - RUNS,
-    }
+    let left = rest - RUNS;
+    Page { len, left }
 }

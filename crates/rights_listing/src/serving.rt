@@ -10,8 +10,10 @@ use lines::LineSoFar;
 use lines::Parsed;
 use table::Shape;
 
+// An allowance that suffices: no pool has as many words.
 const SUFFICES: u32 = 0xFFFF_FFFF;
 
+// The number for a line that is not of the form.
 const NOT_OF_FORM: u32 = 99;
 
 // What came of a chunk: how many bytes were written, and the line that has begun.
@@ -64,7 +66,8 @@ fn reply(pool: &mut [u32], said: Parsed) -> u32
 // Answers each line that ends in a chunk. A number and its newline take at most 11 bytes, and a line at least one.
 pub fn serve(pool: &mut [u32], chunk: &[u8], line: LineSoFar, out: &mut [u8]) -> Served
     requires { ⌜ 11 * length (now chunk) ≤ length (now out) ⌝ }
-    ensures { λ r. ⌜ ServesChunk (now (chunk .entry)) line (now (pool .entry)) r (now (pool .exit)) (now (out .exit)) ⌝ }
+    ensures { λ r. ⌜ ServesChunk (now (chunk .entry)) line (now (pool .entry)) r
+        (now (pool .exit)) (now (out .exit)) ⌝ }
 {
     let mut begun = line;
     let mut at = 0;

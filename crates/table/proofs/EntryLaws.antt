@@ -16,7 +16,7 @@ use Rattle.table.specs.declared.Entry.the-variants.{Rights, Leads, Bad}
 use Rattle.table.specs.Shape.{firstMiddle, firstLeaf, poolLength}
 use Rattle.table.specs.Map.{isPlace, block, part, parts, size, index, leads, good, formOf}
 use Rattle.table.specs.Entries.{leadsTo, decodeOf}
-use Rattle.table.proofs.ShapeLaws.{and-both}
+use Rattle.theory.proofs.Logic.{and-both}
 
 -- The test of a place, by its three halves.
 module _ (from long n w : ℕ) where

@@ -9,7 +9,7 @@ use lib.Dec.{ltb}
 use borrow.Author.Tests.{lt-ltb, le-ltb, ltb-true, le-leb, leb-true, eq-eqb, eqb-true}
 use Rattle.theory.specs.Settled.{Together, Says}
 use Rattle.theory.specs.Lawful.{Lawful, Exact}
-use Rattle.theory.proofs.RightLaws.{by-cases}
+use Rattle.theory.proofs.Logic.{by-cases, and-both}
 use Rattle.words.specs.Rights.{rightAt, goodRights}
 use Rattle.words.proofs.RightsLaws.{good-low, digits-equal, good-digits-equal}
 use Rattle.table.specs.Shape.{firstMiddle, firstLeaf, firstPlace, places}
@@ -17,7 +17,6 @@ use Rattle.table.specs.Map.{addresses, block, part, parts, size, index, 
 use Rattle.table.specs.Wants.{wordAt, wordsIn}
 use Rattle.table.proofs.BlockLaws.{block-together, first-word, word-below, word-block, word-number, entryAt, entry-below}
 use Rattle.table.proofs.BlockLaws.{entry-block, entry-index}
-use Rattle.table.proofs.ShapeLaws.{and-both}
 use Rattle.table.proofs.EntryLaws.{index-below}
 
 -- Both of two tests.

@@ -11,7 +11,7 @@ use Rattle.theory.specs.Form.{Form}
 use Rattle.theory.specs.Pool.{SoundPool, words, entry, rightOf}
 use Rattle.theory.specs.Walk.{End, bad, decides, walk}
 use Rattle.theory.specs.Settled.{Together, Says}
-use Rattle.theory.proofs.RightLaws.{by-cases}
+use Rattle.theory.proofs.Logic.{by-cases}
 use Rattle.theory.proofs.ReachLaws.{entry-reach}
 use Rattle.theory.proofs.WalkLaws.{walk-down, decides-low, decides-right, decides-says, sound-decides}
 use Rattle.words.specs.declared.PoolWord.{PoolWord}

@@ -6,11 +6,7 @@ use lib.Dec.{eqb, leb}
 use borrow.Author.Tests.{leb-true, eqb-true, le-leb, eq-eqb}
 use Rattle.table.specs.declared.Shape.{Shape}
 use Rattle.table.specs.Shape.{InRange, Fits, fitsOf}
-
--- Both halves of a test.
-pub and-both : (a b : Bool) → (a && b) ≡ true → (a ≡ true) × (b ≡ true)
-and-both true b e = (refl, e)
-and-both false b e = absurd (false≢true e)
+use Rattle.theory.proofs.Logic.{and-both}
 
 pub test-fits : (s : Shape) (n : ℕ) → fitsOf s n ≡ true → Fits s n
 test-fits s n e =

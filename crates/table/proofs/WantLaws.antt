@@ -10,7 +10,8 @@ use borrow.Author.Tests.{eqb-true, eqb-false, lt-ltb, not-true, not-false}
 use Rattle.theory.specs.Pool.{right, entry, rightOf}
 use Rattle.theory.specs.Settled.{Together, Says}
 use Rattle.theory.specs.Lawful.{Wanting}
-use Rattle.theory.proofs.RightLaws.{by-cases, right-last, right-down, right-says}
+use Rattle.theory.proofs.Logic.{by-cases}
+use Rattle.theory.proofs.RightLaws.{right-last, right-down, right-says}
 use Rattle.theory.proofs.Encodes.{TellsWants}
 use Rattle.words.specs.Rights.{rightAt, pack}
 use Rattle.words.specs.Region.{covered}

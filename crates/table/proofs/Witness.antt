@@ -12,7 +12,7 @@ use Rattle.theory.specs.Form.{Form}
 use Rattle.theory.specs.Pool.{words, rightOf, Led}
 use Rattle.theory.specs.Settled.{Together, Says}
 use Rattle.theory.specs.Finished.{New, Place, Finished}
-use Rattle.theory.proofs.RightLaws.{by-cases}
+use Rattle.theory.proofs.Logic.{by-cases}
 use Rattle.theory.proofs.Encodes.{TellsWants, Gets, spot, Placing, Encodes, Follows}
 use Rattle.theory.proofs.EncodesLaws.{gets-led, encodes-finished}
 use Rattle.words.specs.Rights.{rightAt, pack}

@@ -36,7 +36,8 @@ pub struct Shape {
     pub leaves: u32,
 }
 
-// What an entry says: it is rights; or it leads to the table that begins at a pool word, in the place of a number; or it is bad.
+// What an entry says: it is rights; or it leads to the table that begins at a pool word, in the place of a number; or
+// it is bad.
 pub enum Entry {
     Rights(u32),
     Leads(PoolWord, usize),
@@ -111,11 +112,13 @@ pub fn part_in(height: u32, address: ByteAddr) -> u32
     a / 4 % 16
 }
 
-// A pointer to the first word of one of `count` places of `long` words, the first of them at `from` and with the number `nth`.
-fn leads_to(from: u32, long: u32, count: u32, nth: usize, w: u32) -> Entry
-    requires { ⌜ (0 < long) × (from + long * count < 4294967296) × (nth + count < 4294967296) ⌝ }
-    ensures { λ r. ⌜ r ≡ leadsTo from long count nth w ⌝ }
+// A pointer to the first word of one of `count` places of `long` words, the first of them at `first` and with the
+// number `nth`.
+fn leads_to(first: PoolWord, long: u32, count: u32, nth: usize, w: u32) -> Entry
+    requires { ⌜ (0 < long) × (first .0 + long * count < 4294967296) × (nth + count < 4294967296) ⌝ }
+    ensures { λ r. ⌜ r ≡ leadsTo (first .0) long count nth w ⌝ }
 {
+    let from = words::entry_of(first);
     if w < from {
         return Entry::Bad;
     }
@@ -142,11 +145,12 @@ pub fn decode(shape: Shape, height: u32, w: u32) -> Entry
         return Entry::Rights(w);
     }
     if w < 0x8000_0000 {
-        let from = 1024 * domains;
         if height == 1 {
-            return leads_to(from + 1024 * middles, 64, leaves, 8, w);
+            let first_leaf = words::pool_word(1024 * domains + 1024 * middles);
+            return leads_to(first_leaf, 64, leaves, 8, w);
         }
-        return leads_to(from, 1024, middles, 0, w);
+        let first_middle = words::pool_word(1024 * domains);
+        return leads_to(first_middle, 1024, middles, 0, w);
     }
     if words::good_rights(w) {
         return Entry::Rights(w);
@@ -174,7 +178,8 @@ pub fn fresh(pool: &mut [u32], shape: Shape) -> Made
         return Made::Refused(1);
     }
     let domains = shape.domains;
-    let roots = (1024 * domains) as usize;
+    let past_roots = words::pool_word(1024 * domains);
+    let roots = words::pool_index(past_roots);
     fill(&mut pool[..roots], 0x8000_0000);
     fill(&mut pool[roots..], 0);
     Made::Done
@@ -183,7 +188,8 @@ pub fn fresh(pool: &mut [u32], shape: Shape) -> Made
 // The one read of a walk, and its count: the loads that a lookup reports are the reads that it makes.
 fn load(pool: &[u32], at: PoolWord, before: u32) -> Loaded
     requires { ⌜ (at .0 < length (now pool)) × (before < 3) ⌝ }
-    ensures { λ r. ⌜ (r .word ≡ words (now (pool .entry)) (at .0)) × (r .word < 4294967296) × (r .loads ≡ before + 1) ⌝ }
+    ensures { λ r. ⌜ (r .word ≡ words (now (pool .entry)) (at .0)) × (r .word < 4294967296)
+        × (r .loads ≡ before + 1) ⌝ }
 {
     let i = words::pool_index(at);
     let word = pool[i];

@@ -8,7 +8,7 @@ use lib.Pow.{pow-mono}
 use borrow.Author.Tests.{eqb-true}
 use Rattle.words.specs.Rights.{rightAt, goodRights, pack}
 use Rattle.words.proofs.RightsLaws.{right-small, digits-equal, good-digits-equal, pack-digit, pack-range, pack-good, pack-same}
-use Rattle.table.proofs.ShapeLaws.{and-both}
+use Rattle.theory.proofs.Logic.{and-both}
 
 -- A loop from the last of `m` rights down to number `i` has packed those from `i` on.
 module _ (top m : ℕ) (f : ℕ → ℕ) where

@@ -7,7 +7,7 @@ use native.Mathlib.Omega.{arith}
 use native.Mathlib.Decide.{decLt}
 use lib.Dec.{leb, ltb}
 use borrow.Author.Tests.{lt-ltb, le-ltb, le-leb, lt-leb}
-use Rattle.theory.proofs.RightLaws.{by-cases}
+use Rattle.theory.proofs.Logic.{by-cases}
 use Rattle.words.specs.Rights.{rightAt, pack, sixteenOf}
 use Rattle.words.specs.Region.{covered}
 use Rattle.words.proofs.RightsLaws.{right-small, pack-same, sixteen-pack}
@@ -15,7 +15,8 @@ use Rattle.table.specs.Wants.{wordAt, saidOf, WordRights}
 use Rattle.table.proofs.WantLaws.{painted-rights}
 use Rattle.targets.specs.declared.Paint.{Paint}
 use Rattle.targets.specs.declared.Cover.the-variants.{Apart, Partly, Whole}
-use Rattle.targets.specs.Targets.{region, painted, GivesLeaf}
+use Rattle.targets.specs.Paints.{region}
+use Rattle.targets.specs.Targets.{painted, GivesLeaf}
 use Rattle.targets.specs.Steps.{inside, Half, CoverIs, rightAfter, Plain}
 use Rattle.targets.proofs.PackLaws.{leaf-packed}
 

@@ -5,7 +5,7 @@ use mathlib.Core.Bool.{Bool, true, false, cond, not, true≢false}
 use native.Mathlib.Omega.{arith}
 use lib.Dec.{eqb}
 use borrow.Author.Tests.{eq-eqb}
-use Rattle.theory.proofs.RightLaws.{by-cases}
+use Rattle.theory.proofs.Logic.{by-cases}
 use Rattle.words.specs.Rights.{rightAt, pack}
 use Rattle.words.proofs.RightsLaws.{pack-digit, pack-same}
 use Rattle.table.specs.Map.{block, part, parts}

@@ -7,7 +7,8 @@ use native.Mathlib.Omega.{arith}
 use lib.ListN.{length}
 use borrow.Author.Tests.{ltb-true}
 use Rattle.theory.specs.Pool.{Reach, step, SoundPool, Roots, start, right, rightOf, words}
-use Rattle.theory.proofs.RightLaws.{by-cases, right-down, right-says}
+use Rattle.theory.proofs.Logic.{by-cases}
+use Rattle.theory.proofs.RightLaws.{right-down, right-says}
 use Rattle.words.specs.Rights.{rightAt, goodRights, eightOf}
 use Rattle.words.proofs.RightsLaws.{right-small, eight-right, eight-good}
 use Rattle.table.specs.declared.Shape.{Shape}

@@ -18,7 +18,8 @@ use Rattle.targets.specs.declared.Cover.the-variants.{Apart, Whole}
 use Rattle.targets.specs.declared.One.{One}
 use Rattle.targets.specs.declared.One.the-variants.{Right, Two}
 use Rattle.targets.specs.declared.Target.the-variants.{Says, Mixed}
-use Rattle.targets.specs.Targets.{region, painted, targetOf, given, Gives}
+use Rattle.targets.specs.Paints.{region}
+use Rattle.targets.specs.Targets.{painted, targetOf, given, Gives}
 use Rattle.targets.specs.Steps.{CoverIs, Plain, OneIs}
 use Rattle.targets.proofs.PaintLaws.{whole-plain, apart-plain, painted-agree, painted-covered, painted-uncovered}
 use Rattle.targets.proofs.PartLaws.{partWord, part-below, plain-small, parts-target, two-target, plain-target, target-agree}

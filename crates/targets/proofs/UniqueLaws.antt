@@ -7,7 +7,7 @@ use Rattle.table.specs.Map.{block}
 use Rattle.table.specs.Wants.{saidOf}
 use Rattle.targets.specs.declared.Paint.{Paint}
 use Rattle.targets.specs.declared.Target.{Target}
-use Rattle.targets.specs.Targets.{painted, targetOf, given, Gives, GivesLeaf, Tells}
+use Rattle.targets.specs.Targets.{painted, targetOf, given, Gives, GivesLeaf, Decides}
 
 -- What `page_target` and `block_target` promise, and what `paint_word` does.
 abbrev TargetPromise : Paint → (ℕ → ℕ) → ℕ → ℕ → ℕ → Target → Type 0
@@ -22,7 +22,7 @@ one-target p P h e n q r x y = x (given P h e) (λ a f. refl) ∙ sym (y (given 
 pub one-word : (p : Paint) (w n q r : ℕ) → WordPromise p w n q → WordPromise p w n r → q ≡ r
 one-word p w n q r x y = x (λ a. rightAt w (a / 4 % 16)) (λ a f. refl) ∙ sym (y (λ a. rightAt w (a / 4 % 16)) (λ a f. refl))
 
-pub one-test : (A : Type 0) (q r : Bool) → Tells q A → Tells r A → q ≡ r
+pub one-test : (A : Type 0) (q r : Bool) → Decides q A → Decides r A → q ≡ r
 one-test A true r x y = sym (y .passes (x .holds refl))
 one-test A false true x y = absurd (false≢true (x .passes (y .holds refl)))
 one-test A false false x y = refl

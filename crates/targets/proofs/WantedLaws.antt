@@ -12,12 +12,11 @@ use lib.ListN.{length, getD}
 use borrow.Author.Tests.{eq-eqb, ne-eqb}
 use Rattle.theory.specs.Pool.{words, SoundPool, rightOf}
 use Rattle.theory.specs.Settled.{Settled}
-use Rattle.theory.proofs.RightLaws.{by-cases}
+use Rattle.theory.proofs.Logic.{by-cases, and-both}
 use Rattle.table.specs.declared.Shape.{Shape}
 use Rattle.table.specs.Shape.{Fits}
 use Rattle.table.specs.Map.{addresses, block, formOf}
 use Rattle.table.specs.Wants.{wantsOf, WordRights}
-use Rattle.table.proofs.ShapeLaws.{and-both}
 use Rattle.table.proofs.WantLaws.{wants-block, wants-up, pool-rights}
 use Rattle.places.specs.Final.{blocks, domainOf, entryOf, oldMiddle, old, want}
 use Rattle.places.proofs.Exists as Exists

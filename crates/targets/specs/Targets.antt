@@ -7,16 +7,12 @@ use lib.ListN.{length}
 use Rattle.theory.specs.Pool.{words}
 use Rattle.words.specs.Rights.{rightAt, goodRights}
 use Rattle.words.specs.Region.{covered}
-use Rattle.words.specs.declared.Region.{Region}
 use Rattle.table.specs.Map.{addresses, block, part, parts, size, index, leads}
 use Rattle.table.specs.Wants.{wantsOf, saidOf}
 use Rattle.targets.specs.declared.Paint.{Paint}
 use Rattle.targets.specs.declared.Target.{Target}
 use Rattle.targets.specs.declared.Target.the-variants.{Says, Mixed}
-
--- The region that is painted; an empty one where `hi` is not above `lo`.
-abbrev pub region : Paint → Region
-region p = record { lo = p .lo; hi = p .hi }
+use Rattle.targets.specs.Paints.{region}
 
 -- The rights `R`, with the painted right on every address that the region covers.
 unfoldable pub painted : Paint → (ℕ → ℕ) → ℕ → ℕ
@@ -55,6 +51,6 @@ Readable p zero e = Unit {0}
 Readable p (suc h) e = ReadableOver p h (Readable p h) e
 
 -- The test `r` is passed exactly where `A` holds.
-pub record Tells (r : Bool) (A : Type 0) : Type 0 where
+pub record Decides (r : Bool) (A : Type 0) : Type 0 where
   pub holds : r ≡ true → A
   pub passes : A → r ≡ true

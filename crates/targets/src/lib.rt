@@ -53,7 +53,8 @@ enum Told {
     Unknown,
 }
 
-// How the region meets the `n` memory words from `s` on. The first test is for an empty region: inside the stretch it would seem to part it.
+// How the region meets the `n` memory words from `s` on. The first test is for an empty region: inside the stretch it
+// would seem to part it.
 fn meeting(paint: Paint, s: u32, n: u32) -> Cover
     requires { ⌜ s + n ≤ 0x40000000 ⌝ }
     ensures { λ r. ⌜ CoverIs r paint s n ⌝ }
@@ -142,14 +143,6 @@ fn even_part(paint: Paint, o: u32, s: u32, n: u32) -> One
     }
 }
 
-// Where in the pool the table begins to which the entry `e` leads.
-fn table_start(e: u32) -> usize
-    ensures { λ r. ⌜ r ≡ e ⌝ }
-{
-    let table = words::pool_word(e);
-    words::pool_index(table)
-}
-
 // How many memory words the block of an entry has.
 fn block_words(height: u32) -> u32
     ensures { λ r. ⌜ r ≡ block height / 4 ⌝ }
@@ -194,8 +187,9 @@ fn same_entry(height: u32, right: u32) -> u32
     words::eight_of(right)
 }
 
-// What the entry of the block numbered `n` should be after the painting, where it is `e`. A block that is covered whole needs no search, nor
-// does one that is not covered and has no table, and a leaf entry never does: the sub-blocks that are searched are mostly made of these.
+// What the entry of the block numbered `n` should be after the painting, where it is `e`. A block that is covered
+// whole needs no search, nor does one that is not covered and has no table, and a leaf entry never does: the
+// sub-blocks that are searched are mostly made of these.
 fn at_once(paint: Paint, height: u32, e: u32, n: u32) -> Told
     requires { ⌜ GoodRights height e ⌝ }
     requires { ⌜ (height ≤ 2) × (n < blocks height) × (paint .right < 4) ⌝ }
@@ -284,8 +278,9 @@ fn pack_eight(work: [u32; 8]) -> u32
     acc
 }
 
-// The same of a block with any entry: one that leads is searched entry by entry of its table, whose entries have the height `below`. Most of
-// these are known at once, and so are asked for that first: it is quicker than a call that may come back here.
+// The same of a block with any entry: one that leads is searched entry by entry of its table, whose entries have the
+// height `below`. Most of these are known at once, and so are asked for that first: it is quicker than a call that
+// may come back here.
 fn part(pool: &[u32], paint: Paint, below: u32, e: u32, n: u32, i: u32) -> One
     requires { ⌜ Readable (now pool) (suc below) e ⌝ }
     requires { ⌜ (below < 2) × (n < blocks (suc below)) × (i < 8) × (paint .right < 4) ⌝ }
@@ -295,8 +290,9 @@ fn part(pool: &[u32], paint: Paint, below: u32, e: u32, n: u32, i: u32) -> One
         return rights_part(paint, below, e, n, i);
     }
     let count = part_entries(below);
-    let start = table_start(e);
-    let from = start + (count * i) as usize;
+    let table = words::pool_word(e);
+    let word = words::word_after(table, (count * i) as usize);
+    let from = words::pool_index(word);
     let number = (8 * n + i) * count;
     let e0 = pool[from];
     let first = entry_target(pool, paint, below, e0, number);
@@ -328,7 +324,8 @@ fn part(pool: &[u32], paint: Paint, below: u32, e: u32, n: u32, i: u32) -> One
 fn search(pool: &[u32], paint: Paint, below: u32, e: u32, n: u32) -> Target
     requires { ⌜ Readable (now pool) (suc below) e ⌝ }
     requires { ⌜ (below < 2) × (n < blocks (suc below)) × (paint .right < 4) ⌝ }
-    ensures { λ r. ⌜ r ≡ targetOf (painted paint (given (words (now (pool .entry))) (suc below) e)) (suc below) (n * block (suc below)) ⌝ }
+    ensures { λ r. ⌜ r ≡ targetOf (painted paint (given (words (now (pool .entry))) (suc below) e)) (suc below)
+        (n * block (suc below)) ⌝ }
 {
     let mut work = [0u32; 8];
     let mut i: u32 = 0;
@@ -343,7 +340,8 @@ fn search(pool: &[u32], paint: Paint, below: u32, e: u32, n: u32) -> Target
     Target::Says(pack_eight(work))
 }
 
-// What the entry of the block numbered `n` should be after the painting, where it is `e`. This, `search` and `part` call each other, the height falling.
+// What the entry of the block numbered `n` should be after the painting, where it is `e`. This, `search` and `part`
+// call each other, the height falling.
 fn entry_target(pool: &[u32], paint: Paint, height: u32, e: u32, n: u32) -> Target
     requires { ⌜ Readable (now pool) height e ⌝ }
     requires { ⌜ (height ≤ 2) × (n < blocks height) × (paint .right < 4) ⌝ }

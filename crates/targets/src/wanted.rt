@@ -10,7 +10,7 @@ ghost use Rattle.table.specs.Map.{formOf};
 ghost use Rattle.places.specs.Final.{want};
 ghost use Rattle.census.specs.Places.{maxPlaces, placeHeight};
 ghost use Rattle.census.specs.Census.{StandsAt, Owners};
-ghost use Rattle.targets.specs.Targets.{Tells};
+ghost use Rattle.targets.specs.Targets.{Decides};
 ghost use Rattle.targets.specs.Steps.{isMixed, LeafIn};
 use crate::Target;
 use crate::UNPAINTED;
@@ -27,7 +27,8 @@ fn is_mixed(t: Target) -> bool
     }
 }
 
-// Whether the table that stands at place `n`, that of a block, is wanted: with nothing painted, no rights can be its entry.
+// Whether the table that stands at place `n`, that of a block, is wanted: with nothing painted, no rights can be its
+// entry.
 fn table_wanted(pool: &[u32], shape: Shape, n: usize, block: u32) -> bool
     requires { ⌜ Fits shape (length (now pool)) ⌝ }
     requires { ⌜ SoundPool (formOf shape) (words (now pool)) ⌝ }
@@ -35,7 +36,8 @@ fn table_wanted(pool: &[u32], shape: Shape, n: usize, block: u32) -> bool
     ensures { λ r. ⌜ r ≡ want (rightOf (formOf shape) (words (now (pool .entry)))) (placeHeight n) block ⌝ }
 {
     let height = census::place_height(n);
-    let e = census::place_word(shape, n);
+    let place = census::place_word(shape, n);
+    let e = words::entry_of(place);
     let number = census::block_in_domain(height, block);
     let t = entry_target(pool, UNPAINTED, height + 1, e, number);
     is_mixed(t)
@@ -60,13 +62,14 @@ fn has_leaf(owners: &[u32], n: usize, block: u32) -> bool
     false
 }
 
-// Whether a sound pool is settled: every table in it, by the owners of its places, is wanted. (In a sound pool a block that wants a table has one.)
-// The leaves come first: a table with a leaf that is wanted is wanted too, so only one without leaves is searched.
+// Whether a sound pool is settled: every table in it, by the owners of its places, is wanted. (In a sound pool a
+// block that wants a table has one.) The leaves come first: a table with a leaf that is wanted is wanted too, so only
+// one without leaves is searched.
 pub fn settled(pool: &[u32], shape: Shape, owners: &[u32]) -> bool
     requires { ⌜ Fits shape (length (now pool)) ⌝ }
     requires { ⌜ SoundPool (formOf shape) (words (now pool)) ⌝ }
     requires { ⌜ Owners (now pool) shape (now owners) ⌝ }
-    ensures { λ r. ⌜ Tells r (Settled (formOf shape) (words (now (pool .entry)))) ⌝ }
+    ensures { λ r. ⌜ Decides r (Settled (formOf shape) (words (now (pool .entry)))) ⌝ }
 {
     let mut n: usize = 72;
     while 0 < n {

@@ -11,7 +11,8 @@ use Rattle.theory.specs.Pool.{words, Reach, start, step, SoundPool, righ
 use Rattle.theory.specs.Lawful.{Lawful}
 use Rattle.theory.specs.Stores.{Kept, top, down, Cut, Giving, Filling, Linking, Stage, giving, filling, linking, Next, give, fill, link, Ready}
 use Rattle.theory.proofs.ReachLaws.{through}
-use Rattle.theory.proofs.RightLaws.{by-cases, right-last, right-down, right-says, right-same}
+use Rattle.theory.proofs.Logic.{by-cases}
+use Rattle.theory.proofs.RightLaws.{right-last, right-down, right-says, right-same}
 use Rattle.theory.proofs.StoreLaws.{Store, store-set}
 use Rattle.theory.proofs.KeptLaws.{kept-reach, kept-swap, kept-zone, hangs-not-kept}
 

@@ -9,10 +9,10 @@ use lib.Dec.{eqb}
 use borrow.Author.Tests.{eq-eqb, ne-eqb, eqb-true}
 use Rattle.theory.specs.Form.{Form}
 use Rattle.theory.specs.Pool.{Reach, start, step, Sound, SoundPool, Roots, Table}
-use Rattle.theory.specs.Check.{Answer, refused, met, mark, entryCheck, tableCheck, rootsCheck}
+use Rattle.theory.specs.Check.{Finding, refused, met, mark, entryCheck, tableCheck, rootsCheck}
 use Rattle.theory.specs.Lawful.{Lawful}
 use Rattle.theory.proofs.ReachLaws.{through, sound-of, table-low}
-use Rattle.theory.proofs.RightLaws.{by-cases}
+use Rattle.theory.proofs.Logic.{by-cases}
 use Rattle.theory.proofs.CheckedLaws.{not-refused, same-met, Only, LedTo, Checked, Checks, checks-met, led-height, none-checks, then-checks, each-checks}
 
 or-right : (a b : Bool) → b ≡ true → (a || b) ≡ true
@@ -36,19 +36,19 @@ or-true true b e = inl refl
 or-true false b e = inr e
 
 -- Where a check that tests first says fine, and where it refuses.
-met-if : (b : Bool) (x : Answer) (u : ℕ → Bool) → cond b x refused ≡ met u → (b ≡ true) × (x ≡ met u)
+met-if : (b : Bool) (x : Finding) (u : ℕ → Bool) → cond b x refused ≡ met u → (b ≡ true) × (x ≡ met u)
 met-if true x u e = (refl, e)
 met-if false x u e = absurd (not-refused e)
 
-met-unless : (b : Bool) (x : Answer) (u : ℕ → Bool) → cond b refused x ≡ met u → (b ≡ false) × (x ≡ met u)
+met-unless : (b : Bool) (x : Finding) (u : ℕ → Bool) → cond b refused x ≡ met u → (b ≡ false) × (x ≡ met u)
 met-unless true x u e = absurd (not-refused e)
 met-unless false x u e = (refl, e)
 
-refused-if : (b : Bool) (x : Answer) → cond b x refused ≡ refused → (b ≡ false) ⊎ (x ≡ refused)
+refused-if : (b : Bool) (x : Finding) → cond b x refused ≡ refused → (b ≡ false) ⊎ (x ≡ refused)
 refused-if true x e = inr e
 refused-if false x e = inl refl
 
-refused-unless : (b : Bool) (x : Answer) → cond b refused x ≡ refused → (b ≡ true) ⊎ (x ≡ refused)
+refused-unless : (b : Bool) (x : Finding) → cond b refused x ≡ refused → (b ≡ true) ⊎ (x ≡ refused)
 refused-unless true x e = inl refl
 refused-unless false x e = inr e
 

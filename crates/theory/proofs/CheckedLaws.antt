@@ -6,7 +6,7 @@ use mathlib.Core.Bool.{Bool, true, false, true≢false}
 use native.Mathlib.Omega.{arith}
 use Rattle.theory.specs.Form.{Form}
 use Rattle.theory.specs.Pool.{Reach, start, step, Sound}
-use Rattle.theory.specs.Check.{Answer, refused, met, andThen, each}
+use Rattle.theory.specs.Check.{Finding, refused, met, andThen, each}
 use Rattle.theory.specs.Lawful.{Lawful}
 use Rattle.theory.proofs.ReachLaws.{reach-of, sound-of, reach-low}
 use Rattle.theory.proofs.BlockLaws.{step-back}
@@ -21,7 +21,7 @@ pub not-true-false : (b : Bool) → (b ≡ true → ⊥) → b ≡ false
 not-true-false true f = absurd (f refl)
 not-true-false false f = refl
 
-met-then : (x : Answer) (f : (ℕ → Bool) → Answer) (u : ℕ → Bool) → andThen x f ≡ met u → (s : ℕ → Bool) × (x ≡ met s) × (f s ≡ met u)
+met-then : (x : Finding) (f : (ℕ → Bool) → Finding) (u : ℕ → Bool) → andThen x f ≡ met u → (s : ℕ → Bool) × (x ≡ met s) × (f s ≡ met u)
 met-then refused f u e = absurd (not-refused e)
 met-then (met s) f u e = (s, refl, e)
 
@@ -46,16 +46,16 @@ module _ (F : Form) (P : ℕ → ℕ) where
     pub only : (x : ℕ) → u x ≡ true → (s x ≡ true) ⊎ LedTo S x
 
   -- The check `f` says fine exactly where the starts `S` are sound and lead to no table met before.
-  pub record Checks (S : ℕ → ℕ → Type 0) (f : (ℕ → Bool) → Answer) : Type 0 where
+  pub record Checks (S : ℕ → ℕ → Type 0) (f : (ℕ → Bool) → Finding) : Type 0 where
     pub finds : (s u : ℕ → Bool) → f s ≡ met u → Checked S s u
     pub takes : (s : ℕ → Bool) → Sound F P S → ((x : ℕ) → LedTo S x → s x ≡ false) → f s ≡ refused → ⊥
 
   -- So it says fine of sound starts.
-  pub checks-met : {S : ℕ → ℕ → Type 0} {f : (ℕ → Bool) → Answer} → Checks S f → (s : ℕ → Bool) → Sound F P S
+  pub checks-met : {S : ℕ → ℕ → Type 0} {f : (ℕ → Bool) → Finding} → Checks S f → (s : ℕ → Bool) → Sound F P S
       → ((x : ℕ) → LedTo S x → s x ≡ false) → (u : ℕ → Bool) × (f s ≡ met u)
   checks-met {S} {f} c s g new = go (f s) refl
     where
-      go : (y : Answer) → f s ≡ y → (u : ℕ → Bool) × (f s ≡ met u)
+      go : (y : Finding) → f s ≡ y → (u : ℕ → Bool) × (f s ≡ met u)
       go refused e = absurd (c .takes s g new e)
       go (met u) e = (u, e)
 
@@ -151,7 +151,7 @@ module _ (F : Form) (P : ℕ → ℕ) where
           no-common g r q (ap suc w)
           (g .once (from-left r) l (rw z at (from-rest q)) (rw z at p) (e ∙ rw z at (sym f)))
 
-      pub then-checks : {f g : (ℕ → Bool) → Answer} → Checks S f → Checks T g → Checks U (λ s. andThen (f s) g)
+      pub then-checks : {f g : (ℕ → Bool) → Finding} → Checks S f → Checks T g → Checks U (λ s. andThen (f s) g)
       then-checks {f} {g} a b = record {
         finds = λ s v e.
             let (u, p, q) = met-then (f s) g v e in
@@ -159,7 +159,7 @@ module _ (F : Form) (P : ℕ → ℕ) where
         takes = λ s o new e. go s o new (f s) refl e;
       }
         where
-          go : (s : ℕ → Bool) → Sound F P U → ((x : ℕ) → LedTo U x → s x ≡ false) → (y : Answer) → f s ≡ y → andThen y g ≡ refused → ⊥
+          go : (s : ℕ → Bool) → Sound F P U → ((x : ℕ) → LedTo U x → s x ≡ false) → (y : Finding) → f s ≡ y → andThen y g ≡ refused → ⊥
           go s o new refused p e = a .takes s (sound-of F P (λ m j y. start (left m j y)) o)
               (λ x (m, j, r, l, q). new x (m, j, from-left r, l, q)) p
           go s o new (met u) p e = b .takes u (sound-of F P (λ m j y. start (rest m j y)) o)
@@ -168,7 +168,7 @@ module _ (F : Form) (P : ℕ → ℕ) where
               (λ z. no-clash o z d) (a .finds s u p .only x y))) e
 
   -- A range of words, each checked in turn.
-  module _ (L : Lawful F) (h : ℕ) (f : ℕ → (ℕ → Bool) → Answer) (ok : (k : ℕ) → Checks (Only h k) (f k)) where
+  module _ (L : Lawful F) (h : ℕ) (f : ℕ → (ℕ → Bool) → Finding) (ok : (k : ℕ) → Checks (Only h k) (f k)) where
     range-part : (t n m j : ℕ) → Range h t (suc n) m j → Only h t m j ⊎ Range h (t + 1) n m j
     range-part t n m j (zero, p, q, b) = inl (p, omega arith)
     range-part t n m j (suc i, p, q, b) = inr (i, p, omega arith, omega arith)

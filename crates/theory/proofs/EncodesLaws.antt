@@ -11,7 +11,8 @@ use Rattle.theory.specs.Finished.{New, Stays, Place, Before, Finished}
 use Rattle.theory.specs.Lawful.{Lawful, Exact, Wanting}
 use Rattle.theory.proofs.Encodes.{TellsWants, Gets, Placing, Encodes, Follows, spot}
 use Rattle.theory.proofs.ReachLaws.{visits-down, visited-reach}
-use Rattle.theory.proofs.RightLaws.{by-cases, right-down, right-says}
+use Rattle.theory.proofs.Logic.{by-cases}
+use Rattle.theory.proofs.RightLaws.{right-down, right-says}
 use Rattle.theory.proofs.BlockLaws.{together-refl, together-above, met-by}
 
 module _ (F : Form) (want : ℕ → ℕ → ℕ → Bool) where

@@ -11,7 +11,7 @@ use Rattle.theory.specs.Settled.{Settled}
 use Rattle.theory.specs.Finished.{New, Stays, Place, Before, Finished}
 use Rattle.theory.specs.Lawful.{Lawful, Exact, Wanting}
 use Rattle.theory.proofs.ReachLaws.{visited-reach}
-use Rattle.theory.proofs.RightLaws.{by-cases}
+use Rattle.theory.proofs.Logic.{by-cases}
 use Rattle.theory.proofs.BlockLaws.{one-word, one-table, one-owner, led-together, met-by}
 use Rattle.theory.proofs.SettledLaws.{same-shape, says-at, says-same}
 

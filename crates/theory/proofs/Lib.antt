@@ -1,3 +1,4 @@
+pub mod Logic
 pub mod ReachLaws
 pub mod RightLaws
 pub mod BlockLaws

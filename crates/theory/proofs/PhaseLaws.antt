@@ -13,7 +13,7 @@ use Rattle.theory.specs.Finished.{Finished}
 use Rattle.theory.specs.Lawful.{Lawful, Exact}
 use Rattle.theory.specs.Stores.{Kept, Cut, Giving, Filling, Linking, Stage, giving, filling, linking, Next, give, fill, link, Ready}
 use Rattle.theory.specs.Phase.{phase, midway, Tells}
-use Rattle.theory.proofs.RightLaws.{by-cases}
+use Rattle.theory.proofs.Logic.{by-cases}
 use Rattle.theory.proofs.KeptLaws.{kept-zone}
 use Rattle.theory.proofs.BetweenLaws.{stage-cut}
 use Rattle.theory.proofs.ReadyLaws.{finished-links, finished-ready}

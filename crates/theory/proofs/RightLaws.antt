@@ -2,15 +2,11 @@
 use Prim.Native.Nat.{ℕ, zero, suc, _+_}
 use mathlib.Core.Path.{_≡_, refl, sym, ap, _∙_}
 use mathlib.Core.Bool.{Bool, true, false, cond}
+use Rattle.theory.proofs.Logic.{by-cases}
 use Rattle.theory.specs.Form.{Form}
 use Rattle.theory.specs.Pool.{Reach, Visits, here, next, right}
 use Rattle.theory.specs.Lawful.{Lawful}
 use Rattle.theory.proofs.ReachLaws.{visits-reach}
-
--- The two cases of a test, each with its equation.
-pub by-cases : {A : Type 0} (b : Bool) → (b ≡ true → A) → (b ≡ false → A) → A
-by-cases true f g = f refl
-by-cases false f g = g refl
 
 -- The clauses of `right`.
 module _ (F : Form) (P : ℕ → ℕ) where

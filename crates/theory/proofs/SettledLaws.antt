@@ -9,7 +9,8 @@ use Rattle.theory.specs.Pool.{SoundPool, Visits, here, next, entry, righ
 use Rattle.theory.specs.Settled.{Says, HasTable, Settled}
 use Rattle.theory.specs.Lawful.{Lawful, Wanting}
 use Rattle.theory.proofs.ReachLaws.{visits-down, visited-reach}
-use Rattle.theory.proofs.RightLaws.{by-cases, right-says, right-visits}
+use Rattle.theory.proofs.Logic.{by-cases}
+use Rattle.theory.proofs.RightLaws.{right-says, right-visits}
 use Rattle.theory.proofs.BlockLaws.{together-visits, led-low}
 
 -- In a sound pool, a visited word that does not lead says the rights of its whole block.

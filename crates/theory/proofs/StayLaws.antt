@@ -11,7 +11,7 @@ use Rattle.theory.specs.Pool.{Reach, start, step, SoundPool, Visits, her
 use Rattle.theory.specs.Lawful.{Lawful, Exact}
 use Rattle.theory.specs.Finished.{Finished, New, Stays, Place, Before}
 use Rattle.theory.specs.Stores.{Kept, top, down, Giving, Filling, Linking, Stage, Next, give, fill, link}
-use Rattle.theory.proofs.RightLaws.{by-cases}
+use Rattle.theory.proofs.Logic.{by-cases}
 use Rattle.theory.proofs.ReachLaws.{visits-down}
 use Rattle.theory.proofs.BlockLaws.{one-word, one-table}
 use Rattle.theory.proofs.KeptLaws.{kept-swap, kept-zone}

@@ -9,7 +9,8 @@ use Rattle.theory.specs.Walk.{bad, decides, walk}
 use Rattle.theory.specs.Settled.{Together, Says}
 use Rattle.theory.specs.Lawful.{Lawful}
 use Rattle.theory.proofs.ReachLaws.{visits-down, visits-reach, visits-on}
-use Rattle.theory.proofs.RightLaws.{by-cases, right-says, right-visits}
+use Rattle.theory.proofs.Logic.{by-cases}
+use Rattle.theory.proofs.RightLaws.{right-says, right-visits}
 use Rattle.theory.proofs.BlockLaws.{together-entry}
 
 pub not-bad : {m j : ℕ} → bad ≡ decides m j → ⊥

@@ -1,4 +1,5 @@
-// What the rest is counted in: memory bytes and pool words kept apart, rights inside a 32-bit word, and regions rounded to memory words.
+// What the rest is counted in: memory bytes and pool words kept apart, rights inside a 32-bit word, and regions
+// rounded to memory words.
 ghost use mathlib.Core.Path.{_≡_};
 ghost use mathlib.Core.Bool.{true};
 ghost use Prim.Native.Nat.{_+_, _<_, _≤_};
@@ -10,7 +11,8 @@ ghost use Rattle.words.specs.Passing.{Passed, SkipsRights};
 // A byte address of the memory that the table protects.
 pub struct ByteAddr(pub u32);
 
-// The number of a word of the pool. It has a type of its own, so that the compiler refuses it where an address is wanted.
+// The number of a word of the pool. It has a type of its own, so that the compiler refuses it where an address is
+// wanted.
 pub struct PoolWord(pub usize);
 
 // The memory words `lo ≤ w < hi`; memory word `w` is the four bytes from `4 * w` on.
@@ -42,11 +44,20 @@ pub fn addr_number(a: ByteAddr) -> u32
     a.0
 }
 
-// A pointer entry, as the pool word number that it is.
+// A pointer entry, or a number that is reckoned from the shape, as the pool word number that it is.
 pub fn pool_word(entry: u32) -> PoolWord
     ensures { λ r. ⌜ r ≡ record { 0 = entry } ⌝ }
 {
     PoolWord(entry as usize)
+}
+
+// The entry that leads to the table that begins at the word.
+pub fn entry_of(w: PoolWord) -> u32
+    requires { ⌜ w .0 < 4294967296 ⌝ }
+    ensures { λ r. ⌜ r ≡ w .0 ⌝ }
+{
+    let n = pool_index(w);
+    n as u32
 }
 
 // Where the word stands in the slice that is the pool.
@@ -108,46 +119,52 @@ fn one_if_rights(w: u32) -> u32
     0
 }
 
-// Whether the 32 words from `at` on are all eight rights. They are counted with no way out of the loop: so the compiler tests four at a time.
-fn all_rights(pool: &[u32], at: usize) -> bool
-    requires { ⌜ at + 32 ≤ length (now pool) ⌝ }
-    ensures { λ r. ⌜ (r ≡ true → Passed (now (pool .entry)) at (at + 32)) ⌝ }
+// Whether the 32 words from `at` on are all eight rights. They are counted with no way out of the loop: so the
+// compiler tests four at a time.
+fn all_rights(pool: &[u32], at: PoolWord) -> bool
+    requires { ⌜ at .0 + 32 ≤ length (now pool) ⌝ }
+    ensures { λ r. ⌜ (r ≡ true → Passed (now (pool .entry)) (at .0) (at .0 + 32)) ⌝ }
 {
+    let first = pool_index(at);
     let mut n: u32 = 0;
     let mut i: usize = 0;
     while i < 32 {
-        let w = pool[at + i];
+        let w = pool[first + i];
         n += one_if_rights(w);
         i += 1;
     }
     n == 32
 }
 
-// The first of the words `from ≤ k < to` that is not eight rights, or `to`. Most entries are: they are passed over 32 at a time.
-pub fn skip_rights(pool: &[u32], from: usize, to: usize) -> usize
-    requires { ⌜ (from ≤ to) × (to ≤ length (now pool)) ⌝ }
-    ensures { λ r. ⌜ SkipsRights (now (pool .entry)) from to r ⌝ }
+// How many of the `count` words from `from` on stand before the first that is not eight rights. Most entries are:
+// they are passed over 32 at a time.
+pub fn skip_rights(pool: &[u32], from: PoolWord, count: usize) -> usize
+    requires { ⌜ from .0 + count ≤ length (now pool) ⌝ }
+    ensures { λ r. ⌜ SkipsRights (now (pool .entry)) (from .0) (from .0 + count) (from .0 + r) ⌝ }
 {
-    let mut at = from;
-    while 32 <= to - at {
-        let all = all_rights(pool, at);
+    let first = pool_index(from);
+    let end = first + count;
+    let mut at = first;
+    while 32 <= end - at {
+        let all = all_rights(pool, PoolWord(at));
         if !all {
             break;
         }
         at += 32;
     }
-    while at < to {
+    while at < end {
         let w = pool[at];
         let good = good_rights(w);
         if !good {
-            return at;
+            return at - first;
         }
         at += 1;
     }
-    to
+    count
 }
 
-// The words of a start and a length in bytes. The length's remainder is rounded by itself, since `length + 3` could wrap.
+// The words of a start and a length in bytes. The length's remainder is rounded by itself, since `length + 3` could
+// wrap.
 pub fn round_region(start: ByteAddr, length: u32) -> Rounded
     ensures { λ r. ⌜ r ≡ regionOf (start .0) length ⌝ }
 {

@@ -1,5 +1,6 @@
--- `census::entry_check` and `census::table_check` call each other, and meet their contracts. The measure is twice the height, and one more in
--- `table_check`, whose loop calls `entry_check` at the same height. The loop's invariant: what is left of the table gives what the whole gives.
+-- `census::entry_check` and `census::table_check` call each other, and meet their contracts. The measure is twice the
+-- height, and one more in `table_check`, whose loop calls `entry_check` at the same height. The loop's invariant:
+-- what is left of the table gives what the whole gives.
 use Prim.Native.Nat.{ℕ, _+_, _*_, _-_, _<_, _≤_}
 use mathlib.Core.Path.{_≡_, refl, sym, ap, _∙_}
 use native.Mathlib.Omega.{arith}
@@ -11,6 +12,7 @@ use borrow.Fn.PlainCycle.{Measures, is, falls, and}
 use mathlib.Core.List.{List}
 use lib.ListN.{length}
 use Rattle.theory.specs.Pool.{words}
+use Rattle.words.specs.Rights.{goodRights}
 use Rattle.table.specs.declared.Entry.the-variants.{Leads}
 use Rattle.table.specs.Entries.{decodeOf}
 use Rattle.table.proofs.EntryLaws.{decoded-leads}
@@ -18,9 +20,12 @@ use Rattle.census.specs.Places.{maxPlaces}
 use Rattle.census.proofs.PlaceLaws.{decoded-place}
 use Rattle.census.proofs.TallyLaws.{upper-size}
 use Rattle.census.specs.Tally.{Tally, through, entryTally, tableTally}
-use Rattle.census.proofs.TallyLaws.{answers-owned, answers-refused, same-answers, owned-answers, refused-answers}
-use Rattle.census.proofs.TallyLaws.{through-step, through-stop, through-pass, through-start, through-end, table-leaf, table-through}
-use Rattle.census.proofs.TallyLaws.{enter-rights, enter-bad, enter-given, enter-again, rights-pass, entry-number, few-numbers}
+use Rattle.census.proofs.TallyLaws.{answers-owned, answers-refused, same-answers, owned-answers}
+use Rattle.census.proofs.TallyLaws.{refused-answers}
+use Rattle.census.proofs.TallyLaws.{through-step, through-stop, through-pass, through-start, through-end}
+use Rattle.census.proofs.TallyLaws.{table-leaf, table-through}
+use Rattle.census.proofs.TallyLaws.{enter-rights, enter-bad, enter-given, enter-again, rights-pass}
+use Rattle.census.proofs.TallyLaws.{entry-number, few-numbers}
 use Rattle.census.proofs.entry_check.Reads as entry-check
 use Rattle.census.proofs.entry_check.Kinds as entry-check-kinds
 use Rattle.census.proofs.+entry_check+table_check.Lts-entry_check as e
@@ -31,6 +36,7 @@ use Rattle.census.proofs.give_place.Reads as give-place-reads
 use Rattle.census.proofs.plain_ahead.Reads as plain-ahead-reads
 use Rattle.table.proofs.decode.Reads as decode-reads
 use Rattle.words.proofs.pool_index.Reads as pool-index-reads
+use Rattle.words.proofs.word_after.Reads as word-after-reads
 use Rattle.census.proofs.+entry_check+table_check.{statement}
 use Rattle.census.proofs.+entry_check+table_check.Tie.{close}
 
@@ -41,13 +47,13 @@ abbrev μ-table-check : Measures 2 table-check-kinds.ps ℕ
 μ-table-check κs a = 2 * a .1 .1 .0 + 1
 
 abbrev Inv : b.InvT-loop
-Inv pool shape height block owners₀ at first i₀ owners i =
-    (i ≤ 1024) × (at + 1024 ≤ length pool) × (length owners ≡ length owners₀)
-    × (through (λ k. entryTally shape pool height (words pool k)) (1024 - i) (at + i) (first + i) owners
-    ≡ tableTally shape pool height at block owners₀)
+Inv pool shape height base block owners₀ first i₀ owners i =
+    (i ≤ 1024) × (base .0 + 1024 ≤ length pool) × (length owners ≡ length owners₀)
+    × (through (λ k. entryTally shape pool height (words pool k)) (1024 - i) (base .0 + i) (first + i) owners
+    ≡ tableTally shape pool height (base .0) block owners₀)
 
 abbrev μ-loop : b.MeasureT-loop
-μ-loop pool shape height block owners₀ at first i₀ owners i = 1024 - i
+μ-loop pool shape height base block owners₀ first i₀ owners i = 1024 - i
 
 -- What a member is given at the measure `t`, and what it calls: a member of the cycle is asked below `t`.
 abbrev e-at : ℕ → In 2 entry-check-kinds.ps
@@ -68,10 +74,12 @@ e-calls t = (
 
 abbrev b-calls : ℕ → b.Claims
 b-calls t = (
-  pool-index-reads.Asked,
-  pool-index-reads.Learnt,
+  word-after-reads.Asked,
+  word-after-reads.Learnt,
   plain-ahead-reads.Asked,
   plain-ahead-reads.Learnt,
+  pool-index-reads.Asked,
+  pool-index-reads.Learnt,
   and 2 entry-check-kinds.ps (falls 2 entry-check-kinds.ps _<_ μ-entry-check t) entry-check.Pre,
   entry-check.Post,
 )
@@ -90,7 +98,8 @@ module _ (t : ℕ) where
   e-enum-known-e c = search needs
 
   -- Where the entry leads.
-  led : (c : e.After-e (e-calls t) (e-at t) entry-check.Post) → let a = c .before .before .before .before .before .args in
+  led : (c : e.After-e (e-calls t) (e-at t) entry-check.Post)
+      → let a = c .before .before .before .before .before .args in
       decodeOf (a .shape) (a .height) (a .w) ≡ Leads (c .e .given .0 .0) (c .e .given .0 .1 .0)
   led c = sym (c .before .before .decode .ensures) ∙ c .e .given .1
 
@@ -109,14 +118,24 @@ module _ (t : ℕ) where
       let d = c .before .before .before .before .before .before .before in
       let s = d .before .before .before .before .before in
       let h : s .args .height - 1 ≤ 2 = omega arith in
-      let (u, g, l, room) = decoded-leads _ _ _ _ _ (s .pre .1 .1 .0 .0) (s .pre .1 .1 .0 .1) (led d) in
-      (omega arith, (s .pre .1 .0, ((h, s .pre .1 .1 .0 .2), (omega (arith, s .pre .1 .0 .long), omega (arith, s .pre .1 .1 .1)))))
+      let (u, g, l, room) = decoded-leads _ _ _ _ _ (s .pre .1 .1 .0 .0) (s .pre .1 .1 .0 .1) (led d) in (
+        omega arith,
+        (
+          s .pre .1 .0,
+          (
+            (h, s .pre .1 .1 .0 .2),
+            (omega (arith, s .pre .1 .0 .long), omega (arith, s .pre .1 .1 .1)),
+          ),
+        ),
+      )
 
   e-returns : e.Need-returns (e-calls t) (e-at t) entry-check.Post
-  e-returns c = owned-answers _ _ (enter-rights _ _ _ (sym (c .before .before .decode .ensures) ∙ c .enum-told .given .1))
+  e-returns c = owned-answers _ _
+      (enter-rights _ _ _ (sym (c .before .before .decode .ensures) ∙ c .enum-told .given .1))
 
   e-returns-2 : e.Need-returns-2 (e-calls t) (e-at t) entry-check.Post
-  e-returns-2 c = refused-answers _ _ (enter-bad _ _ _ (sym (c .before .before .decode .ensures) ∙ c .enum-told2 .given .1))
+  e-returns-2 c = refused-answers _ _
+      (enter-bad _ _ _ (sym (c .before .before .decode .ensures) ∙ c .enum-told2 .given .1))
 
   e-same-length : e.Need-same-length (e-calls t) (e-at t) entry-check.Post
   e-same-length c = search needs
@@ -125,7 +144,8 @@ module _ (t : ℕ) where
   e-returns-3 c =
       let g = c .before .before .before .before .before .before .before in
       let d = g .before .before .before in
-      same-answers _ _ _ _ (enter-given _ _ _ (led d) (answers-owned _ _ _ (g .give-place .ensures) (c .before .before .before .before .if1 .taken)))
+      same-answers _ _ _ _ (enter-given _ _ _ (led d)
+      (answers-owned _ _ _ (g .give-place .ensures) (c .before .before .before .before .if1 .taken)))
       (c .before .before .table-check .ensures)
 
   e-same-length-2 : e.Need-same-length-2 (e-calls t) (e-at t) entry-check.Post
@@ -134,84 +154,123 @@ module _ (t : ℕ) where
   e-returns-4 : e.Need-returns-4 (e-calls t) (e-at t) entry-check.Post
   e-returns-4 c =
       let g = c .before .before .before in
-      refused-answers _ _ (enter-again _ _ _ (led (g .before .before .before)) (answers-refused _ _ _ (g .give-place .ensures) (c .if1 .left)))
+      refused-answers _ _ (enter-again _ _ _ (led (g .before .before .before))
+      (answers-refused _ _ _ (g .give-place .ensures) (c .if1 .left)))
 
-  -- Root or middle table: what its entries are checked by, and where it begins.
-  abbrev check : (c : b.After-pool-index (b-calls t) (b-at t) table-check.Post Inv μ-loop) → ℕ → ℕ → List ℕ → Tally
-  check c k = let a = c .before .before .before .before .args in entryTally (a .shape) (a .pool .now) (a .height) (words (a .pool .now) k)
+  -- Root or middle table: what its entries are checked by.
+  abbrev check : (c : b.Else1 (b-calls t) (b-at t) table-check.Post Inv μ-loop) → ℕ → ℕ → List ℕ → Tally
+  check c k = let a = c .before .before .before .args in
+      entryTally (a .shape) (a .pool .now) (a .height) (words (a .pool .now) k)
 
-  above : (c : b.After-pool-index (b-calls t) (b-at t) table-check.Post Inv μ-loop) → 0 < c .before .before .before .before .args .height
-  above c = pos-of-ne-zero (c .before .if1 .left)
-
-  begins : (c : b.After-pool-index (b-calls t) (b-at t) table-check.Post Inv μ-loop) → let a = c .before .before .before .before .args in
-      tableTally (a .shape) (a .pool .now) (a .height) (a .base .0) (a .block) (a .owners .now)
-      ≡ tableTally (a .shape) (a .pool .now) (a .height) (c .pool-index .result) (a .block) (a .owners .now)
-  begins c =
-      let a = c .before .before .before .before .args in
-      ap (λ x. tableTally (a .shape) (a .pool .now) (a .height) x (a .block) (a .owners .now)) (sym (c .pool-index .ensures))
+  above : (c : b.Else1 (b-calls t) (b-at t) table-check.Post Inv μ-loop) → 0 < c .before .before .before .args .height
+  above c = pos-of-ne-zero (c .if1 .left)
 
   b-returns : b.Need-returns (b-calls t) (b-at t) table-check.Post Inv μ-loop
   b-returns c = owned-answers _ _ (table-leaf _ _ _ _ _ _ (c .if1 .taken))
 
-  b-pool-index-requires : b.Need-pool-index-requires (b-calls t) (b-at t) table-check.Post Inv μ-loop
-  b-pool-index-requires c κs = search needs
-
   b-mul-first : b.Need-mul-first (b-calls t) (b-at t) table-check.Post Inv μ-loop
   b-mul-first c =
-      let s = c .before .before .before .before in
+      let s = c .before .before .before in
       omega (arith, few-numbers _ (s .args .height) _ (s .pre .1 .0 .range .domains) (s .pre .1 .1 .0 .1))
 
   b-loop-holds : b.Need-loop-holds (b-calls t) (b-at t) table-check.Post Inv μ-loop
   b-loop-holds c =
-      let s = c .before .before .before .before in
+      let s = c .before .before .before in
       let a = s .args in
       let size = upper-size (a .height) (above c) in (
         omega arith,
         omega (arith, s .pre .1 .1 .1 .0),
         refl,
-        through-start (check c) 1024 (c .pool-index .result) (1024 * a .block) (a .owners .now)
-            ∙ sym (table-through (a .shape) (a .pool .now) (a .height) (c .pool-index .result) (a .block) (a .owners .now) (above c)),
+        through-start (check c) 1024 (a .base .0) (1024 * a .block) (a .owners .now)
+            ∙ sym (table-through (a .shape) (a .pool .now) (a .height) (a .base .0) (a .block) (a .owners .now)
+            (above c)),
       )
 
-  b-cast-k : b.Need-cast-k (b-calls t) (b-at t) table-check.Post Inv μ-loop
-  b-cast-k c = search needs
+  b-cast-word-after : b.Need-cast-word-after (b-calls t) (b-at t) table-check.Post Inv μ-loop
+  b-cast-word-after c = search needs
 
-  b-add-k : b.Need-add-k (b-calls t) (b-at t) table-check.Post Inv μ-loop
-  b-add-k c = search needs
+  b-word-after-requires : b.Need-word-after-requires (b-calls t) (b-at t) table-check.Post Inv μ-loop
+  b-word-after-requires c κs =
+      let l = c .before in
+      let f = l .before .before .before .before .pre .1 .0 in
+      let r = f .range in
+      omega (arith, l .loop .inv .1, f .long)
+
+  -- The word of entry `i`.
+  here : (c : b.After-word-after (b-calls t) (b-at t) table-check.Post Inv μ-loop) → let l = c .before .before in
+      c .word-after .result .0 ≡ l .before .before .before .before .args .base .0 + l .loop .i
+  here c = ap (λ w. w .0) (c .word-after .ensures)
 
   b-plain-ahead-requires : b.Need-plain-ahead-requires (b-calls t) (b-at t) table-check.Post Inv μ-loop
-  b-plain-ahead-requires c κs = (omega arith, omega (arith, c .before .loop .inv .1))
+  b-plain-ahead-requires c κs = let e = here c in (omega arith, omega (arith, c .before .before .loop .inv .1))
+
+  b-pool-index-requires : b.Need-pool-index-requires (b-calls t) (b-at t) table-check.Post Inv μ-loop
+  b-pool-index-requires c κs = search needs
+
+  -- Where it stands in the pool.
+  index : (c : b.After-pool-index (b-calls t) (b-at t) table-check.Post Inv μ-loop)
+      → let l = c .before .before .before .before .before in
+      c .pool-index .result ≡ l .before .before .before .before .args .base .0 + l .loop .i
+  index c = c .pool-index .ensures ∙ here (c .before .before .before)
 
   b-mul-w : b.Need-mul-w (b-calls t) (b-at t) table-check.Post Inv μ-loop
-  b-mul-w c = search needs
+  b-mul-w c = let e = index c in omega (arith, c .before .before .before .before .before .loop .inv .1)
 
   b-shared-slice-read-w : b.Need-shared-slice-read-w (b-calls t) (b-at t) table-check.Post Inv μ-loop
-  b-shared-slice-read-w c = search needs
+  b-shared-slice-read-w c = let e = index (c .before) in
+      omega (arith, c .before .before .before .before .before .before .loop .inv .1)
 
   b-add-entry-check : b.Need-add-entry-check (b-calls t) (b-at t) table-check.Post Inv μ-loop
   b-add-entry-check c =
-      let s = c .before .before .before .before .before .before .before .before .before in
+      let l = c .before .before .before .before .before .before in
+      let s = l .before .before .before .before in
       omega (arith, few-numbers _ (s .args .height) _ (s .pre .1 .0 .range .domains) (s .pre .1 .1 .0 .1))
 
   b-entry-check-requires : b.Need-entry-check-requires (b-calls t) (b-at t) table-check.Post Inv μ-loop
   b-entry-check-requires c κs =
-      let l = c .before .before .before .before .before in
-      let s = l .before .before .before .before .before in
+      let l = c .before .before .before .before .before .before .before in
+      let s = l .before .before .before .before in
       let a = s .args in
-      let few = entry-number (a .shape .domains) (a .height) (a .block) (l .loop .i) (above (l .before)) (s .pre .1 .1 .0 .0) (s .pre .1 .1 .0 .1) (omega arith) in
-      (omega arith, (s .pre .1 .0, ((above (l .before), s .pre .1 .1 .0 .0, few), omega (arith, l .loop .inv .2, s .pre .1 .1 .1 .1))))
+      let few = entry-number (a .shape .domains) (a .height) (a .block) (l .loop .i) (above (l .before))
+      (s .pre .1 .1 .0 .0) (s .pre .1 .1 .0 .1) (omega arith) in (
+        omega arith,
+        (
+          s .pre .1 .0,
+          (
+            (above (l .before), s .pre .1 .1 .0 .0, few),
+            omega (arith, l .loop .inv .2, s .pre .1 .1 .1 .1),
+          ),
+        ),
+      )
+
+  -- What the check of entry `i` gives, said of its word.
+  checked : (c : b.After-entry-check (b-calls t) (b-at t) table-check.Post Inv μ-loop)
+      → let i = c .before .before .before in
+      let l = i .before .before .before .before .before in
+      let a = l .before .before .before .before .args in
+      check (l .before) (a .base .0 + l .loop .i) (1024 * a .block + l .loop .i) (l .loop .owners)
+      ≡ check (l .before) (i .pool-index .result) (1024 * a .block + l .loop .i) (l .loop .owners)
+  checked c =
+      let i = c .before .before .before in
+      let l = i .before .before .before .before .before in
+      let a = l .before .before .before .before .args in
+      ap (λ x. check (l .before) x (1024 * a .block + l .loop .i) (l .loop .owners)) (sym (index i))
 
   b-same-length : b.Need-same-length (b-calls t) (b-at t) table-check.Post Inv μ-loop
-  b-same-length c = omega (arith, c .before .before .before .before .before .before .before .before .before .loop .inv .2)
+  b-same-length c = omega (
+    arith,
+    c .before .before .before .before .before .before .before .before .before .before .before .loop .inv .2,
+  )
 
   b-returns-2 : b.Need-returns-2 (b-calls t) (b-at t) table-check.Post Inv μ-loop
   b-returns-2 c =
       let k = c .before .before .before in
-      let l = k .before .before .before .before .before .before in
-      let a = l .before .before .before .before .before .args in
-      refused-answers _ _ (begins (l .before) ∙ sym (l .loop .inv .3)
-      ∙ through-stop (check (l .before)) 1024 (l .before .pool-index .result) (1024 * a .block) (l .loop .i) (l .loop .owners) (omega arith)
-      (answers-refused _ _ _ (k .entry-check .ensures) (not-true _ (c .if3 .taken))))
+      let l = k .before .before .before .before .before .before .before .before in
+      let a = l .before .before .before .before .args in
+      refused-answers _ _ (sym (l .loop .inv .3)
+      ∙ through-stop (check (l .before)) 1024 (a .base .0) (1024 * a .block) (l .loop .i) (l .loop .owners)
+      (omega arith)
+      (checked k ∙ answers-refused _ _ _ (k .entry-check .ensures) (not-true _ (c .if3 .taken))))
 
   b-add-i : b.Need-add-i (b-calls t) (b-at t) table-check.Post Inv μ-loop
   b-add-i c = search needs
@@ -222,13 +281,15 @@ module _ (t : ℕ) where
   b-loop-again : b.Need-loop-again (b-calls t) (b-at t) table-check.Post Inv μ-loop
   b-loop-again c =
       let k = c .before .before .before in
-      let l = k .before .before .before .before .before .before in
-      let a = l .before .before .before .before .before .args in (
+      let l = k .before .before .before .before .before .before .before .before in
+      let a = l .before .before .before .before .args in (
         omega arith,
         l .loop .inv .1,
         omega (arith, l .loop .inv .2),
-        sym (through-step (check (l .before)) 1024 (l .before .pool-index .result) (1024 * a .block) (l .loop .i) (l .loop .owners) (omega arith) _
-            (answers-owned _ _ _ (k .entry-check .ensures) (not-false _ (c .if3 .left)))) ∙ l .loop .inv .3,
+        sym (through-step (check (l .before)) 1024 (a .base .0) (1024 * a .block) (l .loop .i) (l .loop .owners)
+            (omega arith) _
+            (checked k ∙ answers-owned _ _ _ (k .entry-check .ensures) (not-false _ (c .if3 .left))))
+            ∙ l .loop .inv .3,
       )
 
   b-add-i-2 : b.Need-add-i-2 (b-calls t) (b-at t) table-check.Post Inv μ-loop
@@ -239,18 +300,23 @@ module _ (t : ℕ) where
 
   b-loop-again-2 : b.Need-loop-again-2 (b-calls t) (b-at t) table-check.Post Inv μ-loop
   b-loop-again-2 c =
-      let l = c .before .before .before in
-      let known = l .before .before .before .before in
+      let p = c .before in
+      let l = p .before .before .before in
+      let known = l .before .before .before in
       let a = known .before .args in
-      let at = l .before .pool-index .result in (
+      let P = words (a .pool .now) in
+      let at = a .base .0 in (
         omega arith,
         l .loop .inv .1,
         l .loop .inv .2,
-        sym (through-pass (check (l .before)) 1024 at (1024 * a .block) (l .loop .i) (l .loop .owners) (c .before .plain-ahead .result)
-            (c .before .plain-ahead .ensures .0) (λ e h. rights-pass (a .shape) (a .pool .now) (a .height) (words (a .pool .now) (at + l .loop .i + e))
+        sym (through-pass (check (l .before)) 1024 at (1024 * a .block) (l .loop .i) (l .loop .owners)
+            (p .plain-ahead .result)
+            (p .plain-ahead .ensures .0) (λ e h. rights-pass (a .shape) (a .pool .now) (a .height)
+            (P (at + l .loop .i + e))
             (1024 * a .block + l .loop .i + e) (l .loop .owners) (above (l .before))
             (omega (arith, known .shared-slice-known .given (at + l .loop .i + e)))
-            (c .before .plain-ahead .ensures .1 e h))) ∙ l .loop .inv .3,
+            (ap (λ x. goodRights (P (x + e))) (sym (here (p .before))) ∙ p .plain-ahead .ensures .1 e h)))
+            ∙ l .loop .inv .3,
       )
 
   b-same-length-2 : b.Need-same-length-2 (b-calls t) (b-at t) table-check.Post Inv μ-loop
@@ -259,9 +325,10 @@ module _ (t : ℕ) where
   b-returns-3 : b.Need-returns-3 (b-calls t) (b-at t) table-check.Post Inv μ-loop
   b-returns-3 c =
       let l = c .before in
-      let a = l .before .before .before .before .before .args in
-      owned-answers _ _ (begins (l .before) ∙ sym (l .loop .inv .3)
-      ∙ through-end (check (l .before)) (1024 - l .loop .i) (l .before .pool-index .result + l .loop .i) (1024 * a .block + l .loop .i) (l .loop .owners) (omega arith))
+      let a = l .before .before .before .before .args in
+      owned-answers _ _ (sym (l .loop .inv .3)
+      ∙ through-end (check (l .before)) (1024 - l .loop .i) (a .base .0 + l .loop .i) (1024 * a .block + l .loop .i)
+      (l .loop .owners) (omega arith))
 
 pub +entry-check+table-check-spec : {M : Type 1} → statement M
 +entry-check+table-check-spec =
@@ -282,12 +349,12 @@ pub +entry-check+table-check-spec : {M : Type 1} → statement M
     (e-returns-4 t))
     (λ t. b.spec (b-calls t) (b-at t) table-check.Post Inv μ-loop
     (b-returns t)
-    (b-pool-index-requires t)
     (b-mul-first t)
     (b-loop-holds t)
-    (b-cast-k t)
-    (b-add-k t)
+    (b-cast-word-after t)
+    (b-word-after-requires t)
     (b-plain-ahead-requires t)
+    (b-pool-index-requires t)
     (b-mul-w t)
     (b-shared-slice-read-w t)
     (b-add-entry-check t)

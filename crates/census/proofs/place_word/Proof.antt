@@ -5,55 +5,63 @@ use borrow.Author.Needs.{needs}
 use Rattle.census.proofs.place_word.Statement.{statement}
 use Rattle.census.proofs.place_word.Tie as tie
 
-mul-result : tie.Need-mul-result
-mul-result c = search needs
+mul-pool-word : tie.Need-mul-pool-word
+mul-pool-word c = search needs
 
-cast-result : tie.Need-cast-result
-cast-result c = search needs
+cast-pool-word : tie.Need-cast-pool-word
+cast-pool-word c = search needs
 
-mul-result-2 : tie.Need-mul-result-2
-mul-result-2 c = search needs
+mul-pool-word-2 : tie.Need-mul-pool-word-2
+mul-pool-word-2 c = search needs
 
-add-result : tie.Need-add-result
-add-result c = search needs
+add-pool-word : tie.Need-add-pool-word
+add-pool-word c = search needs
+
+pool-word-requires : tie.Need-pool-word-requires
+pool-word-requires c κs = search needs
 
 returns : tie.Need-returns
-returns c = rw (lt-ltb _ _ (c .if1 .taken)) refl
+returns c = rw (c .pool-word .ensures, lt-ltb _ _ (c .before .if1 .taken)) refl
 
-mul-result-3 : tie.Need-mul-result-3
-mul-result-3 c = search needs
+mul-pool-word-3 : tie.Need-mul-pool-word-3
+mul-pool-word-3 c = search needs
 
-mul-result-4 : tie.Need-mul-result-4
-mul-result-4 c = search needs
+mul-pool-word-4 : tie.Need-mul-pool-word-4
+mul-pool-word-4 c = search needs
 
-add-result-2 : tie.Need-add-result-2
-add-result-2 c = search needs
+add-pool-word-2 : tie.Need-add-pool-word-2
+add-pool-word-2 c = search needs
 
-cast-result-2 : tie.Need-cast-result-2
-cast-result-2 c = search needs
+cast-pool-word-2 : tie.Need-cast-pool-word-2
+cast-pool-word-2 c = search needs
 
-mul-result-5 : tie.Need-mul-result-5
-mul-result-5 c = search needs
+mul-pool-word-5 : tie.Need-mul-pool-word-5
+mul-pool-word-5 c = search needs
 
-add-result-3 : tie.Need-add-result-3
-add-result-3 c = search needs
+add-pool-word-3 : tie.Need-add-pool-word-3
+add-pool-word-3 c = search needs
+
+pool-word-requires-2 : tie.Need-pool-word-requires-2
+pool-word-requires-2 c κs = search needs
 
 returns-2 : tie.Need-returns-2
-returns-2 c = rw (le-ltb _ _ (c .if1 .left)) refl
+returns-2 c = rw (c .pool-word2 .ensures, le-ltb _ _ (c .before .if1 .left)) refl
 
 pub place-word-spec : {M : Type 1} → statement M
 place-word-spec =
     tie.close
     (tie.spec
-    mul-result
-    cast-result
-    mul-result-2
-    add-result
+    mul-pool-word
+    cast-pool-word
+    mul-pool-word-2
+    add-pool-word
+    pool-word-requires
     returns
-    mul-result-3
-    mul-result-4
-    add-result-2
-    cast-result-2
-    mul-result-5
-    add-result-3
+    mul-pool-word-3
+    mul-pool-word-4
+    add-pool-word-2
+    cast-pool-word-2
+    mul-pool-word-5
+    add-pool-word-3
+    pool-word-requires-2
     returns-2)

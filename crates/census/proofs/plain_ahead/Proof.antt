@@ -5,6 +5,9 @@ use borrow.Author.Needs.{needs}
 use Rattle.census.proofs.plain_ahead.Statement.{statement}
 use Rattle.census.proofs.plain_ahead.Tie as tie
 
+pool-index-requires : tie.Need-pool-index-requires
+pool-index-requires c κs = search needs
+
 mul-w : tie.Need-mul-w
 mul-w c = search needs
 
@@ -20,17 +23,11 @@ returns c = (omega arith, λ j b. absurd (omega arith))
 sub-rest : tie.Need-sub-rest
 sub-rest c = search needs
 
-cast-end : tie.Need-cast-end
-cast-end c = search needs
-
-add-end : tie.Need-add-end
-add-end c = search needs
+cast-skip-rights : tie.Need-cast-skip-rights
+cast-skip-rights c = search needs
 
 skip-rights-requires : tie.Need-skip-rights-requires
-skip-rights-requires c κs = (omega arith, omega arith)
-
-sub-n : tie.Need-sub-n
-sub-n c = c .skip-rights .ensures .low
+skip-rights-requires c κs = search needs
 
 cast-result : tie.Need-cast-result
 cast-result c = search needs
@@ -38,20 +35,20 @@ cast-result c = search needs
 returns-2 : tie.Need-returns-2
 returns-2 c =
     let s = c .skip-rights .ensures in
-    (omega (arith, s .low, s .high), λ j b. s .passed (c .before .before .before .before .before .args .k + j) (omega arith) (omega (arith, s .low)))
+    let word = c .before .before .before .before .before .before .args .word in
+    (omega (arith, s .high), λ j b. s .passed (word .0 + j) (omega arith) (omega arith))
 
 pub plain-ahead-spec : {M : Type 1} → statement M
 plain-ahead-spec =
     tie.close
     (tie.spec
+    pool-index-requires
     mul-w
     shared-slice-read-w
     good-rights-requires
     returns
     sub-rest
-    cast-end
-    add-end
+    cast-skip-rights
     skip-rights-requires
-    sub-n
     cast-result
     returns-2)

@@ -5,7 +5,7 @@ use native.Mathlib.Omega.{arith}
 use borrow.Author.Needs.{needs}
 use lib.ListN.{length}
 use Rattle.words.specs.Rights.{rightAt}
-use Rattle.listing.specs.Levels.{blockWords, sameOf, said}
+use Rattle.listing.specs.Levels.{blockWords, sameOf, entrySays}
 use Rattle.listing.specs.Sheets.{sheet, feed}
 use Rattle.listing.proofs.SheetLaws.{Along, along-start, along-end}
 use Rattle.listing.proofs.LevelLaws.{same-fed, part-few, part-room, whole-block, part-next}
@@ -14,7 +14,7 @@ use Rattle.listing.proofs.feed_rights.Tie as tie
 
 abbrev Inv-loop : tie.InvT-loop
 Inv-loop height w at runs₀ first same parts step s₀ i₀ runs s i =
-    Along (said height w) parts step at (sheet s₀ runs₀) i (sheet s runs) × (length runs ≡ length runs₀)
+    Along (entrySays height w) parts step at (sheet s₀ runs₀) i (sheet s runs) × (length runs ≡ length runs₀)
 
 abbrev μ-loop : tie.MeasureT-loop
 μ-loop height w at runs₀ first same parts step s₀ i₀ runs s i = parts - i

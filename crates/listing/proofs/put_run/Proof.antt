@@ -6,13 +6,13 @@ use native.Mathlib.Numerals.{add-one, add-two, add-three}
 use native.Mathlib.Omega.{arith}
 use borrow.Author.Tests.{lt-ltb, le-ltb}
 use lib.ListN.{length-set}
-use Rattle.listing.specs.Sheets.{put}
+use Rattle.listing.specs.Sheets.{putRun}
 use borrow.Author.Needs.{needs}
 use Rattle.listing.proofs.put_run.Statement.{statement}
 use Rattle.listing.proofs.put_run.Tie as tie
 
 returns : tie.Need-returns
-unfolding put
+unfolding putRun
 returns c = simp (lt-ltb _ _ (c .if1 .taken))
 
 mul-p : tie.Need-mul-p
@@ -67,14 +67,14 @@ same-length : tie.Need-same-length
 same-length c = search needs
 
 returns-2 : tie.Need-returns-2
-unfolding put
+unfolding putRun
 returns-2 c =
     let n : 4 * (c .before .before .before .before .args .run .past - 1) + 3 ≡ 4 * c .before .before .before .before .args .run .past - 1 =
     omega (arith, c .before .before .before .before .pre .0) in
     simp (le-ltb _ _ (c .before .before .before .if1 .left), lt-ltb _ _ (c .before .before .if2 .taken)) (rw (n, add-one, add-two, add-three))
 
 returns-3 : tie.Need-returns-3
-unfolding put
+unfolding putRun
 returns-3 c = simp (le-ltb _ _ (c .before .if1 .left), le-ltb _ _ (c .if2 .left))
 
 pub put-run-spec : {M : Type 1} → statement M

@@ -41,32 +41,46 @@ room c =
     let m = s .pre .1 in
     omega arith
 
-mul-table : tie.Need-mul-table
-mul-table c =
+mul-word-after : tie.Need-mul-word-after
+mul-word-after c =
     let s = c .before .before .before .before in
     let x = mul-le-mul (s .pre .3) (room c) in
     omega arith
 
-add-table : tie.Need-add-table
-add-table c =
+cast-word-after : tie.Need-cast-word-after
+cast-word-after c =
     let s = c .before .before .before .before in
     let x = mul-le-mul (s .pre .3) (room c) in
+    omega arith
+
+word-after-requires : tie.Need-word-after-requires
+word-after-requires c κs =
+    let s = c .before .before .before .before in
+    let x = mul-le-mul (s .pre .3) (room c) in
+    omega arith
+
+entry-of-requires : tie.Need-entry-of-requires
+entry-of-requires c κs =
+    let s = c .before .before .before .before .before in
+    let x = mul-le-mul (s .pre .3) (room (c .before)) in
+    let e = ap (λ w. w .0) (c .word-after .ensures) in
     omega arith
 
 add-next : tie.Need-add-next
-add-next c = let x = room c in omega arith
+add-next c = let x = room (c .before .before) in omega arith
 
 returns-4 : tie.Need-returns-4
 returns-4 c =
-    let n = c .before .next-free in
+    let e = c .before .before in
+    let n = e .before .next-free in
     inr (record {
-      is-new = new (c .before .before);
+      is-new = new (e .before .before);
       place = n .result;
       first = n .ensures;
-      below = apart _ _ (c .if3 .left) (n .ensures .high);
+      below = apart _ _ (e .if3 .left) (n .ensures .high);
       same-number = refl;
       same-old = refl;
-      points = refl;
+      points = c .entry-of .ensures ∙ ap (λ w. w .0) (c .before .word-after .ensures);
       next = refl;
     })
   where
@@ -81,7 +95,9 @@ take-place-spec =
     returns-2
     next-free-requires
     returns-3
-    mul-table
-    add-table
+    mul-word-after
+    cast-word-after
+    word-after-requires
+    entry-of-requires
     add-next
     returns-4)

@@ -1,6 +1,7 @@
--- `show` is safe and ends.
-use borrow.Author.Needs.{needs}
+-- `show` meets its contract.
+use mathlib.Core.Path.{refl}
 use Rattle.rights_listing.proofs.PageLaws.{shows-counts}
+use borrow.Author.Needs.{needs}
 use Rattle.rights_listing.proofs.show.Statement.{statement}
 use Rattle.rights_listing.proofs.show.Tie as tie
 
@@ -25,9 +26,6 @@ write-all-requires c κs = search needs
 returns : tie.Need-returns
 returns c = search needs
 
-returns-2 : tie.Need-returns-2
-returns-2 c = search needs
-
 pub show-spec : {M : Type 1} → statement M
 show-spec =
     tie.close
@@ -38,5 +36,4 @@ show-spec =
     array-share-prefix-out
     slice-aggregate-write-all
     write-all-requires
-    returns
-    returns-2)
+    returns)

@@ -5,8 +5,14 @@ use borrow.Author.Needs.{needs}
 use Rattle.table.proofs.leads_to.Statement.{statement}
 use Rattle.table.proofs.leads_to.Tie as tie
 
+entry-of-requires : tie.Need-entry-of-requires
+entry-of-requires c κs = search needs
+
 returns : tie.Need-returns
-returns c = let a = c .before .args in simp (place-low (a .from) (a .long) (a .count) (a .w) (c .if1 .taken))
+returns c =
+    let f = c .before in
+    let a = f .before .args in
+    rw (← f .entry-of .ensures) (simp (place-low (f .entry-of .result) (a .long) (a .count) (a .w) (c .if1 .taken)))
 
 mul-if2 : tie.Need-mul-if2
 mul-if2 c = search needs
@@ -15,36 +21,67 @@ add-if2 : tie.Need-add-if2
 add-if2 c = search needs
 
 returns-2 : tie.Need-returns-2
-returns-2 c = let a = c .before .before .args in simp (place-high (a .from) (a .long) (a .count) (a .w) (c .before .if1 .left) (c .if2 .taken))
+returns-2 c =
+    let f = c .before .before in
+    let a = f .before .args in
+    rw (← f .entry-of .ensures)
+    (simp (place-high (f .entry-of .result) (a .long) (a .count) (a .w) (c .before .if1 .left) (c .if2 .taken)))
 
 rem-if3 : tie.Need-rem-if3
 rem-if3 c = search needs
 
 returns-3 : tie.Need-returns-3
-returns-3 c = let a = c .before .before .before .args in simp (place-off (a .from) (a .long) (a .count) (a .w) (c .before .before .if1 .left) (c .before .if2 .left) (c .if3 .taken))
+returns-3 c =
+    let f = c .before .before .before in
+    let a = f .before .args in
+    rw (← f .entry-of .ensures)
+    (simp (place-off (f .entry-of .result) (a .long) (a .count) (a .w) (c .before .before .if1 .left)
+    (c .before .if2 .left) (c .if3 .taken)))
 
 div-place : tie.Need-div-place
 div-place c = search needs
 
 cast-place : tie.Need-cast-place
-cast-place c = let a = c .before .before .before .args in
-    omega (arith, place-below (a .from) (a .long) (a .count) (a .w) (c .before .before .if1 .left) (c .before .if2 .left) (c .before .before .before .pre .0))
+cast-place c =
+    let f = c .before .before .before in
+    let a = f .before .args in
+    omega (
+      arith,
+      place-below (f .entry-of .result) (a .long) (a .count) (a .w) (c .before .before .if1 .left)
+          (c .before .if2 .left) (f .before .pre .0),
+    )
 
 pool-word-requires : tie.Need-pool-word-requires
 pool-word-requires c κs = search needs
 
-add-t12 : tie.Need-add-t12
-add-t12 c = let a = c .before .before .before .before .args in
-    omega (arith, place-below (a .from) (a .long) (a .count) (a .w) (c .before .before .before .if1 .left) (c .before .before .if2 .left) (c .before .before .before .before .pre .0))
+add-t13 : tie.Need-add-t13
+add-t13 c =
+    let e = c .before in
+    let f = e .before .before .before in
+    let a = f .before .args in
+    omega (
+      arith,
+      place-below (f .entry-of .result) (a .long) (a .count) (a .w) (e .before .before .if1 .left)
+          (e .before .if2 .left) (f .before .pre .0),
+    )
 
 returns-4 : tie.Need-returns-4
-returns-4 c = let a = c .before .before .before .before .args in
-    rw (c .pool-word .ensures, place-is (a .from) (a .long) (a .count) (a .w) (c .before .before .before .if1 .left) (c .before .before .if2 .left) (c .before .if3 .left))
+returns-4 c =
+    let e = c .before in
+    let f = e .before .before .before in
+    let a = f .before .args in
+    rw (← f .entry-of .ensures)
+    (rw (
+      c .pool-word .ensures,
+      place-is (f .entry-of .result) (a .long) (a .count) (a .w)
+          (e .before .before .if1 .left) (e .before .if2 .left) (e .if3 .left),
+    ))
 
 pub leads-to-spec : {M : Type 1} → statement M
 leads-to-spec =
     tie.close
     (tie.spec
+    entry-of-requires
     returns
     mul-if2
     add-if2
@@ -54,5 +91,5 @@ leads-to-spec =
     div-place
     cast-place
     pool-word-requires
-    add-t12
+    add-t13
     returns-4)

@@ -1,5 +1,5 @@
--- `table::walk_down` meets its contract. The loop's invariant: what is left of the walk ends as the whole does, the word that it stands at lies in
--- the pool, and the loads made are the levels passed.
+-- `table::walk_down` meets its contract. The loop's invariant: what is left of the walk ends as the whole does, the
+-- word that it stands at lies in the pool, and the loads made are the levels passed.
 use Prim.Native.Nat.{ℕ, _+_, _*_, _-_, _≤_, _<_}
 use mathlib.Core.Path.{_≡_, refl, sym, ap, _∙_}
 use native.Mathlib.Omega.{arith}
@@ -37,7 +37,8 @@ index-in-requires c κs = search needs
 word-after-requires : tie.Need-word-after-requires Inv-loop μ-loop
 word-after-requires c κs =
     let s = c .before .before .before in
-    let e : c .before .pool-word .result .0 ≡ 1024 * s .args .domain = ap (λ w. w .0) (c .before .pool-word .ensures) in
+    let e : c .before .pool-word .result .0 ≡ 1024 * s .args .domain = ap (λ w. w .0) (c .before .pool-word .ensures)
+    in
     omega (arith, c .index-in .ensures, index-below 2 (s .args .address .0), s .pre .0 .range .domains)
 
 loop-holds : tie.Need-loop-holds Inv-loop μ-loop
@@ -65,10 +66,12 @@ returns c =
     let s = l .before .before .before .before .before in
     let F = formOf (s .args .shape) in
     let P = words (s .args .pool .now) in
-    let e = ap (decodeOf (s .args .shape) (l .loop .height)) (sym (d .before .load .ensures .0)) ∙ sym (d .decode .ensures) ∙ c .enum-told .given .1 in
+    let e = ap (decodeOf (s .args .shape) (l .loop .height)) (sym (d .before .load .ensures .0))
+    ∙ sym (d .decode .ensures) ∙ c .enum-told .given .1 in
     ap (foundAt F P (s .args .address .0))
     (sym (walk-refused F P (s .args .address .0) (l .loop .height) (l .loop .at .0)
-    (decoded-bad (s .args .shape) (l .loop .height) _ (bad-above (s .args .shape) (l .loop .height) _ e) (l .loop .inv .0) e))
+    (decoded-bad (s .args .shape) (l .loop .height) _ (bad-above (s .args .shape) (l .loop .height) _ e)
+    (l .loop .inv .0) e))
     ∙ l .loop .inv .3)
 
 enum-known-e : tie.Need-enum-known-e Inv-loop μ-loop
@@ -80,7 +83,11 @@ part-in-requires c κs = search needs
 right-at-requires : tie.Need-right-at-requires Inv-loop μ-loop
 right-at-requires c κs =
     let l = c .before .before .before .before .before .before in
-    omega (arith, c .part-in .ensures, part-below (l .loop .height) (l .before .before .before .before .before .args .address .0))
+    omega (
+      arith,
+      c .part-in .ensures,
+      part-below (l .loop .height) (l .before .before .before .before .before .args .address .0),
+    )
 
 returns-2 : tie.Need-returns-2 Inv-loop μ-loop
 returns-2 c =
@@ -92,10 +99,12 @@ returns-2 c =
     let (word, fits, made) = d .before .load .ensures in
     let (e, g, n) = decoded-any-rights (s .args .shape) (l .loop .height) _ _ fits (l .loop .inv .0)
     (sym (d .decode .ensures) ∙ c .before .before .before .e .given .1) in
-    let loads : d .before .load .result .loads ≡ 3 - l .loop .height = omega (arith, l .loop .inv .1, l .loop .inv .0) in
+    let loads : d .before .load .result .loads ≡ 3 - l .loop .height = omega (arith, l .loop .inv .1, l .loop .inv .0)
+    in
     rw (c .right-at .ensures, c .before .part-in .ensures, e, word, loads)
     (ap (foundAt F P (s .args .address .0))
-    (sym (walk-stops F P (s .args .address .0) (l .loop .height) (l .loop .at .0) (rw word at g) (rw word at n)) ∙ l .loop .inv .3))
+    (sym (walk-stops F P (s .args .address .0) (l .loop .height) (l .loop .at .0) (rw word at g) (rw word at n))
+    ∙ l .loop .inv .3))
 
 enum-known-e-2 : tie.Need-enum-known-e-2 Inv-loop μ-loop
 enum-known-e-2 c = search needs
@@ -103,13 +112,16 @@ enum-known-e-2 c = search needs
 -- The entry that was read leads, and the walk goes on in the table below.
 on : (c : tie.After-e2 Inv-loop μ-loop)
     → let d = c .before .before in let l = d .before .before in let s = l .before .before .before .before .before in
-    GoesOn (s .args .shape) (s .args .pool .now) (s .args .address .0) (l .loop .height) (l .loop .at .0) (c .e2 .given .0 .0 .0)
+    GoesOn (s .args .shape) (s .args .pool .now) (s .args .address .0) (l .loop .height) (l .loop .at .0)
+    (c .e2 .given .0 .0 .0)
 on c =
     let d = c .before .before in
     let l = d .before .before in
     let s = l .before .before .before .before .before in
-    goes-on (s .args .shape) (s .args .pool .now) (s .args .address .0) (l .loop .height) (l .loop .at .0) _ _ (s .pre .0) (l .loop .inv .0)
-    (ap (decodeOf (s .args .shape) (l .loop .height)) (sym (d .before .load .ensures .0)) ∙ sym (d .decode .ensures) ∙ c .e2 .given .1)
+    goes-on (s .args .shape) (s .args .pool .now) (s .args .address .0) (l .loop .height) (l .loop .at .0) _ _
+    (s .pre .0) (l .loop .inv .0)
+    (ap (decodeOf (s .args .shape) (l .loop .height)) (sym (d .before .load .ensures .0)) ∙ sym (d .decode .ensures)
+    ∙ c .e2 .given .1)
 
 sub-height : tie.Need-sub-height Inv-loop μ-loop
 sub-height c = omega (arith, on (c .before) .above)
@@ -130,9 +142,14 @@ loop-again c =
     let g = on (c .before .before .before) in
     let d = c .before .before .before .before .before in
     let l = d .before .before in
-    let e : c .word-after2 .result .0 ≡ c .before .before .before .e2 .given .0 .0 .0 + index (l .loop .height - 1) (l .before .before .before .before .before .args .address .0) =
-    ap (λ w. w .0) (c .word-after2 .ensures) ∙ rw (c .before .index-in2 .ensures) in
-    (omega arith, omega (arith, d .before .load .ensures .2, g .above), rw e (g .inside), rw e (g .rest ∙ l .loop .inv .3))
+    let e : c .word-after2 .result .0 ≡ c .before .before .before .e2 .given .0 .0 .0 + index (l .loop .height - 1)
+    (l .before .before .before .before .before .args .address .0) =
+    ap (λ w. w .0) (c .word-after2 .ensures) ∙ rw (c .before .index-in2 .ensures) in (
+      omega arith,
+      omega (arith, d .before .load .ensures .2, g .above),
+      rw e (g .inside),
+      rw e (g .rest ∙ l .loop .inv .3),
+    )
 
 pub walk-down-spec : {M : Type 1} → statement M
 walk-down-spec =

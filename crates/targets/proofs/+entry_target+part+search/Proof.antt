@@ -1,6 +1,7 @@
--- `targets::entry_target`, `targets::search` and `targets::part` call each other, and meet their contracts. The measure is three times the height,
--- and less in those called at the same height. The invariant of the loop of `part`: the words of the entries passed have the right of the
--- first word; of that of `search`: the work array has the rights of the sub-blocks passed.
+-- `targets::entry_target`, `targets::search` and `targets::part` call each other, and meet their contracts. The
+-- measure is three times the height, and less in those called at the same height. The invariant of the loop of
+-- `part`: the words of the entries passed have the right of the first word; of that of `search`: the work array has
+-- the rights of the sub-blocks passed.
 use Prim.Native.Nat.{ℕ, suc, _+_, _*_, _-_, _/_, _<_, _≤_}
 use mathlib.Core.Path.{_≡_, refl, sym, ap, subst, _∙_}
 use native.Mathlib.Omega.{arith}
@@ -23,7 +24,8 @@ use Rattle.targets.proofs.PieceLaws.{piece-plain}
 use Rattle.targets.proofs.HeightLaws.{above-below, few-blocks, Entries, entries}
 use Rattle.targets.proofs.GivenLaws.{painted-given-small}
 use Rattle.targets.proofs.SearchLaws.{Gathers, gathers-none, gathers-more, gathers-two, gathers-all}
-use Rattle.targets.proofs.EntryLaws.{found-entry, readable-good, entry-readable, entry-found, entries-two, first-mixed, entries-one}
+use Rattle.targets.proofs.EntryLaws.{found-entry, readable-good, entry-readable, entry-found, entries-two}
+use Rattle.targets.proofs.EntryLaws.{first-mixed, entries-one}
 use Rattle.targets.proofs.entry_target.Reads as entry-target
 use Rattle.targets.proofs.entry_target.Kinds as entry-target-kinds
 use Rattle.targets.proofs.+entry_target+part+search.Lts-entry_target as e
@@ -39,7 +41,9 @@ use Rattle.targets.proofs.pack_eight.Reads as pack-eight-reads
 use Rattle.targets.proofs.part_entries.Reads as part-entries-reads
 use Rattle.targets.proofs.rights_part.Reads as rights-part-reads
 use Rattle.targets.proofs.same_entry.Reads as same-entry-reads
-use Rattle.targets.proofs.table_start.Reads as table-start-reads
+use Rattle.words.proofs.pool_word.Reads as pool-word-reads
+use Rattle.words.proofs.word_after.Reads as word-after-reads
+use Rattle.words.proofs.pool_index.Reads as pool-index-reads
 use Rattle.words.proofs.right_at.Reads as right-at-reads
 use Rattle.targets.proofs.+entry_target+part+search.{statement}
 use Rattle.targets.proofs.+entry_target+part+search.Tie.{close}
@@ -54,15 +58,17 @@ abbrev μ-part : Measures 1 part-kinds.ps ℕ
 μ-part κs a = 3 * a .1 .1 .0 + 3
 
 abbrev p-Inv : p.InvT-loop
-p-Inv pool paint below e n i count start from number e0 x right same j₀ j =
+p-Inv pool paint below e n i count from number e0 x right same j₀ j =
     let R = painted paint (given (words pool) (suc below) e) in
-    (j ≤ count) × (R (4 * (number * (block below / 4))) ≡ right) × Plain R (number * (block below / 4)) (block below / 4 * j) right
+    (j ≤ count) × (R (4 * (number * (block below / 4))) ≡ right) × Plain R (number * (block below / 4))
+    (block below / 4 * j) right
 
 abbrev p-μ : p.MeasureT-loop
-p-μ pool paint below e n i count start from number e0 x right same j₀ j = count - j
+p-μ pool paint below e n i count from number e0 x right same j₀ j = count - j
 
 abbrev s-Inv : s.InvT-loop
-s-Inv pool paint below e n work₀ i₀ work i = Gathers (painted paint (given (words pool) (suc below) e)) (suc below) n work i
+s-Inv pool paint below e n work₀ i₀ work i = Gathers (painted paint (given (words pool) (suc below) e)) (suc below) n
+    work i
 
 abbrev s-μ : s.MeasureT-loop
 s-μ pool paint below e n work₀ i₀ work i = 8 - i
@@ -91,8 +97,12 @@ p-calls t = (
   rights-part-reads.Learnt,
   part-entries-reads.Asked,
   part-entries-reads.Learnt,
-  table-start-reads.Asked,
-  table-start-reads.Learnt,
+  pool-word-reads.Asked,
+  pool-word-reads.Learnt,
+  word-after-reads.Asked,
+  word-after-reads.Learnt,
+  pool-index-reads.Asked,
+  pool-index-reads.Learnt,
   and 1 entry-target-kinds.ps (falls 1 entry-target-kinds.ps _<_ μ-entry-target t) entry-target.Pre,
   entry-target.Post,
   right-at-reads.Asked,
@@ -128,7 +138,8 @@ module _ (t : ℕ) where
   e-enum-told c = search needs
 
   -- What needs a search is no leaf entry.
-  unknown : (c : e.After-enum-told (e-calls t) (e-at t) entry-target.Post) → 0 < c .before .before .before .before .args .height
+  unknown : (c : e.After-enum-told (e-calls t) (e-at t) entry-target.Post)
+      → 0 < c .before .before .before .before .args .height
   unknown c = rw (c .enum-told .given .1) at (c .before .before .at-once .ensures)
 
   sub-search : e.Need-sub-search (e-calls t) (e-at t) entry-target.Post
@@ -138,8 +149,13 @@ module _ (t : ℕ) where
   search-requires c κs =
       let a = c .before .before .before .before .args in
       let x = c .before .before .before .before .pre .1 in
-      let up = above-below (a .height) (unknown c) in
-      (omega (arith, unknown c), (subst (λ h. Readable (a .pool .now) h (a .e)) up (x .0), (omega arith, subst (λ h. a .n < blocks h) up (x .1 .1), x .1 .2)))
+      let up = above-below (a .height) (unknown c) in (
+        omega (arith, unknown c),
+        (
+          subst (λ h. Readable (a .pool .now) h (a .e)) up (x .0),
+          (omega arith, subst (λ h. a .n < blocks h) up (x .1 .1), x .1 .2),
+        ),
+      )
 
   e-returns-2 : e.Need-returns-2 (e-calls t) (e-at t) entry-target.Post
   e-returns-2 c = λ R g. found-entry _ _ R _ _ _ _ _ (above-below _ (unknown (c .before))) g (c .search .ensures)
@@ -155,62 +171,87 @@ module _ (t : ℕ) where
   part-entries-requires : p.Need-part-entries-requires (p-calls t) (p-at t) part.Post p-Inv p-μ
   part-entries-requires c κs = search needs
 
-  table-start-requires : p.Need-table-start-requires (p-calls t) (p-at t) part.Post p-Inv p-μ
-  table-start-requires c κs = search needs
-
   -- The numbers of the sub-block's entries.
   sub : (c : p.After-part-entries (p-calls t) (p-at t) part.Post p-Inv p-μ)
       → let a = c .before .before .before .args in Entries (a .below) (a .n) (a .i) (c .part-entries .result)
-  sub c = let x = c .before .before .before .pre .1 .1 in entries _ _ _ _ (x .0) (c .part-entries .ensures) (x .1) (x .2)
+  sub c = let x = c .before .before .before .pre .1 .1 in
+      entries _ _ _ _ (x .0) (c .part-entries .ensures) (x .1) (x .2)
 
-  mul-from : p.Need-mul-from (p-calls t) (p-at t) part.Post p-Inv p-μ
-  mul-from c = omega (arith, sub (c .before) .end)
+  pool-word-requires : p.Need-pool-word-requires (p-calls t) (p-at t) part.Post p-Inv p-μ
+  pool-word-requires c κs = search needs
 
-  cast-from : p.Need-cast-from (p-calls t) (p-at t) part.Post p-Inv p-μ
-  cast-from c = omega (arith, sub (c .before) .end)
+  mul-word-after : p.Need-mul-word-after (p-calls t) (p-at t) part.Post p-Inv p-μ
+  mul-word-after c = omega (arith, sub (c .before) .end)
 
-  add-from : p.Need-add-from (p-calls t) (p-at t) part.Post p-Inv p-μ
-  add-from c = omega (arith, sub (c .before) .end)
+  cast-word-after : p.Need-cast-word-after (p-calls t) (p-at t) part.Post p-Inv p-μ
+  cast-word-after c = omega (arith, sub (c .before) .end)
+
+  word-after-requires : p.Need-word-after-requires (p-calls t) (p-at t) part.Post p-Inv p-μ
+  word-after-requires c κs = let e = ap (λ w. w .0) (c .pool-word .ensures) in omega (arith, sub (c .before) .end)
+
+  pool-index-requires : p.Need-pool-index-requires (p-calls t) (p-at t) part.Post p-Inv p-μ
+  pool-index-requires c κs = search needs
+
+  -- Where the sub-block's entries begin.
+  begin : (d : p.After-pool-index (p-calls t) (p-at t) part.Post p-Inv p-μ) → let k = d .before .before .before in
+      let a = k .before .before .before .args in d .pool-index .result ≡ a .e + k .part-entries .result * a .i
+  begin d =
+      let k = d .before .before .before in
+      let a = k .before .before .before .args in
+      d .pool-index .ensures ∙ ap (λ w. w .0) (d .before .word-after .ensures)
+      ∙ ap (λ w. w .0 + k .part-entries .result * a .i) (d .before .before .pool-word .ensures)
 
   mul-number : p.Need-mul-number (p-calls t) (p-at t) part.Post p-Inv p-μ
-  mul-number c = let x = c .before .before .before .before in omega (arith, few-blocks (x .args .below) _ (x .pre .1 .1 .1))
+  mul-number c = let x = c .before .before .before .before .before .before in
+      omega (arith, few-blocks (x .args .below) _ (x .pre .1 .1 .1))
 
   add-number : p.Need-add-number (p-calls t) (p-at t) part.Post p-Inv p-μ
-  add-number c = let x = c .before .before .before .before in omega (arith, few-blocks (x .args .below) _ (x .pre .1 .1 .1))
+  add-number c = let x = c .before .before .before .before .before .before in
+      omega (arith, few-blocks (x .args .below) _ (x .pre .1 .1 .1))
 
   mul-number-2 : p.Need-mul-number-2 (p-calls t) (p-at t) part.Post p-Inv p-μ
-  mul-number-2 c = omega (arith, sub (c .before) .numbers)
+  mul-number-2 c = omega (arith, sub (c .before .before .before) .numbers)
 
   mul-e0 : p.Need-mul-e0 (p-calls t) (p-at t) part.Post p-Inv p-μ
-  mul-e0 c = omega (arith, sub (c .before) .end)
+  mul-e0 c = let z = begin c in omega (arith, sub (c .before .before .before) .end)
 
   -- Entry `j` lies in the pool.
   inside : (c : p.After-part-entries (p-calls t) (p-at t) part.Post p-Inv p-μ) (j : ℕ) → j < c .part-entries .result
-      → c .before .before .before .args .e + (c .part-entries .result * c .before .before .before .args .i + j) < length (c .before .before .before .args .pool .now)
+      → c .before .before .before .args .e + (c .part-entries .result * c .before .before .before .args .i + j)
+      < length (c .before .before .before .args .pool .now)
   inside c j l =
       let a = c .before .before .before .args in
       let x = c .before .before .before .pre .1 in
       omega (arith, x .0 .table (lt-ltb (a .e) 2147483648 (omega arith)), sub c .inside j l)
 
   shared-slice-read-e0 : p.Need-shared-slice-read-e0 (p-calls t) (p-at t) part.Post p-Inv p-μ
-  shared-slice-read-e0 c = let k = c .before .before in omega (arith, inside k 0 (sub k .some))
+  shared-slice-read-e0 c =
+      let d = c .before in
+      let z = begin d in
+      let k = d .before .before .before in
+      omega (arith, inside k 0 (sub k .some))
 
   -- What a call for entry `j`, at pool word `x`, is given.
-  given-entry : (c : p.After-part-entries (p-calls t) (p-at t) part.Post p-Inv p-μ) (j x m : ℕ) → j < c .part-entries .result
+  given-entry : (c : p.After-part-entries (p-calls t) (p-at t) part.Post p-Inv p-μ) (j x m : ℕ)
+      → j < c .part-entries .result
       → let a = c .before .before .before .args in
       x ≡ a .e + (c .part-entries .result * a .i + j) → m ≡ (8 * a .n + a .i) * c .part-entries .result + j
       → (3 * a .below + 2 < t)
-      × (Readable (a .pool .now) (a .below) (words (a .pool .now) x) × ((a .below ≤ 2) × (m < blocks (a .below)) × (a .paint .right < 4)))
+      × (Readable (a .pool .now) (a .below) (words (a .pool .now) x)
+      × ((a .below ≤ 2) × (m < blocks (a .below)) × (a .paint .right < 4)))
   given-entry c j x m l at to =
       let a = c .before .before .before .args in
       let y = c .before .before .before .pre .1 in
-      let r = entry-readable (a .paint) (words (a .pool .now)) _ _ (a .n) _ _ (sub c) (a .pool .now) j x (y .0) (omega arith) l at in
+      let r = entry-readable (a .paint) (words (a .pool .now)) _ _ (a .n) _ _ (sub c) (a .pool .now) j x (y .0)
+      (omega arith) l at in
       (omega arith, (r, (omega arith, rw to (sub c .few j l), y .1 .3)))
 
   entry-target-requires : p.Need-entry-target-requires (p-calls t) (p-at t) part.Post p-Inv p-μ
   entry-target-requires c κs =
-      let k = c .before .before in
-      given-entry k 0 (c .before .table-start .result + k .part-entries .result * k .before .before .before .args .i) _ (sub k .some) (omega arith) (omega arith)
+      let d = c .before in
+      let z = begin d in
+      let k = d .before .before .before in
+      given-entry k 0 (d .pool-index .result) _ (sub k .some) (omega arith) (omega arith)
 
   enum-known-first : p.Need-enum-known-first (p-calls t) (p-at t) part.Post p-Inv p-μ
   enum-known-first c = search needs
@@ -219,12 +260,15 @@ module _ (t : ℕ) where
   p-enum-told c = search needs
 
   -- The first entry, as it was found.
-  first : (c : p.After-entry-target (p-calls t) (p-at t) part.Post p-Inv p-μ) → let k = c .before .before .before in
+  first : (c : p.After-entry-target (p-calls t) (p-at t) part.Post p-Inv p-μ)
+      → let k = c .before .before .before .before .before in
       let a = k .before .before .before .args in
       targetOf (painted (a .paint) (given (words (a .pool .now)) (suc (a .below)) (a .e))) (a .below)
       ((8 * a .n + a .i) * k .part-entries .result * block (a .below)) ≡ c .entry-target .result
   first c =
-      let k = c .before .before .before in
+      let d = c .before .before in
+      let z = begin d in
+      let k = d .before .before .before in
       let a = k .before .before .before .args in
       entry-found (a .paint) (words (a .pool .now)) (a .below) (a .e) (a .n) (a .i) _ (sub k) 0 _ _ _ (omega arith)
       (sub k .some) (omega arith) (omega arith) (c .entry-target .ensures)
@@ -232,7 +276,7 @@ module _ (t : ℕ) where
   p-returns-2 : p.Need-returns-2 (p-calls t) (p-at t) part.Post p-Inv p-μ
   p-returns-2 c =
       let f = c .before .before in
-      first-mixed _ _ _ _ _ _ _ (sub (f .before .before .before)) (first f ∙ c .enum-told .given .1)
+      first-mixed _ _ _ _ _ _ _ (sub (f .before .before .before .before .before)) (first f ∙ c .enum-told .given .1)
 
   right-at-requires : p.Need-right-at-requires (p-calls t) (p-at t) part.Post p-Inv p-μ
   right-at-requires c κs = search needs
@@ -243,11 +287,13 @@ module _ (t : ℕ) where
   p-loop-holds : p.Need-loop-holds (p-calls t) (p-at t) part.Post p-Inv p-μ
   p-loop-holds c =
       let f = c .before .before .before .before .before in
-      let k = f .before .before .before in
+      let k = f .before .before .before .before .before in
       let a = k .before .before .before .args in (
         omega arith,
-        target-first (painted (a .paint) (given (words (a .pool .now)) (suc (a .below)) (a .e))) (a .below) ((8 * a .n + a .i) * k .part-entries .result)
-            (painted-given-small _ (a .paint) _ (a .e) (k .before .before .before .pre .1 .1 .3)) _ (first f ∙ c .before .before .before .first .given .1)
+        target-first (painted (a .paint) (given (words (a .pool .now)) (suc (a .below)) (a .e))) (a .below)
+            ((8 * a .n + a .i) * k .part-entries .result)
+            (painted-given-small _ (a .paint) _ (a .e) (k .before .before .before .pre .1 .1 .3)) _
+            (first f ∙ c .before .before .before .first .given .1)
             ∙ sym (c .before .right-at .ensures),
         λ j l. absurd (omega arith),
       )
@@ -256,21 +302,29 @@ module _ (t : ℕ) where
   cast-w c = search needs
 
   add-w : p.Need-add-w (p-calls t) (p-at t) part.Post p-Inv p-μ
-  add-w c = omega (arith, sub (c .before .before .before .before .before .before .before .before .before .before) .end)
+  add-w c =
+      let d = c .before .before .before .before .before .before .before .before .before in
+      let z = begin d in
+      omega (arith, sub (d .before .before .before) .end)
 
   mul-w : p.Need-mul-w (p-calls t) (p-at t) part.Post p-Inv p-μ
-  mul-w c = omega (arith, sub (c .before .before .before .before .before .before .before .before .before .before) .end)
+  mul-w c =
+      let d = c .before .before .before .before .before .before .before .before .before in
+      let z = begin d in
+      omega (arith, sub (d .before .before .before) .end)
 
   shared-slice-read-w : p.Need-shared-slice-read-w (p-calls t) (p-at t) part.Post p-Inv p-μ
   shared-slice-read-w c =
       let l = c .before .before in
-      let k = l .before .before .before .before .before .before .before .before .before in
+      let d = l .before .before .before .before .before .before .before .before in
+      let z = begin d in
+      let k = d .before .before .before in
       omega (arith, inside k (l .loop .j) (omega arith))
 
   add-m : p.Need-add-m (p-calls t) (p-at t) part.Post p-Inv p-μ
   add-m c =
       let l = c .before .before in
-      let k = l .before .before .before .before .before .before .before .before .before in
+      let k = l .before .before .before .before .before .before .before .before .before .before .before in
       omega (arith, sub k .numbers)
 
   add-j : p.Need-add-j (p-calls t) (p-at t) part.Post p-Inv p-μ
@@ -280,44 +334,53 @@ module _ (t : ℕ) where
   says-requires c κs =
       let l = c .before .before in
       let d = l .before .before .before .before .before .before .before .before in
-      let k = d .before in
+      let z = begin d in
+      let k = d .before .before .before in
       let a = k .before .before .before .args in
-      let g = given-entry k (l .loop .j) (d .table-start .result + k .part-entries .result * a .i + l .loop .j) _ (omega arith) (omega arith) refl in
+      let g = given-entry k (l .loop .j) (d .pool-index .result + l .loop .j) _ (omega arith) (omega arith) refl in
       (readable-good (a .pool .now) (a .below) _ (g .1 .0), g .1 .1)
 
   entry-target-requires-2 : p.Need-entry-target-requires-2 (p-calls t) (p-at t) part.Post p-Inv p-μ
   entry-target-requires-2 c κs =
       let l = c .before .before .before .before in
       let d = l .before .before .before .before .before .before .before .before in
-      let k = d .before in
-      given-entry k (l .loop .j) (d .table-start .result + k .part-entries .result * k .before .before .before .args .i + l .loop .j) _ (omega arith) (omega arith) refl
+      let z = begin d in
+      let k = d .before .before .before in
+      given-entry k (l .loop .j) (d .pool-index .result + l .loop .j) _ (omega arith) (omega arith) refl
 
   -- The entry that the loop reads, as it was found.
   read : (c : p.In-loop (p-calls t) (p-at t) part.Post p-Inv p-μ) (x : Target) → let l = c .before in
       let d = l .before .before .before .before .before .before .before .before in
-      let k = d .before in
+      let k = d .before .before .before in
       let a = k .before .before .before .args in
       let m = (8 * a .n + a .i) * k .part-entries .result + l .loop .j in
       ((R : ℕ → ℕ)
-      → Gives (words (a .pool .now)) (a .below) (words (a .pool .now) (d .table-start .result + k .part-entries .result * a .i + l .loop .j)) m R
+      → Gives (words (a .pool .now)) (a .below) (words (a .pool .now) (d .pool-index .result + l .loop .j)) m R
       → x ≡ targetOf (painted (a .paint) R) (a .below) (m * block (a .below)))
-      → targetOf (painted (a .paint) (given (words (a .pool .now)) (suc (a .below)) (a .e))) (a .below) (m * block (a .below)) ≡ x
+      → targetOf (painted (a .paint) (given (words (a .pool .now)) (suc (a .below)) (a .e))) (a .below)
+      (m * block (a .below)) ≡ x
   read c x g =
       let l = c .before in
-      let k = l .before .before .before .before .before .before .before .before .before in
+      let d = l .before .before .before .before .before .before .before .before in
+      let z = begin d in
+      let k = d .before .before .before in
       let a = k .before .before .before .args in
-      entry-found (a .paint) (words (a .pool .now)) (a .below) (a .e) (a .n) (a .i) _ (sub k) (l .loop .j) _ _ _ (omega arith)
+      entry-found (a .paint) (words (a .pool .now)) (a .below) (a .e) (a .n) (a .i) _ (sub k) (l .loop .j) _ _ _
+      (omega arith)
       (omega arith) (omega arith) refl g
 
   -- One that is not said by the right of the first word: the sub-block has two.
-  two : (c : p.After-entry-target2 (p-calls t) (p-at t) part.Post p-Inv p-μ) → let l = c .before .before .before .before .before in
-      let a = l .before .before .before .before .before .before .before .before .before .before .before .before .args in
+  two : (c : p.After-entry-target2 (p-calls t) (p-at t) part.Post p-Inv p-μ)
+      → let l = c .before .before .before .before .before in
+      let k = l .before .before .before .before .before .before .before .before .before .before .before in
+      let a = k .before .before .before .args in
       (c .entry-target2 .result ≡ Says (l .before .same-entry .result) → ⊥)
       → PartIs (words (a .pool .now)) (a .paint) (suc (a .below)) (a .e) (a .n) (a .i) Two
   two c d =
       let l = c .before .before .before .before .before in
-      let k = l .before .before .before .before .before .before .before .before .before in
-      entries-two _ _ _ _ _ _ _ (sub k) _ _ (l .loop .j) (l .before .same-entry .ensures) (omega arith) (l .loop .inv .1)
+      let k = l .before .before .before .before .before .before .before .before .before .before .before in
+      entries-two _ _ _ _ _ _ _ (sub k) _ _ (l .loop .j) (l .before .same-entry .ensures) (omega arith)
+      (l .loop .inv .1)
       (λ e. d (sym (read (c .before .before .before .before) _ (c .entry-target2 .ensures)) ∙ e))
 
   enum-known-t : p.Need-enum-known-t (p-calls t) (p-at t) part.Post p-Inv p-μ
@@ -330,26 +393,31 @@ module _ (t : ℕ) where
   p-returns-3 c = two (c .before .before) (λ e. mixed-not-said (sym (c .enum-told2 .given .1) ∙ e))
 
   p-returns-4 : p.Need-returns-4 (p-calls t) (p-at t) part.Post p-Inv p-μ
-  p-returns-4 c = two (c .before .before .before .before) (λ e. c .if3 .taken (same-said (sym (c .before .before .t .given .1) ∙ e)))
+  p-returns-4 c = two (c .before .before .before .before)
+      (λ e. c .if3 .taken (same-said (sym (c .before .before .t .given .1) ∙ e)))
 
   p-loop-less : p.Need-loop-less (p-calls t) (p-at t) part.Post p-Inv p-μ
   p-loop-less c = search needs
 
   -- One entry more that is said by the right of the first word.
   more : (c : p.In-loop (p-calls t) (p-at t) part.Post p-Inv p-μ) → let l = c .before in
-      let k = l .before .before .before .before .before .before .before .before .before in
+      let k = l .before .before .before .before .before .before .before .before .before .before .before in
       let a = k .before .before .before .args in
       let R = painted (a .paint) (given (words (a .pool .now)) (suc (a .below)) (a .e)) in
       let number = (8 * a .n + a .i) * k .part-entries .result in
       targetOf R (a .below) ((number + l .loop .j) * block (a .below)) ≡ Says (l .before .same-entry .result)
-      → Plain R (number * (block (a .below) / 4)) (block (a .below) / 4 * (l .loop .j + 1)) (l .before .before .right-at .result)
+      → Plain R (number * (block (a .below) / 4)) (block (a .below) / 4 * (l .loop .j + 1))
+      (l .before .before .right-at .result)
   more c says =
       let l = c .before in
-      let k = l .before .before .before .before .before .before .before .before .before in
+      let k = l .before .before .before .before .before .before .before .before .before .before .before in
       let a = k .before .before .before .args in
-      piece-plain (painted (a .paint) (given (words (a .pool .now)) (suc (a .below)) (a .e))) (a .below) ((8 * a .n + a .i) * k .part-entries .result)
-      (l .before .before .right-at .result) (l .before .same-entry .result) (l .before .same-entry .ensures) (l .loop .j)
-      (painted-given-small _ (a .paint) _ (a .e) (k .before .before .before .pre .1 .1 .3)) (rw (l .before .before .right-at .ensures) (right-small _ 0))
+      piece-plain (painted (a .paint) (given (words (a .pool .now)) (suc (a .below)) (a .e))) (a .below)
+      ((8 * a .n + a .i) * k .part-entries .result)
+      (l .before .before .right-at .result) (l .before .same-entry .result) (l .before .same-entry .ensures)
+      (l .loop .j)
+      (painted-given-small _ (a .paint) _ (a .e) (k .before .before .before .pre .1 .1 .3))
+      (rw (l .before .before .right-at .ensures) (right-small _ 0))
       says (l .loop .inv .2)
 
   p-loop-again : p.Need-loop-again (p-calls t) (p-at t) part.Post p-Inv p-μ
@@ -375,7 +443,7 @@ module _ (t : ℕ) where
   p-returns-5 : p.Need-returns-5 (p-calls t) (p-at t) part.Post p-Inv p-μ
   p-returns-5 c =
       let l = c .before in
-      let k = l .before .before .before .before .before .before .before .before .before in
+      let k = l .before .before .before .before .before .before .before .before .before .before .before in
       entries-one _ _ _ _ _ _ _ (sub k) _ _ (l .loop .inv .0) (c .loop-test .left) (l .loop .inv .2)
 
   s-loop-holds : s.Need-loop-holds (s-calls t) (s-at t) search′.Post s-Inv s-μ
@@ -397,7 +465,8 @@ module _ (t : ℕ) where
       let l = c .before .before .before .before in
       let a = l .before .before .args in
       let o = c .before .before .part in
-      gathers-two (painted (a .paint) (given (words (a .pool .now)) (suc (a .below)) (a .e))) (suc (a .below)) (a .n) (l .loop .work) (l .loop .i)
+      gathers-two (painted (a .paint) (given (words (a .pool .now)) (suc (a .below)) (a .e))) (suc (a .below)) (a .n)
+      (l .loop .work) (l .loop .i)
       (o .result) (omega arith) (o .ensures) (omega arith) (c .enum-told .given .1)
 
   cast-work : s.Need-cast-work (s-calls t) (s-at t) search′.Post s-Inv s-μ
@@ -420,8 +489,11 @@ module _ (t : ℕ) where
       let l = c .before .before .before .before .before in
       let a = l .before .before .args in
       let o = c .before .before .before .part in
-      gathers-more (painted (a .paint) (given (words (a .pool .now)) (suc (a .below)) (a .e))) (suc (a .below)) (a .n) (l .loop .work) (l .loop .i)
-      (o .result) (omega arith) (o .ensures) _ (painted-given-small _ (a .paint) _ (a .e) (l .before .before .pre .1 .1 .2)) (c .before .one .given .1) (l .loop .inv)
+      gathers-more (painted (a .paint) (given (words (a .pool .now)) (suc (a .below)) (a .e))) (suc (a .below)) (a .n)
+      (l .loop .work) (l .loop .i)
+      (o .result) (omega arith) (o .ensures) _
+      (painted-given-small _ (a .paint) _ (a .e) (l .before .before .pre .1 .1 .2)) (c .before .one .given .1)
+      (l .loop .inv)
 
   pack-eight-requires : s.Need-pack-eight-requires (s-calls t) (s-at t) search′.Post s-Inv s-μ
   pack-eight-requires c κs = c .before .loop .inv .small
@@ -430,7 +502,8 @@ module _ (t : ℕ) where
   s-returns-2 c =
       let l = c .before .before in
       let a = l .before .before .args in
-      gathers-all (painted (a .paint) (given (words (a .pool .now)) (suc (a .below)) (a .e))) (a .below) (a .n) (l .loop .work) (l .loop .i)
+      gathers-all (painted (a .paint) (given (words (a .pool .now)) (suc (a .below)) (a .e))) (a .below) (a .n)
+      (l .loop .work) (l .loop .i)
       (c .pack-eight .result) (c .before .loop-test .left) (c .pack-eight .ensures) (l .loop .inv)
 
 pub +entry-target+part+search-spec : {M : Type 1} → statement M
@@ -448,10 +521,11 @@ pub +entry-target+part+search-spec : {M : Type 1} → statement M
     (rights-part-requires t)
     (p-returns t)
     (part-entries-requires t)
-    (table-start-requires t)
-    (mul-from t)
-    (cast-from t)
-    (add-from t)
+    (pool-word-requires t)
+    (mul-word-after t)
+    (cast-word-after t)
+    (word-after-requires t)
+    (pool-index-requires t)
     (mul-number t)
     (add-number t)
     (mul-number-2 t)

@@ -1,5 +1,5 @@
--- `words::all_rights` meets its contract. The loop's invariant: at most as many are counted as were passed, and where as many are, each is
--- eight rights. Assumes nothing.
+-- `words::all_rights` meets its contract. The loop's invariant: at most as many are counted as were passed, and where
+-- as many are, each is eight rights. Assumes nothing.
 use Prim.Native.Nat.{_+_, _-_, _≤_}
 use mathlib.Core.Path.{_≡_}
 use native.Mathlib.Omega.{arith}
@@ -10,18 +10,19 @@ use Rattle.words.specs.Passing.{Passed}
 use Rattle.words.proofs.PassingLaws.{passed-more}
 use Rattle.words.proofs.all_rights.Statement.{statement}
 use Rattle.words.proofs.all_rights.Tie as tie
-use Rattle.words.proofs.all_rights.Reads as reads
-use Rattle.words.proofs.all_rights.Lts as lts
-use Rattle.words.proofs.one_if_rights.Reads as one-if-rights-reads
 
 abbrev Inv-loop : tie.InvT-loop
-Inv-loop pool at n₀ i₀ n i = (i ≤ 32) × (n ≤ i) × (n ≡ i → Passed pool at (at + i))
+Inv-loop pool first n₀ i₀ n i = (first + 32 ≤ length pool) × (i ≤ 32) × (n ≤ i)
+    × (n ≡ i → Passed pool first (first + i))
 
 abbrev μ-loop : tie.MeasureT-loop
-μ-loop pool at n₀ i₀ n i = 32 - i
+μ-loop pool first n₀ i₀ n i = 32 - i
+
+pool-index-requires : tie.Need-pool-index-requires Inv-loop μ-loop
+pool-index-requires c κs = search needs
 
 loop-holds : tie.Need-loop-holds Inv-loop μ-loop
-loop-holds c = (omega arith, omega arith, λ e k low high. absurd (omega arith))
+loop-holds c = (omega arith, omega arith, omega arith, λ e k low high. absurd (omega arith))
 
 add-w : tie.Need-add-w Inv-loop μ-loop
 add-w c = search needs
@@ -47,17 +48,20 @@ loop-less c = search needs
 loop-again : tie.Need-loop-again Inv-loop μ-loop
 loop-again c =
     let l = c .before .before .before in
-    let a = l .before .before .args in (
+    let first = l .before .pool-index .result in (
+      l .loop .inv .0,
       omega arith,
       omega arith,
       λ e k low high.
-          passed-more (a .pool .now) (a .at) (a .at + l .loop .i) (l .loop .inv .2 (omega arith)) (c .one-if-rights .ensures .1 (omega arith)) k low (omega arith),
+          passed-more (l .before .before .before .args .pool .now) first (first + l .loop .i)
+          (l .loop .inv .3 (omega arith))
+          (c .one-if-rights .ensures .1 (omega arith)) k low (omega arith),
     )
 
 returns : tie.Need-returns Inv-loop μ-loop
 returns c t k low high =
     let n : c .before .loop .n ≡ 32 = eqb-true _ _ t in
-    c .before .loop .inv .2 (omega arith) k low (omega arith)
+    c .before .loop .inv .3 (omega arith) k (omega arith) (omega arith)
 
 pub all-rights-spec : {M : Type 1} → statement M
 all-rights-spec =
@@ -65,6 +69,7 @@ all-rights-spec =
     (tie.spec
     Inv-loop
     μ-loop
+    pool-index-requires
     loop-holds
     add-w
     mul-w

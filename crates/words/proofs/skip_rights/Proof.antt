@@ -1,32 +1,37 @@
--- `words::skip_rights` meets its contract. Both loops' invariant: the words from `from` up to `at` are eight rights. Assumes nothing.
+-- `words::skip_rights` meets its contract. Both loops' invariant: the words from the first up to `at` are eight
+-- rights. Assumes nothing.
 use Prim.Native.Nat.{_+_, _-_, _≤_}
-use mathlib.Core.Path.{sym, _∙_}
+use mathlib.Core.Path.{_≡_, sym, ap, _∙_}
 use native.Mathlib.Omega.{arith}
 use borrow.Author.Needs.{needs}
 use borrow.Author.Tests.{not-false, not-true}
+use lib.ListN.{length, getD}
+use Rattle.words.specs.Rights.{goodRights}
 use Rattle.words.specs.Passing.{Passed}
 use Rattle.words.proofs.PassingLaws.{passed-more, passed-join}
 use Rattle.words.proofs.skip_rights.Statement.{statement}
 use Rattle.words.proofs.skip_rights.Tie as tie
-use Rattle.words.proofs.skip_rights.Reads as reads
-use Rattle.words.proofs.skip_rights.Lts as lts
-use Rattle.words.proofs.all_rights.Reads as all-rights-reads
-use Rattle.words.proofs.good_rights.Reads as good-rights-reads
 
 abbrev Inv-loop : tie.InvT-loop
-Inv-loop pool from to at₀ at = (from ≤ at) × (at ≤ to) × Passed pool from at
+Inv-loop pool count first end at₀ at = (first ≤ at) × (at ≤ end) × (end ≤ length pool) × Passed pool first at
 
 abbrev μ-loop : tie.MeasureT-loop
-μ-loop pool from to at₀ at = to - at
+μ-loop pool count first end at₀ at = end - at
 
 abbrev Inv-loop2 : tie.InvT-loop2
-Inv-loop2 pool from to at₀ at = (from ≤ at) × (at ≤ to) × Passed pool from at
+Inv-loop2 pool count first end at₀ at = (first ≤ at) × (at ≤ end) × (end ≤ length pool) × Passed pool first at
 
 abbrev μ-loop2 : tie.MeasureT-loop2
-μ-loop2 pool from to at₀ at = to - at
+μ-loop2 pool count first end at₀ at = end - at
+
+pool-index-requires : tie.Need-pool-index-requires Inv-loop μ-loop Inv-loop2 μ-loop2
+pool-index-requires c κs = search needs
+
+add-end : tie.Need-add-end Inv-loop μ-loop Inv-loop2 μ-loop2
+add-end c = search needs
 
 loop-holds : tie.Need-loop-holds Inv-loop μ-loop Inv-loop2 μ-loop2
-loop-holds c = (omega arith, omega arith, λ k low high. absurd (omega arith))
+loop-holds c = (omega arith, omega arith, omega arith, λ k low high. absurd (omega arith))
 
 sub-loop : tie.Need-sub-loop Inv-loop μ-loop Inv-loop2 μ-loop2
 sub-loop c = search needs
@@ -43,10 +48,12 @@ loop-less c = search needs
 loop-again : tie.Need-loop-again Inv-loop μ-loop Inv-loop2 μ-loop2
 loop-again c =
     let l = c .before .before .before in
-    let a = l .before .before .args in (
+    let first = l .before .pool-index .result in (
       omega arith,
       omega arith,
-      passed-join (a .pool .now) (a .from) (l .loop .at) (l .loop .inv .2) (l .loop .at + 32) (c .before .all-rights .ensures (not-false _ (c .if1 .left))),
+      l .loop .inv .2,
+      passed-join (l .before .before .before .args .pool .now) first (l .loop .at) (l .loop .inv .3) (l .loop .at + 32)
+          (c .before .all-rights .ensures (not-false _ (c .if1 .left))),
     )
 
 loop2-holds : tie.Need-loop2-holds Inv-loop μ-loop Inv-loop2 μ-loop2
@@ -61,14 +68,22 @@ shared-slice-read-w c = search needs
 good-rights-requires : tie.Need-good-rights-requires Inv-loop μ-loop Inv-loop2 μ-loop2
 good-rights-requires c κs = search needs
 
+sub-result : tie.Need-sub-result Inv-loop μ-loop Inv-loop2 μ-loop2
+sub-result c = let l = c .before .before .before .before in l .loop2 .inv .0
+
 returns : tie.Need-returns Inv-loop μ-loop Inv-loop2 μ-loop2
 returns c =
     let l = c .before .before .before .before in
+    let f = l .before .before .before in
+    let a = f .before .before .args in
+    let here : a .from .0 + (l .loop2 .at - f .pool-index .result) ≡ l .loop2 .at =
+    omega (arith, f .pool-index .ensures, l .loop2 .inv .0) in
     record {
-      low = l .loop2 .inv .0;
-      high = l .loop2 .inv .1;
-      passed = l .loop2 .inv .2;
-      stops = λ h. sym (c .before .good-rights .ensures) ∙ not-true _ (c .if2 .taken);
+      low = omega arith;
+      high = omega (arith, f .pool-index .ensures, l .loop2 .inv .0, l .loop2 .inv .1);
+      passed = λ k low high. l .loop2 .inv .3 k (omega arith) (omega arith);
+      stops = λ h. ap (λ k. goodRights (getD (a .pool .now) k 0)) here ∙ sym (c .before .good-rights .ensures)
+          ∙ not-true _ (c .if2 .taken);
     }
 
 add-at-2 : tie.Need-add-at-2 Inv-loop μ-loop Inv-loop2 μ-loop2
@@ -80,10 +95,12 @@ loop2-less c = search needs
 loop2-again : tie.Need-loop2-again Inv-loop μ-loop Inv-loop2 μ-loop2
 loop2-again c =
     let l = c .before .before .before .before in
-    let a = l .before .before .before .before .args in (
+    let f = l .before .before .before in (
       omega arith,
       omega arith,
-      passed-more (a .pool .now) (a .from) (l .loop2 .at) (l .loop2 .inv .2) (sym (c .before .good-rights .ensures) ∙ not-false _ (c .if2 .left)),
+      l .loop2 .inv .2,
+      passed-more (f .before .before .args .pool .now) (f .pool-index .result) (l .loop2 .at) (l .loop2 .inv .3)
+          (sym (c .before .good-rights .ensures) ∙ not-false _ (c .if2 .left)),
     )
 
 returns-2 : tie.Need-returns-2 Inv-loop μ-loop Inv-loop2 μ-loop2
@@ -92,7 +109,7 @@ returns-2 c =
     record {
       low = omega arith;
       high = omega arith;
-      passed = λ k low high. l .loop2 .inv .2 k low (omega arith);
+      passed = λ k low high. l .loop2 .inv .3 k (omega arith) (omega arith);
       stops = λ h. absurd (omega arith);
     }
 
@@ -104,6 +121,8 @@ skip-rights-spec =
     μ-loop
     Inv-loop2
     μ-loop2
+    pool-index-requires
+    add-end
     loop-holds
     sub-loop
     all-rights-requires
@@ -114,6 +133,7 @@ skip-rights-spec =
     mul-w
     shared-slice-read-w
     good-rights-requires
+    sub-result
     returns
     add-at-2
     loop2-less

@@ -11,7 +11,8 @@ use Rattle.rights_listing.proofs.pages.write_fours.Statement.{statement
 use Rattle.rights_listing.proofs.pages.write_fours.Tie as tie
 
 abbrev Inv-loop : tie.InvT-loop
-Inv-loop out₀ runs n len₀ i₀ out len i = (i ≤ n) × (len ≤ 11 * i) × (length out ≡ length out₀) × (take len out ≡ text 4 (take i runs))
+Inv-loop out₀ runs n len₀ i₀ out len i =
+    (i ≤ n) × (len ≤ 11 * i) × (length out ≡ length out₀) × (take len out ≡ text 4 (take i runs))
 
 abbrev μ-loop : tie.MeasureT-loop
 μ-loop out₀ runs n len₀ i₀ out len i = n - i
@@ -23,7 +24,10 @@ mul-write-number : tie.Need-mul-write-number Inv-loop μ-loop
 mul-write-number c = search needs
 
 shared-slice-read-write-number : tie.Need-shared-slice-read-write-number Inv-loop μ-loop
-shared-slice-read-write-number c = let i = c .before .before .before .loop .inv in let p = c .before .before .before .before .before .before .pre in omega arith
+shared-slice-read-write-number c =
+    let i = c .before .before .before .loop .inv in
+    let p = c .before .before .before .before .before .before .pre in
+    omega arith
 
 end-of-requires : tie.Need-end-of-requires Inv-loop μ-loop
 end-of-requires c κs = search needs
@@ -47,11 +51,12 @@ loop-again c =
     let a = b .before .before .before .args in
     let p = b .before .before .before .pre in
     let i = b .loop .inv in
-    let w = c .before .before .write-number in (
+    let w = c .before .before .write-number in
+    let t = text-took 4 (b .loop .i) (a .runs .now) (omega arith) in (
       omega arith,
       omega arith,
       w .kept .0 ∙ i .2,
-      w .ensures .1 ∙ rw (i .3, c .before .before .before .end-of .ensures) (sym (text-took 4 (b .loop .i) (a .runs .now) (omega arith))),
+      w .ensures .1 ∙ rw (i .3, c .before .before .before .end-of .ensures) (sym t),
     )
 
 same-length : tie.Need-same-length Inv-loop μ-loop

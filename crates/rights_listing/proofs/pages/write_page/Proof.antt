@@ -32,7 +32,8 @@ returns-2 : tie.Need-returns-2
 returns-2 c =
     let k = c .before in
     let l = k .before .before .before .before in
-    page-past (rw (l .before .before .shape .ensures) at (l .list-runs .ensures)) (k .before .listed .given .1) (omega arith)
+    let r = rw (l .before .before .shape .ensures) at (l .list-runs .ensures) in
+    page-past r (k .before .listed .given .1) (omega arith)
 
 sub-rest : tie.Need-sub-rest
 sub-rest c = search needs
@@ -56,9 +57,12 @@ returns-3 c =
     let l = k .before .before .before .before in
     let w = c .before .before .write-fours in
     let o = w .kept .0 in
-    let p = c .before .before .before .before .before .before .before .before .before .before .before .before .before .before .before .before .pre in
-    page-some (rw (l .before .before .shape .ensures) at (l .list-runs .ensures)) (k .before .listed .given .1) (k .before .listed .given .0 .0 - c .before .before .before .before .before .before .before .before .before .before .before .before .before .before .before .before .args .from) (w .result)
-    (length-replicate {A = ℕ} 4096 0) (omega arith) (omega arith) (λ h. omega arith) (w .ensures .0) (omega arith) (w .ensures .1) _ (omega arith)
+    let s = l .before .before .before .before .before in
+    let p = s .pre in
+    let r = rw (l .before .before .shape .ensures) at (l .list-runs .ensures) in
+    let n = k .before .listed .given .0 .0 - s .args .from in
+    page-some r (k .before .listed .given .1) n (w .result) (length-replicate {A = ℕ} 4096 0) (omega arith)
+    (omega arith) (λ h. omega arith) (w .ensures .0) (omega arith) (w .ensures .1) _ (omega arith)
 
 slice-aggregate-write-fours-2 : tie.Need-slice-aggregate-write-fours-2
 slice-aggregate-write-fours-2 c = search needs
@@ -66,8 +70,8 @@ slice-aggregate-write-fours-2 c = search needs
 write-fours-requires-2 : tie.Need-write-fours-requires-2
 write-fours-requires-2 c κs = search needs
 
-sub-t23 : tie.Need-sub-t23
-sub-t23 c = search needs
+sub-left : tie.Need-sub-left
+sub-left c = search needs
 
 same-length-2 : tie.Need-same-length-2
 same-length-2 c = search needs
@@ -79,9 +83,11 @@ returns-4 c =
     let l = k .before .before .before .before in
     let w = c .before .before .write-fours2 in
     let o = w .kept .0 in
-    let p = c .before .before .before .before .before .before .before .before .before .before .before .before .before .before .before .before .pre in
-    page-some (rw (l .before .before .shape .ensures) at (l .list-runs .ensures)) (k .before .listed .given .1) 1024 (w .result)
-    (length-replicate {A = ℕ} 4096 0) (omega arith) (omega arith) (λ h. omega arith) (w .ensures .0) (omega arith) (w .ensures .1) _ (omega arith)
+    let s = l .before .before .before .before .before in
+    let p = s .pre in
+    let r = rw (l .before .before .shape .ensures) at (l .list-runs .ensures) in
+    page-some r (k .before .listed .given .1) 1024 (w .result) (length-replicate {A = ℕ} 4096 0) (omega arith)
+    (omega arith) (λ h. omega arith) (w .ensures .0) (omega arith) (w .ensures .1) _ (omega arith)
 
 pub write-page-spec : {M : Type 1} → statement M
 write-page-spec =
@@ -102,6 +108,6 @@ write-page-spec =
     returns-3
     slice-aggregate-write-fours-2
     write-fours-requires-2
-    sub-t23
+    sub-left
     same-length-2
     returns-4)

@@ -1,9 +1,8 @@
 -- `serving::reply` meets its contract.
 use mathlib.Core.Path.{_≡_, ap}
 use borrow.Author.Needs.{needs}
-use Rattle.change.specs.Answers.{Changes}
-use Rattle.rights_listing.specs.Serves.{whole, suffices}
-use Rattle.rights_listing.proofs.ServesLaws.{serves-none, serves-done, serves-cut, serves-refused}
+use Rattle.change.specs.Answers.{numbers}
+use Rattle.rights_listing.proofs.ServesLaws.{serves-none, serves-request}
 use Rattle.rights_listing.proofs.serving.reply.Statement.{statement}
 use Rattle.rights_listing.proofs.serving.reply.Tie as tie
 
@@ -38,19 +37,31 @@ same-length : tie.Need-same-length
 same-length c = search needs
 
 returns-2 : tie.Need-returns-2
-returns-2 c = let k = c .before .before .before .before in serves-done (k .before .before .before .before .before .said .given .1) (c .enum-told2 .given .1) (rw (k .before .before .shape .ensures, k .before .byte-addr .ensures) at (k .change .ensures))
+returns-2 c =
+    let k = c .before .before .before .before in
+    let e = ap (λ a. numbers a .refusal) (c .enum-told2 .given .1) in
+    let h = rw (k .before .before .shape .ensures, k .before .byte-addr .ensures) at (k .change .ensures) in
+    serves-request (k .before .before .before .before .before .said .given .1) e h
 
 same-length-2 : tie.Need-same-length-2
 same-length-2 c = search needs
 
 returns-3 : tie.Need-returns-3
-returns-3 c = let k = c .before .before .before .before in serves-cut (k .before .before .before .before .before .said .given .1) (c .enum-told3 .given .1) (rw (k .before .before .shape .ensures, k .before .byte-addr .ensures) at (k .change .ensures))
+returns-3 c =
+    let k = c .before .before .before .before in
+    let e = ap (λ a. numbers a .refusal) (c .enum-told3 .given .1) in
+    let h = rw (k .before .before .shape .ensures, k .before .byte-addr .ensures) at (k .change .ensures) in
+    serves-request (k .before .before .before .before .before .said .given .1) e h
 
 same-length-3 : tie.Need-same-length-3
 same-length-3 c = search needs
 
 returns-4 : tie.Need-returns-4
-returns-4 c = let k = c .before .before .before .before .before in serves-refused (k .before .before .before .before .before .said .given .1) (c .before .answer .given .1) (rw (k .before .before .shape .ensures, k .before .byte-addr .ensures) at (k .change .ensures))
+returns-4 c =
+    let k = c .before .before .before .before .before in
+    let e = ap (λ a. numbers a .refusal) (c .before .answer .given .1) in
+    let h = rw (k .before .before .shape .ensures, k .before .byte-addr .ensures) at (k .change .ensures) in
+    serves-request (k .before .before .before .before .before .said .given .1) e h
 
 pub reply-spec : {M : Type 1} → statement M
 reply-spec =

@@ -35,29 +35,37 @@ same-length-2 c = c .before .before .before .before .loop .inv .out-long
 returns : tie.Need-returns Inv-loop μ-loop
 returns c =
     let b = c .before .before .before .before in
-    going-ends (b .loop .inv) (c .before .before .before .feed .ensures) (b .before .before .before .before .pre) (c .enum-told .given .1)
+    let p = b .before .before .before .before .pre in
+    going-ends (b .loop .inv) (c .before .before .before .feed .ensures) p (c .enum-told .given .1)
 
 reply-requires : tie.Need-reply-requires Inv-loop μ-loop
 reply-requires c κs = search needs
 
 write-number-requires : tie.Need-write-number-requires Inv-loop μ-loop
 write-number-requires c κs =
-    let b = c .before .before .before .before .before .before .before .before .before .before in
+    let f = c .before .before .before .before .before .before in
+    let k = f .before .before .before in
+    let b = k .before in
     let g = b .loop .inv in
-    let m = going-moves g (c .before .before .before .before .before .before .before .before .before .feed .ensures) (c .before .before .before .before .before .before .found .given .1) in
+    let m = going-moves g (k .feed .ensures) (f .found .given .1) in
     let p = b .before .before .before .before .pre in
     omega (arith, g .inside, g .out-long)
 
 loop-less : tie.Need-loop-less Inv-loop μ-loop
 loop-less c =
-    let m = going-moves (c .before .before .before .before .before .before .before .before .before .before .before .before .before .loop .inv) (c .before .before .before .before .before .before .before .before .before .before .before .before .feed .ensures) (c .before .before .before .before .before .before .before .before .before .found .given .1) in
+    let f = c .before .before .before .before .before .before .before .before .before in
+    let k = f .before .before .before in
+    let m = going-moves (k .before .loop .inv) (k .feed .ensures) (f .found .given .1) in
     omega arith
 
 loop-again : tie.Need-loop-again Inv-loop μ-loop
 loop-again c =
-    let k = c .before .before .before .before .before .before .reply in
+    let f = c .before .before .before .before .before .before .before .before .before in
+    let k = f .before .before .before in
+    let r = c .before .before .before .before .before .before .reply in
     let w = c .before .before .write-number in
-    going-on (c .before .before .before .before .before .before .before .before .before .before .before .before .before .loop .inv) (c .before .before .before .before .before .before .before .before .before .before .before .before .feed .ensures) (c .before .before .before .before .before .before .before .before .before .found .given .1) (k .ensures) (k .kept .0) (w .kept .0) (w .ensures .0) (w .ensures .1)
+    going-on (k .before .loop .inv) (k .feed .ensures) (f .found .given .1) (r .ensures) (r .kept .0) (w .kept .0)
+    (w .ensures .0) (w .ensures .1)
 
 pub serve-spec : {M : Type 1} → statement M
 serve-spec =

@@ -34,9 +34,14 @@ returns-2 : tie.Need-returns-2
 returns-2 c =
     let w = c .before .before .write-number in
     let i = w .ensures .0 in
-    let p = c .before .before .before .before .before .before .before .before .before .before .before .before .before .before .pre in
+    let r = c .before .before .before .before .before .before in
+    let f = r .before .before .before in
+    let k = f .before .before in
+    let s = k .before .before .before in
+    let p = s .pre in
     let l = w .kept .0 in
-    last-one (c .before .before .before .before .before .before .before .before .before .before .before .before .before .before .args .out .now) (sym (c .before .before .before .before .before .before .before .before .before .before .before .last-line .ensures) ∙ c .before .before .before .before .before .before .before .before .before .found .given .1) (c .before .before .before .before .before .before .reply .ensures) (omega arith) (w .ensures .1)
+    let e = sym (k .last-line .ensures) ∙ f .found .given .1 in
+    last-one (s .args .out .now) e (r .reply .ensures) (omega arith) (w .ensures .1)
 
 pub serve-last-spec : {M : Type 1} → statement M
 serve-last-spec =

@@ -30,7 +30,8 @@ slice-write-out c =
     let p = c .before .before .before .pre in
     let i = c .before .before .loop .inv in
     let a = c .before .before .before .args in
-    let z = ap length (i .1) ∙ length-paste (a .out .now) (a .at) (a .bytes .now) (c .before .before .loop .i) (omega arith) (omega arith) in
+    let k = c .before .before .loop .i in
+    let z = ap length (i .1) ∙ length-paste (a .out .now) (a .at) (a .bytes .now) k (omega arith) (omega arith) in
     omega arith
 
 add-i : tie.Need-add-i Inv-loop μ-loop
@@ -59,7 +60,8 @@ same-length c =
     let p = c .before .before .pre in
     let i = c .before .loop .inv in
     let a = c .before .before .args in
-    ap length (i .1) ∙ length-paste (a .out .now) (a .at) (a .bytes .now) (c .before .loop .i) (omega arith) (omega arith)
+    let k = c .before .loop .i in
+    ap length (i .1) ∙ length-paste (a .out .now) (a .at) (a .bytes .now) k (omega arith) (omega arith)
 
 returns : tie.Need-returns Inv-loop μ-loop
 returns c =

@@ -58,7 +58,11 @@ module _ (c : tie.After-copy) where
       omega arith
 
   room : c .copy .result < length (c .copy .last .0)
-  room = let e = ends in let z = c .copy .kept .0 in let p = c .before .before .before .before .before .before .before .pre in omega arith
+  room =
+      let e = ends in
+      let z = c .copy .kept .0 in
+      let p = c .before .before .before .before .before .before .before .pre in
+      omega arith
 
 slice-write-out : tie.Need-slice-write-out
 slice-write-out c = room (c .before .before)
@@ -78,7 +82,10 @@ returns c =
     let e = ends k in
     let g = k .before .before .before in
     let a = g .before .before .before .before .args in
-    (omega arith, byte-more (a .out .now) (k .copy .last .0) (numeral (a .n)) (a .at) (k .copy .result) (a .end) (rw (which g) at (k .copy .ensures .1)) (room k))
+    let w = k .copy in
+    let t = rw (which g) at (w .ensures .1) in
+    let b = byte-more (a .out .now) (w .last .0) (numeral (a .n)) (a .at) (w .result) (a .end) t (room k) in
+    (omega arith, b)
 
 pub write-number-spec : {M : Type 1} → statement M
 write-number-spec =

@@ -1,0 +1,153 @@
+-- There is one plan of a change: what `plan_change` promises leaves one outcome.
+use Prim.Native.Nat.{ℕ, zero, suc, _+_, _*_, _<_}
+use mathlib.Core.Path.{_≡_, refl, sym, fun-ext, ap, _∙_}
+use mathlib.Core.Bool.{Bool, true}
+use native.Mathlib.Omega.{arith}
+use Rattle.theory.specs.Pool.{Led}
+use Rattle.theory.specs.Settled.{Settled}
+use Rattle.theory.specs.Finished.{Finished}
+use Rattle.theory.proofs.Logic.{by-cases}
+use Rattle.theory.proofs.BlockLaws.{one-table}
+use Rattle.theory.proofs.FinishedLaws.{one-finished}
+use Rattle.theory.proofs.EncodesLaws.{wants-gets, gets-led}
+use Rattle.table.specs.declared.Shape.{Shape}
+use Rattle.table.specs.Shape.{InRange}
+use Rattle.table.specs.Map.{addresses, formOf}
+use Rattle.table.specs.Wants.{wantsOf}
+use Rattle.table.proofs.FormLaws.{lawful, exact}
+use Rattle.table.specs.Wants.{WordRights}
+use Rattle.table.proofs.WantLaws.{wants-divided, wanting, tells-wants}
+use Rattle.places.specs.Final.{blocks, number, domainOf, addressOf, want, tableOf, place, entryWord, final}
+use Rattle.places.proofs.NumberLaws.{number-first}
+use Rattle.places.proofs.FinalWordLaws.{place-table, entry-leads, entry-says}
+use Rattle.places.proofs.FinalLaws.{final-encodes, final-placing, final-finished}
+use Rattle.places.proofs.Exists.{finished-fits}
+use Rattle.targets.specs.declared.Paint.{Paint}
+use Rattle.plan.specs.declared.Edge.{Edge}
+use Rattle.plan.specs.declared.Plan.{Plan}
+use Rattle.plan.specs.declared.Planning.{Planning}
+use Rattle.plan.specs.declared.Planning.the-variants.{Ready, NoRoom}
+use Rattle.plan.specs.Aims.{aims}
+use Rattle.plan.specs.Planning.{Regular}
+use Rattle.plan.specs.Edges.{firstOf, lastOf, EdgeIs, PlanReady, PlansChange}
+use Rattle.plan.proofs.Setting.{Setting}
+use Rattle.plan.proofs.SettingLaws.{aims-rights}
+
+module _ (s : Shape) (d : ℕ) (paint : Paint) (P : ℕ → ℕ) (range : InRange (s .domains) (s .middles) (s .leaves))
+    (settled : Settled (formOf s) P) (bd : d < s .domains) (regular : Regular paint) where
+  abbrev D : ℕ
+  D = s .domains
+
+  abbrev M : ℕ
+  M = s .middles
+
+  abbrev L : ℕ
+  L = s .leaves
+
+  abbrev R : ℕ → ℕ → ℕ
+  R = aims s d paint P
+
+  abbrev wants : ℕ → ℕ → ℕ → Bool
+  wants h e a = wantsOf (R e) h a
+
+  -- The finished pool of a plan that is ready, and where its tables stand.
+  module _ {q : Plan} (x : PlanReady s d paint P q) where
+    abbrev whole : ℕ → ℕ
+    whole = final D M L (x .middle) (x .leaf) R P
+
+    setting : Setting s d paint P (x .middle) (x .leaf) (x .free-middle) (x .free-leaf)
+    setting = record {
+      range = range;
+      settled = settled;
+      domain = bd;
+      regular = regular;
+      middles = x .middles;
+      leaves = x .leaves;
+    }
+
+    rights : (e : ℕ) → e < D → WordRights (R e)
+    rights e be = aims-rights setting e
+
+    whole-finished : Finished (formOf s) P R whole
+    whole-finished = final-finished D M L range rights (settled .sound) (x .middle) (x .leaf)
+        (x .free-middle) (x .free-leaf) (x .middles) (x .leaves) (λ j. refl)
+
+    whole-led : (h e a : ℕ) → h < 2 → e < D → a < addresses → wants (suc h) e a ≡ true
+        → Led (formOf s) whole e a h (place D M L (x .middle) (x .leaf) h e a)
+    whole-led h e a hi be ba w =
+        let tells = tells-wants D M L R rights in
+        gets-led (formOf s) (lawful D M L) (exact D M L) wants (place D M L (x .middle) (x .leaf)) tells
+        (final-placing D M L range rights (settled .sound) (x .middle) (x .leaf)
+        (x .free-middle) (x .free-leaf) (x .middles) (x .leaves) (λ j. refl))
+        (final-encodes D M L range rights (settled .sound) (x .middle) (x .leaf)
+        (x .free-middle) (x .free-leaf) (x .middles) (x .leaves) (λ j. refl))
+        h e a be ba hi
+        (wants-gets (formOf s) wants (wanting D M L) tells e a be ba h hi (wants-divided (R e) (suc h) a ba w))
+
+  module _ {q r : Plan} (x : PlanReady s d paint P q) (y : PlanReady s d paint P r) where
+    same-whole : whole x ≡ whole y
+    same-whole =
+        let a = whole-finished x in
+        let b = whole-finished y in
+        fun-ext (one-finished (formOf s) (lawful D M L) (wanting D M L) P R (exact D M L) a b)
+
+    -- A block that wants a table has it in one place, by either plan.
+    same-table : (h i : ℕ) → h < 2 → i < blocks h * D → want R h i ≡ true
+        → tableOf D M L (x .middle) (x .leaf) h i ≡ tableOf D M L (y .middle) (y .leaf) h i
+    same-table h i hi bi w =
+        let (be, ba, n) = number-first h D i hi bi in
+        let e = domainOf h i in
+        let a = addressOf h i in
+        let here = rw same-whole at (whole-led x h e a hi be ba w) in
+        let one = one-table (formOf s) (whole y) e a h here (whole-led y h e a hi be ba w) in
+        let from = place-table D M L (x .middle) (x .leaf) h e a hi in
+        let to = place-table D M L (y .middle) (y .leaf) h e a hi in
+        rw n at (sym from ∙ one ∙ to)
+
+    same-entry : (h i : ℕ) → h < 2 → i < blocks h * D
+        → entryWord D M L (x .middle) (x .leaf) R P h i ≡ entryWord D M L (y .middle) (y .leaf) R P h i
+    same-entry h i hi bi = by-cases (want R h i)
+        (λ w. entry-leads D M L (x .middle) (x .leaf) R P h i w ∙ same-table h i hi bi w
+        ∙ sym (entry-leads D M L (y .middle) (y .leaf) R P h i w))
+        (λ w. entry-says D M L (x .middle) (x .leaf) R P h i w
+        ∙ sym (entry-says D M L (y .middle) (y .leaf) R P h i w))
+
+    same-edge : (h n : ℕ) {e f : Edge} → h < 2 → n < blocks h → EdgeIs s d paint P (x .middle) (x .leaf) h n e
+        → EdgeIs s d paint P (y .middle) (y .leaf) h n f → e ≡ f
+    same-edge h n hi bn u v =
+        let number = u .number ∙ sym (v .number) in
+        let old = u .old ∙ sym (v .old) in
+        let last = u .last ∙ same-entry h (blocks h * d + n) hi (inside h bn) ∙ sym (v .last) in
+        λ i. record { number = number i; old = old i; last = last i }
+      where
+        inside : (h : ℕ) → n < blocks h → blocks h * d + n < blocks h * D
+        inside zero b = omega arith
+        inside (suc h) b = omega arith
+
+    same-plan : q ≡ r
+    same-plan =
+        let u = x .edges in
+        let v = y .edges in
+        let some = regular .some in
+        let below = regular .below in
+        let domain = u .for-domain ∙ sym (v .for-domain) in
+        let paints = u .for-paint ∙ sym (v .for-paint) in
+        let block0 = same-edge 1 (firstOf 1 paint) (omega arith) (omega arith) (u .first-block) (v .first-block) in
+        let block1 = same-edge 1 (lastOf 1 paint) (omega arith) (omega arith) (u .last-block) (v .last-block) in
+        let page0 = same-edge 0 (firstOf 0 paint) (omega arith) (omega arith) (u .first-page) (v .first-page) in
+        let page1 = same-edge 0 (lastOf 0 paint) (omega arith) (omega arith) (u .last-page) (v .last-page) in
+        λ i. record {
+          domain = domain i;
+          paint = paints i;
+          «first_block» = block0 i;
+          «last_block» = block1 i;
+          «first_page» = page0 i;
+          «last_page» = page1 i;
+        }
+
+  -- Ready, with one plan, exactly where there is room.
+  pub one-plan : (q r : Planning) → PlansChange s d paint P q → PlansChange s d paint P r → q ≡ r
+  one-plan (Ready q) (Ready r) x y = ap Ready (same-plan x y)
+  one-plan (Ready q) NoRoom x y = absurd (y (finished-fits D M L (whole-finished x)))
+  one-plan NoRoom (Ready r) x y = absurd (x (finished-fits D M L (whole-finished y)))
+  one-plan NoRoom NoRoom x y = refl

@@ -1,0 +1,74 @@
+"""Who may hold the pool to write in, and for what. A new holder is a new line here, to be thought about."""
+
+# Who holds the pool to write in, and all that each does with it.
+HOLDERS = {
+    "table": {"fresh": ["length", "part to fill", "part to fill"], "fill": ["length", "store"]},
+    "change": {
+        "put": ["store"],
+        "make_stores": ["to next_store", "to put"],
+        "change": ["to plan_request", "to make_stores"],
+        "tidy": ["length", "to census::census", "to make_stores"],
+    },
+    "goleuthan": {
+        "gol_fresh": ["to table::fresh"],
+        "gol_change": ["to change::change"],
+        "gol_tidy": ["to change::tidy"],
+    },
+    "rights_listing": {
+        "reply": ["to change::change"],
+        "serve": ["to reply"],
+        "serve_last": ["to reply"],
+        "hear": ["to serving::serve"],
+        "hear_last": ["to serving::serve_last"],
+        "hear_all": ["to hear", "to hear_last"],
+    },
+}
+
+# The program's pool is an array of its main function.
+MAIN = ["new", "lent to table::fresh", "lent to hear_all", "shown to show_all"]
+
+# Who is told the allowance, and what each does with it.
+TOLD = {
+    ("change", "make_stores"): "the loop",
+    ("change", "change"): ["to make_stores"],
+    ("change", "tidy"): ["to make_stores"],
+    ("goleuthan", "gol_change"): ["to change::change"],
+    ("goleuthan", "gol_tidy"): ["to change::tidy"],
+}
+
+# The crates below `change`; in the census the owners of places are lent to write in.
+BELOW = next(line.split()[1:] for line in open("crates.txt") if line.startswith("change:"))
+OWNERS = {name: ["owners"] for name in ("clear", "give_place", "table_check", "entry_check", "census")}
+
+# What the functions that C calls are lent to write in.
+EXPORTED = {
+    "gol_fresh": ["pool"],
+    "gol_lookup": ["out"],
+    "gol_change": ["pool", "out"],
+    "gol_tidy": ["pool", "out"],
+    "gol_list": ["runs", "out"],
+    "gol_check": ["buffer", "out"],
+    "gol_flush_all": ["buffer"],
+    "gol_flush_domain": ["buffer"],
+    "gol_flush_region": ["buffer"],
+    "gol_set_switch_gate": ["gates"],
+    "gol_set_return_gate": ["gates"],
+    "gol_remove_gate": ["gates"],
+    "gol_step": ["stack", "out"],
+}
+
+# What a lookup's code does with the pool.
+READERS = {"lookup": ["length", "to walk_down"], "walk_down": ["to load"], "load": ["read"]}
+
+# The one loop, token by token, whatever its locals are called. What it asks and gives are names.
+NAMES = r"[\w ,]+"
+LOOP = (
+    r"let mut (?P<left>\w+) = allowance ; let mut (?P<at>\w+) = START ; loop \{ "
+    r"let (?P<next>\w+) = next_store \( (?P<asked>" + NAMES + r") , (?P=at) \) ; "
+    r"let Next :: Store \( (?P<word>\w+) , (?P<value>\w+) , (?P<on>\w+) \) = (?P=next) else \{ "
+    r"(?:return Answer :: Done \( allowance - (?P=left) \) ;"
+    r"|let (?P<made>\w+) = allowance - (?P=left) ; return Answer :: Done \( (?P=made) \) ;) \} ; "
+    r"if (?P=left) == 0 \{ return Answer :: Cut ; \} "
+    r"put \( (?P<given>" + NAMES + r") , (?P=word) , (?P=value) \) ; "
+    r"(?P=left) -= 1 ; (?P=at) = (?P=on) ; \}"
+)
