@@ -22,6 +22,8 @@ BARE = {
     ("table", "Loaded", "word"): "what a pool word holds",
     ("plan", "next_free", "from"): "a place number",
     ("plan", "take_place", "from"): "a place number",
+    ("change", "next_given_up", "from"): "the number of an entry in its table",
+    ("change", "next_in_place", "from"): "the number of an entry in its table",
     ("listing", "Run", "first"): "a memory word number",
     ("listing", "Run", "past"): "a memory word number",
     ("listing", "Open", "first"): "a memory word number",
@@ -66,6 +68,7 @@ BARE = {
 # Functions whose name says so and that give a bare number: (crate, function) with what it is.
 GIVES_NUMBER = {
     ("targets", "paint_word"): "a leaf entry",
+    ("change", "final_word"): "what a pool word is to hold",
     ("goleuthan", "gate_word"): "a word of a lent state",
     ("goleuthan", "in_one_word"): "a count",
 }
@@ -161,7 +164,6 @@ def sources():
     """The crate and the path of each file that the rules are for."""
     for path in sorted(ROOT.glob("crates/*/src/*.rt")):
         crate = path.parts[-3]
-        if crate == "change": continue  # CHANGE_LATER
         if crate != "words":
             yield crate, path
 
@@ -179,6 +181,8 @@ WRONG = [
     ("targets", "let w = pool[from + j as usize];", "let w = pool[m + j as usize];", "part: pool[m + j as usize]"),
     ("plan", "base: PoolWord, long: u32, edge", "base: u32, long: u32, edge", "a bare number: base of take_place"),
     ("plan", "    pub number: u32,", "    pub word: u32,", "a bare number: word of Edge"),
+    ("change/ahead", "    pub past: PoolWord,", "    pub past: u32,", "a bare number: past of Span"),
+    ("change/tidying", "owner: u32, base: PoolWord, i: u32", "owner: u32, base: u32, i: u32", "a bare number: base of target_at"),
     ("gates", "    pub back: ByteAddr,", "    pub back: u32,", "a bare number: back of Frame"),
     ("census", "n: usize) -> PoolWord", "n: usize) -> u32", "gives a bare number: place_word"),
     ("census", "fn census(pool: &[u32],", "fn census(cells: &[u32],", "no known slice: cells"),

@@ -26,7 +26,7 @@ use Rattle.table.proofs.WantLaws.{wanting}
 use Rattle.places.proofs.Exists.{fits-dec}
 use Rattle.targets.specs.declared.Paint.{Paint}
 use Rattle.plan.specs.Aims.{aims, Goal}
-use Rattle.change.specs.declared.Answer.{Finding}
+use Rattle.change.specs.declared.Answer.{Answer}
 use Rattle.change.specs.Runs.{phases, At}
 use Rattle.change.specs.Answers.{noPaint, paintOf, IsDone, IsCut, ChangesRegion, Changes, Tidies}
 use Rattle.change.specs.Answers.{no-shape, no-domain, no-right, no-region, in-order, unsound, unsettled, no-room, done, cut}
@@ -106,7 +106,7 @@ settled-or s p f sP =
     (same-or (words p) Q (length p))
 
 -- An outcome of a tidying.
-pub tidy-ends : (p : List ℕ) (s : Shape) (n : ℕ) → (a : Finding) × (q : List ℕ) × Tidies p s n a q
+pub tidy-ends : (p : List ℕ) (s : Shape) (n : ℕ) → (a : Answer) × (q : List ℕ) × Tidies p s n a q
 tidy-ends p s n = by-cases (fitsOf s (length p))
     (λ e.
     let f = test-fits s (length p) e in
@@ -119,7 +119,7 @@ tidy-ends p s n = by-cases (fitsOf s (length p))
 
 -- An outcome of a change, from refusal 6 on ..
 pub region-ends : (p : List ℕ) (s : Shape) (d : ℕ) (paint : Paint) (n : ℕ) → Fits s (length p) → paint .right < 4
-    → (a : Finding) × (q : List ℕ) × ChangesRegion p s d paint n a q
+    → (a : Answer) × (q : List ℕ) × ChangesRegion p s d paint n a q
 region-ends p s d paint n f r = ⊎-elim
     (λ sP. ⊎-elim
     (λ t. elim (fits-dec (s .domains) (s .middles) (s .leaves) (aims s d paint (words p))) [
@@ -134,7 +134,7 @@ region-ends p s d paint n f r = ⊎-elim
     (sound-or s (words p))
 
 -- .. and of any change.
-pub change-ends : (p : List ℕ) (s : Shape) (d start len r n : ℕ) → (a : Finding) × (q : List ℕ) × Changes p s d start len r n a q
+pub change-ends : (p : List ℕ) (s : Shape) (d start len r n : ℕ) → (a : Answer) × (q : List ℕ) × Changes p s d start len r n a q
 change-ends p s d start len r n = by-cases (fitsOf s (length p))
     (λ e.
     let f = test-fits s (length p) e in
@@ -148,7 +148,7 @@ change-ends p s d start len r n = by-cases (fitsOf s (length p))
     (λ e. (_, p, no-shape (λ f. true≢false (sym (fits-test s (length p) f) ∙ e))))
   where
     from-4 : Fits s (length p) → d < s .domains → r ≤ 3 → (g : Rounded) → regionOf start len ≡ g
-        → (a : Finding) × (q : List ℕ) × Changes p s d start len r n a q
+        → (a : Answer) × (q : List ℕ) × Changes p s d start len r n a q
     from-4 f bd br (NoRegion k) e = (_, p, no-region f bd br k e)
     from-4 f bd br (Covers g) e =
         let (a, q, c) = region-ends p s d (paintOf g r) n f (omega arith) in

@@ -25,7 +25,8 @@ fn target_at(pool: &[u32], shape: Shape, owner: u32, base: PoolWord, i: u32) -> 
     requires { ⌜ Table shape (now pool) owner (base .0) × (i < 1024) ⌝ }
     ensures { λ r. ⌜ AimedAt shape (base .0 + i) (now (pool .entry)) r ⌝ }
 {
-    let k = words::pool_index(words::word_after(base, i as usize));
+    let word = words::word_after(base, i as usize);
+    let k = words::pool_index(word);
     let w = pool[k];
     if w >= 0x8000_0000 {
         return Target::Mixed;
@@ -47,7 +48,7 @@ fn next_given_up(pool: &[u32], shape: Shape, owner: u32, base: PoolWord, from: u
     let mut i = from;
     while i < 1024 {
         let k = words::word_after(base, i as usize);
-        let n = census::plain_ahead(pool, words::pool_index(k), i);
+        let n = census::plain_ahead(pool, k, i);
         if n == 0 {
             let target = target_at(pool, shape, owner, base, i);
             if let Target::Says(value) = target {
@@ -86,7 +87,8 @@ fn next_in_place(pool: &[u32], shape: Shape, owners: &[u32], base: PoolWord, fro
     if owner >= roots {
         return Next::None;
     }
-    let k = words::pool_index(words::pool_word(owner));
+    let root = words::pool_word(owner);
+    let k = words::pool_index(root);
     let w = pool[k];
     if w as usize != first {
         return Next::None;

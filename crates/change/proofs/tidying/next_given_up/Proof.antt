@@ -38,20 +38,15 @@ here : (c : tie.After-word-after Inv-loop μ-loop)
     → c .word-after .result .0 ≡ c .before .before .before .before .args .base .0 + c .before .before .loop .i
 here c = ap (λ w. w .0) (c .word-after .ensures)
 
-pool-index-requires : tie.Need-pool-index-requires Inv-loop μ-loop
-pool-index-requires c κs = search needs
-
 plain-ahead-requires : tie.Need-plain-ahead-requires Inv-loop μ-loop
 plain-ahead-requires c κs =
-    let i = c .before .before in
-    let p = i .before .before .before .pre in (
-      i .loop-test .taken,
-      omega (arith, i .loop-test .taken, here (c .before), c .pool-index .ensures, table-end _ _ _ _ (p .1 .0), p .0 .0 .long),
-    )
+    let i = c .before in
+    let p = i .before .before .before .pre in
+    (i .loop-test .taken, omega (arith, i .loop-test .taken, here c, table-end _ _ _ _ (p .1 .0), p .0 .0 .long))
 
 target-at-requires : tie.Need-target-at-requires Inv-loop μ-loop
 target-at-requires c κs =
-    let i = c .before .before .before .before in
+    let i = c .before .before .before in
     let p = i .before .before .before .pre in
     (p .0, (p .1 .0, i .loop-test .taken))
 
@@ -60,14 +55,14 @@ enum-known-target c = search needs
 
 word-after-requires-2 : tie.Need-word-after-requires-2 Inv-loop μ-loop
 word-after-requires-2 c κs =
-    let w = c .before .before .before .before .before .before .before in
+    let w = c .before .before .before .before .before .before in
     let i = w .before in
     omega (arith, here w, inside i, i .before .before .before .pre .0 .0 .range)
 
 returns : tie.Need-returns Inv-loop μ-loop
 returns c =
     let t = c .before .before .before .before in
-    let w = t .before .before .before .before in
+    let w = t .before .before .before in
     let i = w .before in
     let l = i .before .loop in
     let a = i .before .before .before .args in
@@ -83,15 +78,15 @@ enum-told : tie.Need-enum-told Inv-loop μ-loop
 enum-told c = search needs
 
 add-i : tie.Need-add-i Inv-loop μ-loop
-add-i c = omega (arith, c .before .before .before .before .before .before .before .loop-test .taken)
+add-i c = omega (arith, c .before .before .before .before .before .before .loop-test .taken)
 
 loop-less : tie.Need-loop-less Inv-loop μ-loop
-loop-less c = omega (arith, c .before .before .before .before .before .before .before .loop-test .taken)
+loop-less c = omega (arith, c .before .before .before .before .before .before .loop-test .taken)
 
 loop-again : tie.Need-loop-again Inv-loop μ-loop
 loop-again c =
     let t = c .before .before in
-    let i = t .before .before .before .before .before in
+    let i = t .before .before .before .before in
     let l = i .before .loop in
     let a = i .before .before .before .args in
     let e : a .base .0 + l .i + 1 ≡ a .base .0 + (l .i + 1) = omega arith in (
@@ -108,12 +103,12 @@ loop-less-2 c = omega (arith, c .before .plain-ahead .ensures .0, c .if1 .left)
 loop-again-2 : tie.Need-loop-again-2 Inv-loop μ-loop
 loop-again-2 c =
     let n = c .before .plain-ahead in
-    let w = c .before .before .before in
+    let w = c .before .before in
     let i = w .before in
     let l = i .before .loop in
     let s = i .before .before .before in
     let a = s .args in
-    let e = c .before .before .pool-index .ensures ∙ here w in (
+    let e = here w in (
       n .ensures .0,
       λ u y. plain-passed (a .shape) (a .pool .now) (a .owner) (a .base .0) (l .i) (n .result) (s .pre .1 .0) (n .ensures .0)
           (rw e at (n .ensures .1)) u (l .inv .1 u y),
@@ -134,7 +129,6 @@ next-given-up-spec =
     loop-holds
     cast-word-after
     word-after-requires
-    pool-index-requires
     plain-ahead-requires
     target-at-requires
     enum-known-target
