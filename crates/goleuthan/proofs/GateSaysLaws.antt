@@ -17,7 +17,8 @@ use Rattle.gates.specs.declared.Gate.the-variants.{Switch, Return}
 use Rattle.gates.specs.declared.GateAt.{GateAt}
 use Rattle.gates.specs.declared.Gates.{Gates}
 use Rattle.gates.specs.Gates.{maxGates, noGate, placeOf, leadsBelow, leadsTo, placeRefusal, setRefused, setDone, stored, setAtPlace, setOf, without, removeOf}
-use Rattle.gates.proofs.ListLaws.{both, none-refuses}
+use Rattle.theory.proofs.Logic.{and-both}
+use Rattle.gates.proofs.ListLaws.{none-refuses}
 use Rattle.goleuthan.specs.Rows.{rowsOf}
 use Rattle.goleuthan.specs.States.{returnWord, gateIn, gateAt, gatesOf, gatesWords}
 use Rattle.goleuthan.proofs.RowLaws.{length-rows}
@@ -116,8 +117,8 @@ in-order D n d x a e =
     let (p, e1) = none-refuses (not (leb 1 D && leb D maxDomains)) 1 _ (omega arith) e in
     let (q, e2) = none-refuses (ltb maxGates n) 18 _ (omega arith) e1 in
     let (r, e3) = none-refuses (not (ltb d D && leadsBelow D x)) 2 _ (omega arith) e2 in
-    let small = leb-true D maxDomains (both (leb 1 D) (leb D maxDomains) (not-false _ p) .1) in
-    let below = both (ltb d D) (leadsBelow D x) (not-false _ r) .1 in
+    let small = leb-true D maxDomains (and-both (leb 1 D) (leb D maxDomains) (not-false _ p) .1) in
+    let below = and-both (ltb d D) (leadsBelow D x) (not-false _ r) .1 in
     let few = ltb-false maxGates n q in
     (few, λ z. let l = ltb-true returnWord D (sym (ap (leadsBelow D) z) ∙ below) in omega arith)
 

@@ -33,7 +33,7 @@ use Rattle.gates.specs.declared.Stepped.{Stepped}
 use Rattle.gates.specs.declared.Stepped.the-variants.{Pass as StepPass, Deny as StepDeny, Refused as StepRefused}
 use Rattle.gates.specs.Gates.{setOf, removeOf}
 use Rattle.gates.specs.Steps.{stepOf, numbers as stepNumbers}
-use Rattle.gates.proofs.ListLaws.{both}
+use Rattle.theory.proofs.Logic.{and-both}
 use Rattle.gates.proofs.SetLaws.{set-refusal-keeps, remove-refusal-keeps}
 use Rattle.gates.proofs.StepLaws.{step-moves, moves-unless-pass}
 use Rattle.goleuthan.specs.Out.{outWith, wrongLength}
@@ -136,7 +136,7 @@ module _ (p : List ℕ) (s : Shape) (gs ws : List ℕ) (a t : ℕ) (out : List �
           → StepLeaves (cond x (steppedBack step out) (back wrongLength ws (outWith (0 ∷ []) out)))
       go true e h =
           let z = step-zeros (step .answer) h in
-          let l = both (eqb (length gs) gatesLong) (eqb (length ws) stackLong) e in (
+          let l = and-both (eqb (length gs) gatesLong) (eqb (length ws) stackLong) e in (
             ap stackWords (moves-unless-pass (step-moves p s (gatesOf gs) (stackOf ws) (record { 0 = a }) (record { 0 = t })) (z .0))
                 ∙ stack-words ws (eqb-true (length ws) stackLong (l .1)),
             ap (λ r. outWith r out) (z .1),
