@@ -1,24 +1,27 @@
 #!/usr/bin/env bash
 # Wrong programs, each one line away from ours: the checker must refuse each for a fact.
 #
-# tests/wrong/CRATE/NAME.edit has the lines `file:`, `old:`, `new:` and `twin:`, after a comment that says what is wrong. The text `old` stands
-# once in the file of the crate. With `new` in its place the crate must not be proved. With `twin`, which has the same shape and means what `old`
-# means, it must: so that what is refused is the meaning, and not the text.
+# tests/wrong/CRATE/NAME.edit has the lines `file:`, `old:`, `new:` and `twin:`, after a comment that says what is
+# wrong. The text `old` stands once in the file of the crate. With `new` in its place the crate must not be proved.
+# With `twin`, which has the same shape and means what `old` means, it must: so that what is refused is the meaning,
+# and not the text.
 #
-# Edits are checked over an incremental folder, where one costs seconds and not a whole check, after the crate as it is was proved there.
-# With names of crates, only theirs.
+# Edits are checked over an incremental folder, where one costs seconds and not a whole check, after the crate as it is
+# was proved there. With names of crates, only theirs.
 set -u
 root=$(cd "$(dirname "$0")/.." && pwd)
 mkdir -p "$root/target"
 work=$(mktemp -d "$root/target/wrong.XXXXXX")
 trap 'rm -rf "$work"' EXIT
 
-# apply CRATE EDIT LINE: puts the text of the edit's LINE (new or twin) in the place of its old text, in the copy of the crate.
+# apply CRATE EDIT LINE: puts the text of the edit's LINE (new or twin) in the place of its old text, in the copy of
+# the crate.
 apply() {
     python3 - "$work/$1/crates/$1" "$2" "$3" <<'PYTHON'
 import sys
 folder, edit, line = sys.argv[1:]
-words = dict(row.rstrip("\n").split(": ", 1) for row in open(edit) if row.startswith(("file: ", "old: ", "new: ", "twin: ")))
+keys = ("file: ", "old: ", "new: ", "twin: ")
+words = dict(row.rstrip("\n").split(": ", 1) for row in open(edit) if row.startswith(keys))
 if line not in words:
     sys.exit(f"it has no line {line}")
 path = folder + "/" + words["file"]
@@ -36,14 +39,15 @@ restore() {
     rm -rf "$work/$1/crates/$1/must-fail"
 }
 
-# verdict CRATE: proved, refused, or what else came of checking the copy of the crate; what the check says is in CRATE.log.
+# verdict CRATE: proved, refused, unfit, or what else came of checking the copy of the crate; what the check says is in
+# CRATE.log. It is unfit where the proof only names what the changed text no longer has: that is no fact about it.
 verdict() {
     (cd "$work/$1" && rt dev "$1") > "$work/$1.log" 2>&1
     local status=$?
     if [ "$status" -eq 0 ] && grep -q '^logic=proved' "$work/$1.log"; then
         echo proved
     elif [ "$status" -eq 1 ] && grep -q '^logic=not-proved' "$work/$1.log"; then
-        echo refused
+        if grep -m 1 'error:' "$work/$1.log" | grep -q 'has no `\|has no field'; then echo unfit; else echo refused; fi
     else
         echo "exit status $status"
     fi
@@ -88,7 +92,11 @@ wrong_programs() {
     rm -rf "${work:?}/$crate"
 }
 
-(cd "$root" && rt check) > "$work/proved" 2>&1 || { tail -n 5 "$work/proved"; echo "wrong: 0 passed, 1 failed"; exit 1; }
+if ! (cd "$root" && rt check) > "$work/proved" 2>&1; then
+    tail -n 5 "$work/proved"
+    echo "wrong: 0 passed, 1 failed"
+    exit 1
+fi
 : > "$work/counts"
 [ $# -gt 0 ] || set -- $(ls "$root/tests/wrong")
 for crate in "$@"; do
