@@ -172,7 +172,8 @@ six-or-not (NotFound n) = elim (ℕ-discrete n 6) [ yes e ↦ inl (ap NotFound e
 -- refusals are the same too. Of every pool, sound or not.
 pub same-verdict : {s : Shape} {p : List ℕ} {b : Buffer} {x : Places} → Watched s p b x → (d kind size a : ℕ)
     → a < addresses → x d a ≡ false
-    → withoutLoads (checkOf p s b d kind size a .verdict) ≡ withoutLoads (checkOf p s emptyBuffer d kind size a .verdict)
+    → withoutLoads (checkOf p s b d kind size a .verdict)
+    ≡ withoutLoads (checkOf p s emptyBuffer d kind size a .verdict)
 same-verdict {s} {p} {b} {x} w d kind size a h z =
     let o = watched-sees w in
     let same = refusal-pointer s (length p) d kind size a (b .next) (emptyBuffer .next) (o .pointer) first-pointer in

@@ -1,4 +1,5 @@
--- What each call on a pool gives back: the library's promise holds of some answer, and the number and the result words are that answer's.
+-- What each call on a pool gives back: the library's promise holds of some answer, and the number and the result
+-- words are that answer's.
 use Prim.Native.Nat.{ℕ}
 use mathlib.Core.Path.{_≡_}
 use mathlib.Core.List.{List, [], _∷_}
@@ -50,7 +51,8 @@ pub record LookupCall (p : List ℕ) (s : Shape) (d a : ℕ) (out : List ℕ) (n
   pub results : res ≡ outWith (foundResults found) out
 
 -- gol_change on the pool `p` returns `n` and leaves `q` and `res`.
-pub record ChangeCall (p : List ℕ) (s : Shape) (d start len r allowance : ℕ) (out : List ℕ) (n : ℕ) (q res : List ℕ) : Type 0 where
+pub record ChangeCall (p : List ℕ) (s : Shape) (d start len r allowance : ℕ) (out : List ℕ) (n : ℕ) (q res : List ℕ) :
+    Type 0 where
   pub answer : Answer
   pub promise : Changes p s d start len r allowance answer q
   pub number : n ≡ answerNumber answer

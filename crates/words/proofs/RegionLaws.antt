@@ -19,13 +19,23 @@ pub region-empty : (start length : ℕ) → length ≡ 0 → regionOf start leng
 unfolding regionOf
 region-empty start length h = rw (eq-eqb length 0 h) refl
 
-pub region-beyond : (start length : ℕ) → 0 < length → 4294967296 < roundedEnd start length → regionOf start length ≡ Refused 5
+pub region-beyond : (start length : ℕ) → 0 < length → 4294967296 < roundedEnd start length → regionOf start length
+    ≡ Refused 5
 unfolding regionOf
-region-beyond start length h k = rw (ne-eqb length 0 (λ e. omega arith), lt-ltb 4294967296 (roundedEnd start length) k) refl
+region-beyond start length h k = rw (
+  ne-eqb length 0 (λ e. omega arith),
+  lt-ltb 4294967296 (roundedEnd start length)
+      k,
+) refl
 
-pub region-covers : (start length : ℕ) → 0 < length → roundedEnd start length ≤ 4294967296 → regionOf start length ≡ Covers (rounded start length)
+pub region-covers : (start length : ℕ) → 0 < length → roundedEnd start length ≤ 4294967296 → regionOf start length
+    ≡ Covers (rounded start length)
 unfolding regionOf
-region-covers start length h k = rw (ne-eqb length 0 (λ e. omega arith), le-ltb 4294967296 (roundedEnd start length) k) refl
+region-covers start length h k = rw (
+  ne-eqb length 0 (λ e. omega arith),
+  le-ltb 4294967296 (roundedEnd start length)
+      k,
+) refl
 
 -- What a region that is not refused is like.
 pub record Covering (start length : ℕ) (r : Region) : Type 0 where
@@ -71,9 +81,11 @@ covered-bytes r a = ap (λ x. x && ltb (a / 4) (r .hi)) (low (r .lo)) ∙ ap (λ
     ]
 
 -- The covered bytes are those from the rounded start on, as many as the rounded length says.
-pub rounded-covers : (start length a : ℕ) → covered (rounded start length) a ≡ (leb (roundedStart start) a && ltb a (roundedEnd start length))
+pub rounded-covers : (start length a : ℕ) → covered (rounded start length) a
+    ≡ (leb (roundedStart start) a && ltb a (roundedEnd start length))
 rounded-covers start length a =
-    covered-bytes (rounded start length) a ∙ ap (λ n. leb n a && ltb a (4 * rounded start length .hi)) lo ∙ ap (λ n. leb (roundedStart start) a && ltb a n) hi
+    covered-bytes (rounded start length) a ∙ ap (λ n. leb n a && ltb a (4 * rounded start length .hi)) lo
+    ∙ ap (λ n. leb (roundedStart start) a && ltb a n) hi
   where
     lo : 4 * rounded start length .lo ≡ roundedStart start
     lo = omega arith
