@@ -2,14 +2,15 @@
 -- words are that answer's.
 use Prim.Native.Nat.{ℕ}
 use mathlib.Core.Path.{_≡_}
+use mathlib.Core.Bool.{cond}
 use mathlib.Core.List.{List, [], _∷_}
+use lib.Dec.{eqb}
 use Rattle.table.specs.declared.Shape.{Shape}
 use Rattle.table.specs.declared.Made.{Made}
 use Rattle.table.specs.declared.Found.{Found}
 use Rattle.table.specs.Fresh.{MakesFresh, madeNumber}
 use Rattle.table.specs.Lookup.{LooksUp, numbers as foundNumbers}
 use Rattle.change.specs.declared.Answer.{Answer}
-use Rattle.change.specs.declared.Answer.the-variants.{Done, Cut, Refused}
 use Rattle.change.specs.Answers.{Changes, Tidies, numbers as answerNumbers}
 use Rattle.listing.specs.declared.Listed.{Listed}
 use Rattle.listing.specs.Listing.{Lists, numbers as listedNumbers}
@@ -21,9 +22,7 @@ shapeOf d m l = record { domains = d; middles = m; leaves = l }
 
 -- The number of a change or a tidying: 0 done, 100 cut, else the paper's.
 abbrev pub answerNumber : Answer → ℕ
-answerNumber (Done n) = 0
-answerNumber Cut = wasCut
-answerNumber (Refused n) = n
+answerNumber a = cond (eqb (answerNumbers a .cuts) 1) wasCut (answerNumbers a .refusal)
 
 -- The result words of a lookup: right, entry, loads.
 abbrev pub foundResults : Found → List ℕ

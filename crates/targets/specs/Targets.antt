@@ -23,9 +23,9 @@ painted p R a = cond (covered (region p) a) (p .right) (R a)
 abbrev pub targetOf : (ℕ → ℕ) → ℕ → ℕ → Target
 targetOf R h a = cond (wantsOf R h a) Mixed (Says (saidOf R h a))
 
--- How many blocks of a height there are.
-abbrev pub blocks : ℕ → ℕ
-blocks h = addresses / block h
+-- How many blocks there are that an entry of a height may have.
+abbrev pub entryBlocks : ℕ → ℕ
+entryBlocks h = addresses / block h
 
 -- The right that the entry `e` of a height, in the pool `P`, gives to an address.
 unfoldable pub given : (ℕ → ℕ) → ℕ → ℕ → ℕ → ℕ

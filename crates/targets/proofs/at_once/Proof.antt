@@ -6,7 +6,7 @@ use native.Mathlib.Omega.{arith}
 use borrow.Author.Needs.{needs}
 use Rattle.targets.specs.declared.Target.the-variants.{Says}
 use Rattle.table.specs.Map.{leads}
-use Rattle.targets.specs.Targets.{blocks}
+use Rattle.targets.specs.Targets.{entryBlocks}
 use Rattle.targets.specs.Steps.{SaysIs}
 use Rattle.targets.proofs.HeightLaws.{block-room}
 use Rattle.targets.proofs.EntryLaws.{leaf-entry, whole-entry, apart-entry, leads-leaf, leads-high}
@@ -60,7 +60,7 @@ returns-3 c = apart (c .before .before) (leads-leaf _
 paint-word-requires : tie.Need-paint-word-requires
 paint-word-requires c κs =
     let s = c .before .before .before .before .before in
-    let l : s .args .n < blocks 0 = subst (λ h. s .args .n < blocks h) (c .if3 .taken) (s .pre .1 .1) in
+    let l : s .args .n < entryBlocks 0 = subst (λ h. s .args .n < entryBlocks h) (c .if3 .taken) (s .pre .1 .1) in
     (omega arith, s .pre .1 .2)
 
 returns-4 : tie.Need-returns-4
