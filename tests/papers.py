@@ -18,10 +18,13 @@ CALLS = {
     "change/src/lib.rt": ["change", "put"],
     "change/src/tidying.rt": ["tidy"],
     "lookaside/src/lib.rt": ["check", "emptied", "flush_all", "flush_domain", "flush_region"],
-    "gates/src/lib.rt": ["set_gate", "remove_gate", "no_gates", "call_stack"],
-    "gates/src/steps.rt": ["fetch_step"],
+    "gates/src/lib.rt": ["set_gate", "remove_gate", "no_gates", "call_stack", "fetch_step"],
     "listing/src/lib.rt": ["list_runs"],
     "lines/src/lib.rt": ["parse", "blank_line", "feed", "last_line"],
+    "rights_listing/src/serving.rt": ["serve", "serve_last"],
+    "rights_listing/src/pages.rt": ["write_page"],
+    "rights_listing/src/main.rt": ["hear_all", "show_all"],
+    "goleuthan/src/lib.rt": re.findall(r"fn (gol_\w+)", open("crates/goleuthan/src/lib.rt").read()),
 }
 
 

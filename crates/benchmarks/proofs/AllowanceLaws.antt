@@ -29,7 +29,8 @@ differing-long (x ∷ p) (y ∷ q) = go (eqb x y) (differing p q) (length p) (di
     go true m n h = omega arith
     go false m n h = omega arith
 
-module _ (s : Shape) (d : ℕ) (paint : Paint) (old : List ℕ) (Q : ℕ → ℕ) (kept : ℕ → Bool) (g : Goal s d paint old Q kept) where
+module _ (s : Shape) (d : ℕ) (paint : Paint) (old : List ℕ) (Q : ℕ → ℕ) (kept : ℕ → Bool)
+    (g : Goal s d paint old Q kept) where
   goal-word : (j : ℕ) → words (listed Q 0 (length old)) j ≡ Q j
   goal-word j = elim (decLt j (length old)) [
     | yes h ↦ listed-word Q 0 (length old) j h ∙ ap Q (omega arith)

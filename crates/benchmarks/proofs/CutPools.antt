@@ -1,5 +1,5 @@
--- A change that a cut leaves unsettled. After row 6 the first 129 pages are to be read, and the change is cut before its last store: then the first
--- 128 pages are read, which is 512 KB, and the middle table has become needless.
+-- A change that a cut leaves unsettled. After row 6 the first 129 pages are to be read, and the change is cut before
+-- its last store: then the first 128 pages are read, which is 512 KB, and the middle table has become needless.
 use Prim.Native.Nat.{ℕ, _+_, _/_, _%_, _≤_, _<_}
 use mathlib.Core.Path.{_≡_, refl, sym, ap, _∙_}
 use mathlib.Core.Logic.{_≢_}
@@ -27,7 +27,8 @@ use Rattle.plan.proofs.AimLaws.{aims-covered, aims-other}
 use Rattle.change.specs.Cuts.{differing}
 use Rattle.change.specs.Answers.{paintOf, IsCut, Asked}
 use Rattle.benchmarks.specs.Rows.{shape}
-use Rattle.benchmarks.proofs.RowLaws.{fresh-fits, in-range, covered-yes, covered-no, covered-range, aims-fresh, change-cut, listed, listed-long, listed-words}
+use Rattle.benchmarks.proofs.RowLaws.{fresh-fits, in-range, covered-yes, covered-no, covered-range}
+use Rattle.benchmarks.proofs.RowLaws.{aims-fresh, change-cut, listed, listed-long, listed-words}
 use Rattle.benchmarks.proofs.PageLaws.{after, at-root, at-middle, after-root, after-middle, after-past}
 use Rattle.benchmarks.proofs.PagePools.{page-word, page-long, page-done-finished}
 use Rattle.benchmarks.proofs.PageRows.{in-middle, middle-page, middle-pool}
@@ -67,7 +68,8 @@ module _ (n : ℕ) (lo : 2 ≤ n) (hi : n ≤ 1024) where
   read-in j x y = read-word j ∙ until-in n j x y
 
   read-out : (j : ℕ) → 1024 + n ≤ j → j < 2048 → words (read-pool n) j ≡ 0x80000000
-  read-out j x y = read-word j ∙ until-out n j (λ u v. omega arith) ∙ after-middle 1 0x1000 0x80000002 j (omega arith) y (λ e. omega arith)
+  read-out j x y = read-word j ∙ until-out n j (λ u v. omega arith) ∙ after-middle 1 0x1000 0x80000002 j (omega arith)
+      y (λ e. omega arith)
 
   pub read-same : (j : ℕ) → (1024 ≤ j → j < 1024 + n → ⊥) → words (read-pool n) j ≡ words middle-pool j
   read-same j f = read-word j ∙ until-out n j f ∙ sym (page-word in-middle 2 middle-page (omega arith) j)
@@ -77,21 +79,25 @@ module _ (n : ℕ) (lo : 2 ≤ n) (hi : n ≤ 1024) where
 
   pub read-one : OneTable (words (read-pool n))
   read-one = record {
-    first = read-rest 0 (λ x y. omega arith) ∙ page-word in-middle 2 middle-page (omega arith) 0 ∙ at-root 1 0x1000 0x80000002;
-    roots = λ j e h. read-rest j (λ x y. omega arith) ∙ page-word in-middle 2 middle-page (omega arith) j ∙ after-root 1 0x1000 0x80000002 j h e;
+    first = read-rest 0 (λ x y. omega arith) ∙ page-word in-middle 2 middle-page (omega arith) 0
+        ∙ at-root 1 0x1000 0x80000002;
+    roots = λ j e h. read-rest j (λ x y. omega arith) ∙ page-word in-middle 2 middle-page (omega arith) j
+        ∙ after-root 1 0x1000 0x80000002 j h e;
     middle = λ j x y. elim (decLt j (1024 + n)) [
       | yes h ↦ rw (read-in j x h) refl
       | no h ↦ rw (read-out j (omega arith) y) refl
     ];
   }
 
-  pub read-right : (d a : ℕ) → d < 1 → a < addresses → rightOf (formOf one-middle) (words (read-pool n)) d a ≡ cond (ltb (a / 4096) n) 1 0
+  pub read-right : (d a : ℕ) → d < 1 → a < addresses → rightOf (formOf one-middle) (words (read-pool n)) d a
+      ≡ cond (ltb (a / 4096) n) 1 0
   read-right d a bd ba = elim (ℕ-discrete (a / 4194304 % 1024) 0) [
     | yes e ↦ table-right 0 read-one d a bd e ∙ elim (decLt (a / 4096) n) [
       | yes h ↦ ap (λ w. rightAt w (a / 512 % 8)) (read-in (1024 + a / 4096 % 1024) (omega arith) (omega arith))
           ∙ eight-right 1 (a / 512 % 8) (omega arith) (omega arith) ∙ ap (λ t. cond t 1 0) (sym (lt-ltb (a / 4096) n h))
       | no h ↦ ap (λ w. rightAt w (a / 512 % 8)) (read-out (1024 + a / 4096 % 1024) (omega arith) (omega arith))
-          ∙ eight-right 0 (a / 512 % 8) (omega arith) (omega arith) ∙ ap (λ t. cond t 1 0) (sym (le-ltb (a / 4096) n (omega arith)))
+          ∙ eight-right 0 (a / 512 % 8) (omega arith) (omega arith) ∙ ap (λ t. cond t 1 0)
+          (sym (le-ltb (a / 4096) n (omega arith)))
     ]
     | no e ↦ elsewhere-right 0 read-one d a bd e ∙ ap (λ t. cond t 1 0) (sym (le-ltb (a / 4096) n (omega arith)))
   ]
@@ -116,22 +122,35 @@ middle-one = record {
   ];
 }
 
-goal-aimed : (d a : ℕ) → d < 1 → a < addresses → cond (ltb (a / 4096) 129) 1 0 ≡ aims one-middle 0 reading (words middle-pool) d a
+goal-aimed : (d a : ℕ) → d < 1 → a < addresses → cond (ltb (a / 4096) 129) 1 0 ≡ aims one-middle 0 reading
+    (words middle-pool) d a
 goal-aimed d a bd ba = elim (decLt (a / 4096) 129) [
   | yes h ↦ ap (λ t. cond t 1 0) (lt-ltb (a / 4096) 129 h)
-      ∙ sym (aims-covered one-middle 0 reading (words middle-pool) d a (omega arith, covered-yes pages a (omega arith) (omega arith)))
+      ∙ sym (aims-covered one-middle 0 reading (words middle-pool) d a
+      (omega arith, covered-yes pages a (omega arith) (omega arith)))
   | no h ↦ ap (λ t. cond t 1 0) (le-ltb (a / 4096) 129 (omega arith))
-      ∙ sym (aims-other one-middle 0 reading (words middle-pool) d a (λ c. let z = covered-range pages a (c .1) in omega arith)
+      ∙ sym (aims-other one-middle 0 reading (words middle-pool) d a
+      (λ c. let z = covered-range pages a (c .1) in omega arith)
       ∙ page-done-finished in-middle 2 middle-page (omega arith) .rights d a bd ba
-      ∙ aims-fresh one-middle (paintOf in-middle 2) d a bd bd ∙ ap (λ t. cond t 2 0) (covered-no in-middle a (λ x y. omega arith)))
+      ∙ aims-fresh one-middle (paintOf in-middle 2) d a bd bd ∙ ap (λ t. cond t 2 0)
+      (covered-no in-middle a (λ x y. omega arith)))
 ]
 
-pub goal-finished : Finished (formOf one-middle) (words middle-pool) (aims one-middle 0 reading (words middle-pool)) (words goal)
+pub goal-finished : Finished (formOf one-middle) (words middle-pool) (aims one-middle 0 reading (words middle-pool))
+    (words goal)
 goal-finished =
     let right = read-right 129 (omega arith) (omega arith) in
     table-finished 0 middle-one (read-one 129 (omega arith) (omega arith)) _
-    (table-settled 0 (read-one 129 (omega arith) (omega arith))
-    (524288, 528384, omega arith, omega arith, refl, refl, differ (right 0 524288 (omega arith) (omega arith)) (right 0 528384 (omega arith) (omega arith))))
+    (table-settled 0 (read-one 129 (omega arith) (omega arith)) (
+      524288,
+      528384,
+      omega arith,
+      omega arith,
+      refl,
+      refl,
+      differ (right 0 524288 (omega arith) (omega arith))
+          (right 0 528384 (omega arith) (omega arith)),
+    ))
     (λ d a bd ba. right d a bd ba ∙ goal-aimed d a bd ba)
     (read-rest 129 (omega arith) (omega arith))
   where
@@ -139,7 +158,8 @@ goal-finished =
     differ a b e = omega arith
 
 pub middle-fits : Fits one-middle (length middle-pool)
-middle-fits = rw (page-long in-middle 2 middle-page (omega arith)) (fresh-fits one-middle (in-range 1 0 (omega arith) (omega arith)))
+middle-fits = rw (page-long in-middle 2 middle-page (omega arith))
+    (fresh-fits one-middle (in-range 1 0 (omega arith) (omega arith)))
 
 pub middle-settled : Settled (formOf one-middle) (words middle-pool)
 middle-settled = page-done-finished in-middle 2 middle-page (omega arith) .settled

@@ -40,7 +40,8 @@ use Rattle.change.specs.Cuts.{differing}
 use Rattle.change.specs.Answers.{paintOf, Asked, in-order, no-room}
 use Rattle.change.proofs.DifferLaws.{differing-set, differing-self}
 use Rattle.benchmarks.specs.Rows.{shape, AnyAddress, SetsOnePart, NoRoomForLess, SetsAll, ZeroWord}
-use Rattle.benchmarks.proofs.RowLaws.{always-change, finds, fresh-fits, in-range, covered-yes, covered-no, aims-fresh, change-done}
+use Rattle.benchmarks.proofs.RowLaws.{always-change, finds, fresh-fits, in-range, covered-yes, covered-no}
+use Rattle.benchmarks.proofs.RowLaws.{aims-fresh, change-done}
 use Rattle.benchmarks.proofs.FlatLaws.{flat-finished, flat-right, first-part}
 
 -- Row 1: the root word decides.
@@ -56,8 +57,10 @@ module _ (M L : ℕ) (f : Fits (shape M L) (length (freshPool (shape M L)))) (a 
 
   pub fresh-lookup : lookupOf (freshPool (shape M L)) (shape M L) 0 a ≡ Right 0 2147483648 1
   fresh-lookup =
-      lookup-walks (freshPool (shape M L)) (shape M L) 0 a (fits-test (shape M L) (length (freshPool (shape M L))) f) (omega arith)
-      ∙ ap (foundAt (formOf (shape M L)) P a) (walk-stops (formOf (shape M L)) P a 2 k (rw root-word refl) (rw root-word refl))
+      lookup-walks (freshPool (shape M L)) (shape M L) 0 a (fits-test (shape M L) (length (freshPool (shape M L))) f)
+      (omega arith)
+      ∙ ap (foundAt (formOf (shape M L)) P a) (walk-stops (formOf (shape M L)) P a 2 k (rw root-word refl)
+      (rw root-word refl))
       ∙ ap (λ w. Right (rightAt w (a / 524288 % 8)) w 1) root-word
       ∙ ap (λ x. Right x 2147483648 1) (eight-right 0 (a / 524288 % 8) (omega arith) (number-below 2 a))
 
@@ -106,7 +109,8 @@ part-root j h n = part-other j n ∙ ap (λ t. cond t 0x80000000 0) (lt-ltb j 10
 part-flat : (j : ℕ) → j < 1024 → goodRights (words one-part j) ≡ true
 part-flat j h = elim (ℕ-discrete j 0) [ yes e ↦ rw e refl | no n ↦ rw (part-root j h n) refl ]
 
-part-rights : (a : ℕ) → a < addresses → rightAt (words one-part (a / 4194304 % 1024)) (a / 524288 % 8) ≡ cond (ltb a 524288) 1 0
+part-rights : (a : ℕ) → a < addresses → rightAt (words one-part (a / 4194304 % 1024)) (a / 524288 % 8)
+    ≡ cond (ltb a 524288) 1 0
 part-rights a ba = first-part (words one-part) part-first (λ j n h. part-root j h n) a ba
 
 -- What the change covers.
@@ -123,17 +127,26 @@ module _ (g : Region) (r : ℕ) (Q : ℕ → ℕ) (flat : (j : ℕ) → j < 1024
   finished : Finished (formOf (shape 0 0)) (words pool) (aims (shape 0 0) 0 (paintOf g r) (words pool)) Q
   finished = flat-finished 1 0 0 Q flat (words pool) (aims (shape 0 0) 0 (paintOf g r) (words pool))
       (λ d a bd ba. let z : 1024 * d + a / 4194304 % 1024 ≡ a / 4194304 % 1024 = omega arith in
-      flat-right 1 0 0 Q flat d a bd ∙ ap (λ i. rightAt (Q i) (a / 524288 % 8)) z ∙ rights a ba ∙ sym (aims-fresh (shape 0 0) (paintOf g r) d a bd bd))
+      flat-right 1 0 0 Q flat d a bd ∙ ap (λ i. rightAt (Q i) (a / 524288 % 8)) z ∙ rights a ba
+      ∙ sym (aims-fresh (shape 0 0) (paintOf g r) d a bd bd))
       (λ j h. rest j h ∙ sym (fresh-word (shape 0 0) j ∙ ap (λ t. cond t 2147483648 0) (le-ltb j 1024 h)))
 
 asked : (start len r : ℕ) (g : Region) → r ≤ 3 → regionOf start len ≡ Covers g → Asked pool (shape 0 0) 0 start len r g
-asked start len r g h e = record { fits = fresh-fits (shape 0 0) (in-range 0 0 (omega arith) (omega arith)); domain = omega arith; right = h; region = e }
+asked start len r g h e = record {
+  fits = fresh-fits (shape 0 0) (in-range 0 0 (omega arith) (omega arith));
+  domain =
+      omega arith;
+  right = h;
+  region = e;
+}
 
 pub row-7 : SetsOnePart
 unfolding regionOf
 row-7 n h = always-change
-    (change-done pool (shape 0 0) 0 0 524288 1 n (rounded 0 524288) (asked 0 524288 1 (rounded 0 524288) (omega arith) refl) (fresh-settled (shape 0 0)) one-part 1
-    (finished (rounded 0 524288) 1 (words one-part) part-flat (λ a ba. part-rights a ba ∙ ap (λ t. cond t 1 0) (sym (part-covered a)))
+    (change-done pool (shape 0 0) 0 0 524288 1 n (rounded 0 524288)
+    (asked 0 524288 1 (rounded 0 524288) (omega arith) refl) (fresh-settled (shape 0 0)) one-part 1
+    (finished (rounded 0 524288) 1 (words one-part) part-flat
+    (λ a ba. part-rights a ba ∙ ap (λ t. cond t 1 0) (sym (part-covered a)))
     (λ j b. part-other j (λ z. omega arith) ∙ ap (λ t. cond t 0x80000000 0) (le-ltb j 1024 b)))
     (length-set pool 0 0x80000001)
     (differing-set pool pool 0 0x80000001 refl (rw pool-long (omega arith)) refl other ∙ ap suc (differing-self pool))
@@ -155,15 +168,18 @@ read-past j h =
     let long : length (replicate {A = ℕ} 1024 0x80005555) ≤ j = rw (length-replicate {A = ℕ} 1024 0x80005555) h in
     List·getD-eq-default (replicate 1024 0x80005555) 0 long
 
-read-rights : (a : ℕ) → a < addresses → rightAt (words all-read (a / 4194304 % 1024)) (a / 524288 % 8) ≡ cond (covered (rounded 0 4294967295) a) 1 0
+read-rights : (a : ℕ) → a < addresses → rightAt (words all-read (a / 4194304 % 1024)) (a / 524288 % 8)
+    ≡ cond (covered (rounded 0 4294967295) a) 1 0
 read-rights a ba =
-    ap (λ w. rightAt w (a / 524288 % 8)) (read-word (a / 4194304 % 1024) (omega arith)) ∙ eight-right 1 (a / 524288 % 8) (omega arith) (omega arith)
+    ap (λ w. rightAt w (a / 524288 % 8)) (read-word (a / 4194304 % 1024) (omega arith))
+    ∙ eight-right 1 (a / 524288 % 8) (omega arith) (omega arith)
     ∙ ap (λ t. cond t 1 0) (sym (covered-yes (rounded 0 4294967295) a (omega arith) (omega arith)))
 
 pub row-9 : SetsAll
 unfolding regionOf differing
 row-9 n h = always-change
-    (change-done pool (shape 0 0) 0 0 4294967295 1 n (rounded 0 4294967295) (asked 0 4294967295 1 (rounded 0 4294967295) (omega arith) refl) (fresh-settled (shape 0 0)) all-read 1024
+    (change-done pool (shape 0 0) 0 0 4294967295 1 n (rounded 0 4294967295)
+    (asked 0 4294967295 1 (rounded 0 4294967295) (omega arith) refl) (fresh-settled (shape 0 0)) all-read 1024
     (finished (rounded 0 4294967295) 1 (words all-read) (λ j b. rw (read-word j b) refl) read-rights read-past)
     refl refl h)
     (refl, read-word)
@@ -175,10 +191,12 @@ less = paintOf (rounded 0 524284) 1
 no-room-there : Room 1 0 0 (aims (shape 0 0) 0 less (words pool)) → ⊥
 no-room-there room =
     let T = aims (shape 0 0) 0 less (words pool) in
-    let S = changed-rights (rightOf (formOf (shape 0 0)) (words pool)) 0 (region less) 1 0 (omega arith) (pool-rights 1 0 0 (words pool) 0) in
+    let S = changed-rights (rightOf (formOf (shape 0 0)) (words pool)) 0 (region less) 1 0 (omega arith)
+    (pool-rights 1 0 0 (words pool) 0) in
     let here : T 0 0 ≡ 1 = aims-fresh (shape 0 0) less 0 0 (omega arith) (omega arith) in
     let there : T 0 524284 ≡ 0 = aims-fresh (shape 0 0) less 0 524284 (omega arith) (omega arith) in
-    let w : wantMiddle T 0 ≡ true = divided-wants (T 0) 2 0 S (0, 524284, omega arith, omega arith, refl, refl, λ z. apart (sym here ∙ z ∙ there)) in
+    let w : wantMiddle T 0 ≡ true = divided-wants (T 0) 2 0 S
+    (0, 524284, omega arith, omega arith, refl, refl, λ z. apart (sym here ∙ z ∙ there)) in
     let x = count-less (wantMiddle T) 0 1024 (omega arith) w in
     let y = room .middles in
     omega arith
@@ -189,5 +207,6 @@ no-room-there room =
 pub row-8 : NoRoomForLess
 unfolding regionOf
 row-8 n = always-change
-    (in-order (rounded 0 524284) (asked 0 524284 1 (rounded 0 524284) (omega arith) refl) (no-room (fresh-settled (shape 0 0)) no-room-there))
+    (in-order (rounded 0 524284) (asked 0 524284 1 (rounded 0 524284) (omega arith) refl)
+    (no-room (fresh-settled (shape 0 0)) no-room-there))
     (refl, refl)

@@ -24,7 +24,8 @@ use Rattle.change.specs.declared.Answer.the-variants.{Done}
 use Rattle.change.specs.Cuts.{differing}
 use Rattle.change.specs.Answers.{paintOf, IsCut, Asked}
 use Rattle.benchmarks.specs.Rows.{shape, Sets}
-use Rattle.benchmarks.proofs.RowLaws.{fresh-fits, in-range, aims-fresh, change-done, change-cut, listed, listed-long, listed-words}
+use Rattle.benchmarks.proofs.RowLaws.{fresh-fits, in-range, aims-fresh, change-done, change-cut, listed}
+use Rattle.benchmarks.proofs.RowLaws.{listed-long, listed-words}
 use Rattle.benchmarks.proofs.PageLaws.{OnePage, after, after-past, page-finished}
 
 -- The new right on the covered words, and none elsewhere.
@@ -32,7 +33,8 @@ abbrev pub painted : Region → ℕ → ℕ → ℕ
 painted g r a = cond (covered g a) r 0
 
 -- A region of one entry, of the block of `a0`; `c0` lies beside it.
-pub one-page : (L low : ℕ) (g : Region) (r a0 c0 : ℕ) → low < 2 → (low ≡ 0 → 1 ≤ L) → a0 < addresses → c0 < addresses → r ≢ 0 → r < 4
+pub one-page : (L low : ℕ) (g : Region) (r a0 c0 : ℕ) → low < 2 → (low ≡ 0 → 1 ≤ L) → a0 < addresses → c0 < addresses
+    → r ≢ 0 → r < 4
     → ((b : ℕ) → covered g b ≡ true → b / block low ≡ a0 / block low) → covered g a0 ≡ true → covered g c0 ≡ false
     → a0 / part (suc low) ≡ c0 / part (suc low) → wantsOf (painted g r) low a0 ≡ false
     → OnePage L low (painted g r) a0 c0 (saidOf (painted g r) low a0)
@@ -42,7 +44,8 @@ one-page L low g r a0 c0 lo room ba bc some small near here there part no-table 
   inside = ba;
   beside = bc;
   quiet = λ b bb n. by-cases (covered g b) (λ e. absurd (n (near b e))) (λ e. ap (λ t. cond t r 0) e);
-  said = wants-says 1 1 L (painted g r) low a0 (painted-rights g r (λ x. 0) small none-rights) (omega arith) ba no-table;
+  said = wants-says 1 1 L (painted g r) low a0 (painted-rights g r (λ x. 0) small none-rights) (omega arith) ba
+      no-table;
   together = part;
   differ = λ e. some (sym (ap (λ t. cond t r 0) here) ∙ e ∙ ap (λ t. cond t r 0) there);
 }
@@ -51,26 +54,40 @@ one-page L low g r a0 c0 lo room ba bc some small near here there part no-table 
 abbrev pub pagePool : (L low a0 w : ℕ) → List ℕ
 pagePool L low a0 w = listed (after low a0 w) 0 (2048 + 64 * L)
 
-module _ {L low : ℕ} (g : Region) (r : ℕ) {a0 c0 w : ℕ} (o : OnePage L low (painted g r) a0 c0 w) (hl : L ≤ maxLeaves) where
-  pub page-word : (j : ℕ) → words (pagePool L low a0 w) j ≡ after low a0 w j
-  page-word = listed-words (after low a0 w) (2048 + 64 * L) (λ j h. after-past o j h)
+module _ {L low : ℕ} (g : Region) (r : ℕ) {a0 c0 w : ℕ} (o : OnePage L low (painted g r) a0 c0 w) (hl : L ≤ maxLeaves)
+  where
+    pub page-word : (j : ℕ) → words (pagePool L low a0 w) j ≡ after low a0 w j
+    page-word = listed-words (after low a0 w) (2048 + 64 * L) (λ j h. after-past o j h)
 
-  pub page-long : length (pagePool L low a0 w) ≡ length (freshPool (shape 1 L))
-  page-long = listed-long (after low a0 w) 0 (2048 + 64 * L) ∙ sym (fresh-fits (shape 1 L) (in-range 1 L (omega arith) hl) .long)
+    pub page-long : length (pagePool L low a0 w) ≡ length (freshPool (shape 1 L))
+    page-long = listed-long (after low a0 w) 0 (2048 + 64 * L)
+        ∙ sym (fresh-fits (shape 1 L) (in-range 1 L (omega arith) hl) .long)
 
-  pub page-done-finished : Finished (formOf (shape 1 L)) (words (freshPool (shape 1 L))) (aims (shape 1 L) 0 (paintOf g r) (words (freshPool (shape 1 L)))) (words (pagePool L low a0 w))
-  page-done-finished = finished-words (formOf (shape 1 L)) _ _ (λ j. sym (page-word j))
-      (finished-same (formOf (shape 1 L)) _ (λ d. painted g r) _ (λ d a bd ba. sym (aims-fresh (shape 1 L) (paintOf g r) d a bd bd)) (page-finished o))
+    pub page-done-finished : Finished (formOf (shape 1 L)) (words (freshPool (shape 1 L)))
+        (aims (shape 1 L) 0 (paintOf g r) (words (freshPool (shape 1 L)))) (words (pagePool L low a0 w))
+    page-done-finished = finished-words (formOf (shape 1 L)) _ _ (λ j. sym (page-word j))
+        (finished-same (formOf (shape 1 L)) _ (λ d. painted g r) _
+        (λ d a bd ba. sym (aims-fresh (shape 1 L) (paintOf g r) d a bd bd)) (page-finished o))
 
-  module _ (start len : ℕ) (hr : r ≤ 3) (e : regionOf start len ≡ Covers g) where
-    pub page-asked : Asked (freshPool (shape 1 L)) (shape 1 L) 0 start len r g
-    page-asked = record { fits = fresh-fits (shape 1 L) (in-range 1 L (omega arith) hl); domain = omega arith; right = hr; region = e }
+    module _ (start len : ℕ) (hr : r ≤ 3) (e : regionOf start len ≡ Covers g) where
+      pub page-asked : Asked (freshPool (shape 1 L)) (shape 1 L) 0 start len r g
+      page-asked = record {
+        fits = fresh-fits (shape 1 L) (in-range 1 L (omega arith) hl);
+        domain = omega arith;
+        right =
+            hr;
+        region = e;
+      }
 
-    -- With an allowance that suffices, and with a smaller one.
-    pub page-done : (n k : ℕ) → differing (freshPool (shape 1 L)) (pagePool L low a0 w) ≡ k → k ≤ n → Sets 1 L start len r n (Done k) (pagePool L low a0 w)
-    page-done n k d h =
-        change-done (freshPool (shape 1 L)) (shape 1 L) 0 start len r n g page-asked (fresh-settled (shape 1 L)) (pagePool L low a0 w) k page-done-finished page-long d h
+      -- With an allowance that suffices, and with a smaller one.
+      pub page-done : (n k : ℕ) → differing (freshPool (shape 1 L)) (pagePool L low a0 w) ≡ k → k ≤ n
+          → Sets 1 L start len r n (Done k) (pagePool L low a0 w)
+      page-done n k d h =
+          change-done (freshPool (shape 1 L)) (shape 1 L) 0 start len r n g page-asked (fresh-settled (shape 1 L))
+          (pagePool L low a0 w) k page-done-finished page-long d h
 
-    pub page-cut : (n k : ℕ) → differing (freshPool (shape 1 L)) (pagePool L low a0 w) ≡ k → n < k → (x : List ℕ) × IsCut (shape 1 L) 0 (paintOf g r) (freshPool (shape 1 L)) n x
-    page-cut n k d h =
-        change-cut (freshPool (shape 1 L)) (shape 1 L) 0 start len r n g page-asked (fresh-settled (shape 1 L)) (pagePool L low a0 w) page-done-finished page-long (rw d h)
+      pub page-cut : (n k : ℕ) → differing (freshPool (shape 1 L)) (pagePool L low a0 w) ≡ k → n < k → (x : List ℕ)
+          × IsCut (shape 1 L) 0 (paintOf g r) (freshPool (shape 1 L)) n x
+      page-cut n k d h =
+          change-cut (freshPool (shape 1 L)) (shape 1 L) 0 start len r n g page-asked (fresh-settled (shape 1 L))
+          (pagePool L low a0 w) page-done-finished page-long (rw d h)

@@ -24,7 +24,8 @@ in-leaf = rounded 0x1000 64
 
 pub leaf-page : OnePage 1 0 (painted in-leaf 2) 0x1000 0x1040 0xAAAAAAAA
 unfolding pack
-leaf-page = one-page 1 0 in-leaf 2 0x1000 0x1040 (omega arith) (λ z. omega arith) (omega arith) (omega arith) (λ z. omega arith) (omega arith)
+leaf-page = one-page 1 0 in-leaf 2 0x1000 0x1040 (omega arith) (λ z. omega arith) (omega arith) (omega arith)
+    (λ z. omega arith) (omega arith)
     (λ b e. let r = covered-range in-leaf b e in omega arith) refl refl refl (wants-leaf (painted in-leaf 2) 0x1000)
 
 abbrev pub leaf-pool : List ℕ
@@ -58,7 +59,8 @@ in-middle = rounded 0x1000 512
 
 pub middle-page : OnePage 0 1 (painted in-middle 2) 0x1000 0x1200 0x80000002
 unfolding pack any
-middle-page = one-page 0 1 in-middle 2 0x1000 0x1200 (omega arith) (λ z. omega arith) (omega arith) (omega arith) (λ z. omega arith) (omega arith)
+middle-page = one-page 0 1 in-middle 2 0x1000 0x1200 (omega arith) (λ z. omega arith) (omega arith) (omega arith)
+    (λ z. omega arith) (omega arith)
     (λ b e. let r = covered-range in-middle b e in omega arith) refl refl refl refl
 
 abbrev pub middle-pool : List ℕ

@@ -38,7 +38,8 @@ module _ (L : ℕ) where
   base-word : (j : ℕ) → words base j ≡ cond (ltb j 2048) 0x80000000 0
   base-word j =
       let e : 64 * L ≡ 0 + 64 * L = omega arith in
-      ap (λ n. words (replicate 2048 0x80000000 ++ replicate n 0) j) e ∙ fresh-word (record { domains = 2; middles = 0; leaves = L }) j
+      ap (λ n. words (replicate 2048 0x80000000 ++ replicate n 0) j) e
+      ∙ fresh-word (record { domains = 2; middles = 0; leaves = L }) j
 
   abbrev P : ℕ → ℕ
   P = words (needless L)
@@ -50,7 +51,12 @@ module _ (L : ℕ) where
   P-other j n h = getD-set-other base 0 j 1024 0 n ∙ base-word j ∙ ap (λ t. cond t 0x80000000 0) (lt-ltb j 2048 h)
 
   one-table : OneTable P
-  one-table = record { first = P-first; roots = λ j n h. P-other j n (omega arith); middle = λ j lo hi. rw (P-other j (λ e. omega arith) hi) refl }
+  one-table = record {
+    first = P-first;
+    roots = λ j n h. P-other j n (omega arith);
+    middle = λ j lo hi.
+        rw (P-other j (λ e. omega arith) hi) refl;
+  }
 
   pub needless-sound : SoundPool F P
   needless-sound = table-sound L one-table
@@ -73,7 +79,8 @@ module _ (L : ℕ) where
   needless-long = length-set base 0 1024 ∙ base-long
 
   -- Tidied, the root word says none again.
-  none-again : (a : ℕ) → rightAt (words (set (needless L) 0 0x80000000) (a / 4194304 % 1024)) (a / 524288 % 8) ≡ rightOf F P 0 a
+  none-again : (a : ℕ) → rightAt (words (set (needless L) 0 0x80000000) (a / 4194304 % 1024)) (a / 524288 % 8)
+      ≡ rightOf F P 0 a
   none-again a = ap (λ w. rightAt w (a / 524288 % 8)) (word (a / 4194304 % 1024) (omega arith))
       ∙ eight-right 0 (a / 524288 % 8) (omega arith) (omega arith) ∙ sym (needless-right 0 a (omega arith))
     where
@@ -85,7 +92,9 @@ module _ (L : ℕ) where
 
 pub row-11 : Needless
 row-11 L n hl = (
-  λ d start len r g asked. always-change (in-order g asked (unsettled (needless-sound L) (needless-unsettled L))) (refl, refl),
-  λ h. always-tidy (tidies-root L (needless L) (needless-long L) (one-table L) 0x80000000 refl (λ a ba. none-again L a) hl n h)
+  λ d start len r g asked. always-change (in-order g asked (unsettled (needless-sound L) (needless-unsettled L)))
+      (refl, refl),
+  λ h. always-tidy (tidies-root L (needless L) (needless-long L) (one-table L) 0x80000000 refl
+      (λ a ba. none-again L a) hl n h)
       (refl, tidied-first L (needless L) (needless-long L) (one-table L) 0x80000000 refl),
 )

@@ -51,7 +51,8 @@ outside (suc (suc h)) b hi n = absurd (omega arith)
 
 -- Rights that are none elsewhere want at most one table of each height in each domain.
 module _ (R : ℕ → ℕ → ℕ) (none : (d b : ℕ) → d < 2 → b < addresses → covered here b ≡ false → R d b ≡ 0) where
-  home : (h i : ℕ) → h < 2 → i < blocks h * 2 → want R h i ≡ true → addressOf h i / block (suc h) ≡ 0x1000 / block (suc h)
+  home : (h i : ℕ) → h < 2 → i < blocks h * 2 → want R h i ≡ true → addressOf h i / block (suc h)
+      ≡ 0x1000 / block (suc h)
   home h i hi bi w =
       let (bd, ba, _) = number-first h 2 i hi bi in
       let (b, c, bb, bc, x, y, z) = wants-divided (R (domainOf h i)) (suc h) (addressOf h i) ba w in
@@ -61,11 +62,13 @@ module _ (R : ℕ → ℕ → ℕ) (none : (d b : ℕ) → d < 2 → b < address
             ∙ sym (none (domainOf h i) c bd bc (outside h c hi (λ e. n (sym x ∙ part-in-block (suc h) b c y ∙ e))))))
       ]
 
-  one-each : (h i j : ℕ) → h < 2 → i < blocks h * 2 → j < blocks h * 2 → want R h i ≡ true → want R h j ≡ true → domainOf h i ≡ domainOf h j → i ≡ j
+  one-each : (h i j : ℕ) → h < 2 → i < blocks h * 2 → j < blocks h * 2 → want R h i ≡ true → want R h j ≡ true
+      → domainOf h i ≡ domainOf h j → i ≡ j
   one-each h i j hi bi bj w v e =
       let (_, _, x) = number-first h 2 i hi bi in
       let (_, _, y) = number-first h 2 j hi bj in
-      let z : addressOf h i / block (suc h) ≡ addressOf h j / block (suc h) = home h i hi bi w ∙ sym (home h j hi bj v) in
+      let z : addressOf h i / block (suc h) ≡ addressOf h j / block (suc h) = home h i hi bi w
+      ∙ sym (home h j hi bj v) in
       sym x ∙ ap (λ d. blocks h * d + addressOf h i / block (suc h)) e ∙ ap (λ n. blocks h * domainOf h j + n) z ∙ y
 
   fit : (h : ℕ) → h < 2 → count (want R h) (blocks h * 2) ≤ 2
@@ -88,12 +91,14 @@ pub record Begun (p : List ℕ) : Type 0 where
   pub settled : Settled F (words p)
   pub none : (e b : ℕ) → e < 2 → b < addresses → covered here b ≡ false → rightOf F (words p) e b ≡ 0
 
-aims-none : (p : List ℕ) → Begun p → (d e b : ℕ) → e < 2 → b < addresses → covered here b ≡ false → aims two d paint (words p) e b ≡ 0
+aims-none : (p : List ℕ) → Begun p → (d e b : ℕ) → e < 2 → b < addresses → covered here b ≡ false
+    → aims two d paint (words p) e b ≡ 0
 aims-none p o d e b be bb n = changed-uncovered (rightOf F (words p)) d (region paint) 2 e b n ∙ o .none e b be bb n
 
 next : (p : List ℕ) → Begun p → (d : ℕ) → (q : List ℕ) × IsDone two d paint p (length p) q
 next p o d =
-    let (Q, kept, g) = fits-goal two d paint p (omega arith) (o .fits) (o .settled .sound) (fits-two (aims two d paint (words p)) (aims-none p o d)) in
+    let (Q, kept, g) = fits-goal two d paint p (omega arith) (o .fits) (o .settled .sound)
+    (fits-two (aims two d paint (words p)) (aims-none p o d)) in
     enough-done two d paint p Q kept g
 
 begun : (p : List ℕ) → Begun p → (d : ℕ) (q : List ℕ) → IsDone two d paint p (length p) q → Begun q
@@ -105,7 +110,13 @@ begun p o d q f = record {
 
 fresh-begun : Begun (freshPool two)
 fresh-begun = record {
-  fits = fresh-fits two (record { some-domain = omega arith; domains = omega arith; middles = omega arith; leaves = omega arith });
+  fits = fresh-fits two (record {
+    some-domain = omega arith;
+    domains = omega arith;
+    middles = omega arith;
+    leaves =
+        omega arith;
+  });
   settled = fresh-settled two;
   none = λ e b be bb n. fresh-right two e b be;
 }
@@ -117,10 +128,13 @@ some-settled =
     let (q, g) = next p o 1 in
     let z = begun p o 1 q g in
     let first : rightOf F (words q) 0 0x1000 ≡ 2 =
-    g .finished .rights 0 0x1000 (omega arith) (omega arith) ∙ aims-other two 1 paint (words p) 0 0x1000 (λ c. other (c .0))
-    ∙ f .finished .rights 0 0x1000 (omega arith) (omega arith) ∙ aims-covered two 0 paint (words (freshPool two)) 0 0x1000 (refl, refl) in
+    g .finished .rights 0 0x1000 (omega arith) (omega arith) ∙ aims-other two 1 paint (words p) 0 0x1000
+    (λ c. other (c .0))
+    ∙ f .finished .rights 0 0x1000 (omega arith) (omega arith) ∙ aims-covered two 0 paint
+    (words (freshPool two)) 0 0x1000 (refl, refl) in
     let second : rightOf F (words q) 1 0x1000 ≡ 2 =
-    g .finished .rights 1 0x1000 (omega arith) (omega arith) ∙ aims-covered two 1 paint (words p) 1 0x1000 (refl, refl) in
+    g .finished .rights 1 0x1000 (omega arith) (omega arith) ∙ aims-covered two 1 paint (words p) 1 0x1000
+    (refl, refl) in
     let rights : (d : ℕ) → d < 2 → rightOf F (words q) d 0x1000 ≡ 2 = λ d h. elim (ℕ-discrete d 0) [
       | yes e ↦ rw e first
       | no n ↦ (let e : d ≡ 1 = omega arith in rw e second)
@@ -141,7 +155,8 @@ some-settled =
     differ : {x y : ℕ} → x ≡ 2 → y ≡ 0 → x ≢ y
     differ a b e = omega arith
 
-    has : (q : List ℕ) → Begun q → (d h : ℕ) → d < 2 → h < 2 → rightOf F (words q) d 0x1000 ≡ 2 → HasTable F (words q) d 0x1000 h
+    has : (q : List ℕ) → Begun q → (d h : ℕ) → d < 2 → h < 2 → rightOf F (words q) d 0x1000 ≡ 2
+        → HasTable F (words q) d 0x1000 h
     has q z d zero bd hi e =
         z .settled .there bd (omega arith) (omega arith)
         (0x1000, 0x1040, omega arith, omega arith, refl, refl, differ e (z .none d 0x1040 bd (omega arith) refl))

@@ -58,12 +58,15 @@ AnyAddress = (M L : ℕ) (p : List ℕ) → Fits (shape M L) (length p) → Alwa
 
 -- 2. M 1, L 1, set 0x1000 for 64 bytes to 2: done, 1,026 stores; the leaf's first entry is 0xAAAAAAAA.
 abbrev pub SetsOneLeaf : Type 0
-SetsOneLeaf = (n : ℕ) → 1026 ≤ n → Always (Sets 1 1 0x1000 64 2 n) (λ a q. AnsweredDone 1026 a × (words q (firstLeaf 1 1) ≡ 0xAAAAAAAA))
+SetsOneLeaf = (n : ℕ) → 1026 ≤ n → Always (Sets 1 1 0x1000 64 2 n)
+    (λ a q. AnsweredDone 1026 a × (words q (firstLeaf 1 1) ≡ 0xAAAAAAAA))
 
 -- 3. Then 0x103F gives 2 and 0x1040 gives 0, 3 loads each; 0x2000 gives 0 in 2; 0x400000 gives 0 in 1.
 abbrev pub LooksAround : Type 0
-LooksAround = (n : ℕ) → 1026 ≤ n → Always (Sets 1 1 0x1000 64 2 n) (λ a q. FindsRight q (shape 1 1) 0x103F 2 0xAAAAAAAA 3
-    × FindsRight q (shape 1 1) 0x1040 0 0 3 × FindsRight q (shape 1 1) 0x2000 0 0x80000000 2 × FindsRight q (shape 1 1) 0x400000 0 0x80000000 1)
+LooksAround = (n : ℕ) → 1026 ≤ n → Always (Sets 1 1 0x1000 64 2 n)
+    (λ a q. FindsRight q (shape 1 1) 0x103F 2 0xAAAAAAAA 3
+    × FindsRight q (shape 1 1) 0x1040 0 0 3 × FindsRight q (shape 1 1) 0x2000 0 0x80000000 2
+    × FindsRight q (shape 1 1) 0x400000 0 0x80000000 1)
 
 -- Every lookup gives right 0 or, from `lo` to `hi`, right 2.
 abbrev pub NoneOrTwo : (p : List ℕ) (s : Shape) (lo hi : ℕ) → Type 0
@@ -73,7 +76,8 @@ NoneOrTwo p s lo hi = (a : ℕ) → a < addresses
 -- 4. As 2 with allowance 1,025: cut, and every lookup gives right 0 or, in 0x1000 to 0x103F, right 2; the pool is
 -- sound.
 abbrev pub CutBeforeTheLast : Type 0
-CutBeforeTheLast = Always (Sets 1 1 0x1000 64 2 1025) (λ a q. AnsweredCut a × NoneOrTwo q (shape 1 1) 0x1000 0x103F × SoundPool (formOf (shape 1 1)) (words q))
+CutBeforeTheLast = Always (Sets 1 1 0x1000 64 2 1025)
+    (λ a q. AnsweredCut a × NoneOrTwo q (shape 1 1) 0x1000 0x103F × SoundPool (formOf (shape 1 1)) (words q))
 
 -- 5. After 2, the same region to 0: one store, root entry 0x80000000.
 abbrev pub GivesUpBoth : Type 0

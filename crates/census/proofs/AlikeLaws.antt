@@ -1,5 +1,5 @@
--- The census as a program takes it, place by place, goes as the check of the theory, table by table; each place is given to the block whose table
--- stands there.
+-- The census as a program takes it, place by place, goes as the check of the theory, table by table; each place is
+-- given to the block whose table stands there.
 use Prim.Native.Nat.{ℕ, zero, suc, _+_, _*_, _-_, _≤_, _<_}
 use mathlib.Core.Path.{_≡_, refl, sym, ap, _∙_}
 use mathlib.Core.Bool.{Bool, true, false, not, _&&_, and-false, true≢false, false≢true}
@@ -24,7 +24,8 @@ use Rattle.table.specs.Entries.{decodeOf}
 use Rattle.table.proofs.EntryLaws.{decoded-bad, decoded-rights, decoded-leads}
 use Rattle.census.specs.Places.{maxPlaces, placeWord}
 use Rattle.census.proofs.PlaceLaws.{hasPlace, place-apart, PlaceAt, decoded-place}
-use Rattle.census.specs.Tally.{Tally, refused, owned, andThen, none, taken, give, enter, through, tableTally, rootsTally}
+use Rattle.census.specs.Tally.{Tally, refused, owned, andThen, none, taken, give, enter, through, tableTally}
+use Rattle.census.specs.Tally.{rootsTally}
 use Rattle.census.specs.Census.{StandsAt}
 use Rattle.census.proofs.TallyLaws.{enter-rights, enter-bad, enter-given, enter-again}
 use Rattle.census.proofs.StandLaws.{EntryOf, TableOf, root-table, entry-table, block-few, stands-at}
@@ -51,12 +52,14 @@ module _ (F : Form) (P : ℕ → ℕ) (h k : ℕ) (u : ℕ → Bool) where
       check-down e = rw (g, l, e)
 
 -- A leaf is fine whatever it holds.
-leaf-fine : (F : Form) (P : ℕ → ℕ) → ((k : ℕ) → F .good 0 (P k) ≡ true) → (n t : ℕ) (u : ℕ → Bool) → each (entryCheck F P 0) t n u ≡ met u
+leaf-fine : (F : Form) (P : ℕ → ℕ) → ((k : ℕ) → F .good 0 (P k) ≡ true) → (n t : ℕ) (u : ℕ → Bool)
+    → each (entryCheck F P 0) t n u ≡ met u
 unfolding each entryCheck
 leaf-fine F P good zero t u = refl
 leaf-fine F P good (suc n) t u = rw (good t) (leaf-fine F P good n (t + 1) u)
 
--- The places that have an owner are those where a table of the set `u` begins, and the owner is the block whose table stands there.
+-- The places that have an owner are those where a table of the set `u` begins, and the owner is the block whose table
+-- stands there.
 pub record Alike (p : List ℕ) (s : Shape) (o : List ℕ) (u : ℕ → Bool) : Type 0 where
   pub long : length o ≡ maxPlaces
   pub each : (n : ℕ) → n < maxPlaces → taken o n ≡ (hasPlace s n && u (placeWord s n))
@@ -81,7 +84,8 @@ module _ (p : List ℕ) (s : Shape) where
       }
 
   -- One check after another.
-  then-alike : (F : List ℕ → Tally) (G : (ℕ → Bool) → Finding) → ((o : List ℕ) (u : ℕ → Bool) → Alike p s o u → Matches p s (F o) (G u))
+  then-alike : (F : List ℕ → Tally) (G : (ℕ → Bool) → Finding)
+      → ((o : List ℕ) (u : ℕ → Bool) → Alike p s o u → Matches p s (F o) (G u))
       → (y : Tally) (z : Finding) → Matches p s y z → Matches p s (andThen y F) (Check.andThen z G)
   then-alike F G next refused Check.refused m = tt
   then-alike F G next refused (met u) m = absurd m
@@ -89,7 +93,8 @@ module _ (p : List ℕ) (s : Shape) where
   then-alike F G next (owned o) (met u) m = next o u m
 
   -- A place of the shape is given to the block whose entry leads there, for the first time ..
-  module _ (few : s .domains ≤ 4) (o : List ℕ) (u : ℕ → Bool) (a : Alike p s o u) (h k i n : ℕ) (x : PlaceAt s (suc h) (words p k) n) where
+  module _ (few : s .domains ≤ 4) (o : List ℕ) (u : ℕ → Bool) (a : Alike p s o u) (h k i n : ℕ)
+      (x : PlaceAt s (suc h) (words p k) n) where
     abbrev w : ℕ
     w = words p k
 
@@ -104,7 +109,8 @@ module _ (p : List ℕ) (s : Shape) where
       given-here = getD-set-same o n i 0 (omega (arith, x .below, a .long))
 
       given-taken : taken (set o n i) n ≡ true
-      given-taken = ap (λ v. not (eqb v none)) given-here ∙ ap not (ne-eqb i none (λ e. let b = block-few (s .domains) h i few (y .block) in omega arith))
+      given-taken = ap (λ v. not (eqb v none)) given-here
+          ∙ ap not (ne-eqb i none (λ e. let b = block-few (s .domains) h i few (y .block) in omega arith))
 
       given-each : (m : ℕ) → m < maxPlaces → taken (set o n i) m ≡ (hasPlace s m && mark u w (placeWord s m))
       given-each m b = elim (ℕ-discrete m n) [
@@ -149,21 +155,28 @@ module _ (p : List ℕ) (s : Shape) (fits : Fits s (length p)) (small : (k : ℕ
 
   -- The entry of block `i`, where the tables below it are checked alike.
   module _ (h k i : ℕ) (hi : h < 2) (y : EntryOf (s .domains) (words p) h k i)
-      (below : (t : ℕ) → t + size h ≤ length p → TableOf (s .domains) (words p) h t i → (o : List ℕ) (u : ℕ → Bool) → Alike p s o u
+      (below : (t : ℕ) → t + size h ≤ length p → TableOf (s .domains) (words p) h t i → (o : List ℕ) (u : ℕ → Bool)
+      → Alike p s o u
       → Matches p s (tableTally s p h t i o) (tableCheck F (words p) h t u)) where
     entry-alike : (o : List ℕ) (u : ℕ → Bool) → Alike p s o u
-        → Matches p s (enter (tableTally s p h) (decodeOf s (suc h) (words p k)) i o) (entryCheck F (words p) (suc h) k u)
+        → Matches p s (enter (tableTally s p h) (decodeOf s (suc h) (words p k)) i o)
+        (entryCheck F (words p) (suc h) k u)
     entry-alike o u a = go (decodeOf s (suc h) w) refl
       where
         w : ℕ
         w = words p k
 
-        go : (e : Entry) → decodeOf s (suc h) w ≡ e → Matches p s (enter (tableTally s p h) e i o) (entryCheck F (words p) (suc h) k u)
+        go : (e : Entry) → decodeOf s (suc h) w ≡ e → Matches p s (enter (tableTally s p h) e i o)
+            (entryCheck F (words p) (suc h) k u)
         go (Rights r) e =
             let (_, g, l) = decoded-rights s (suc h) w r (omega arith) (omega arith) e in
             rw (check-rights F (words p) h k u g l, enter-rights (tableTally s p h) {e = Rights r} i o refl) a
         go Bad e =
-            rw (check-bad F (words p) h k u (decoded-bad s (suc h) w (omega arith) (omega arith) e), enter-bad (tableTally s p h) {e = Bad} i o refl) tt
+            rw (
+              check-bad F (words p) h k u (decoded-bad s (suc h) w (omega arith) (omega arith) e),
+              enter-bad
+                  (tableTally s p h) {e = Bad} i o refl,
+            ) tt
         go (Leads t n) e =
             let (q, g, l, b) = decoded-leads s (suc h) w t n (omega arith) (omega arith) e in
             let z : suc h - 1 ≡ h = omega arith in
@@ -181,21 +194,27 @@ module _ (p : List ℕ) (s : Shape) (fits : Fits s (length p)) (small : (k : ℕ
               enter-given (tableTally s p h) {e = Leads t n} i o refl (give-new p s few o u a h k i n x y l new),
               q,
             )
-            (below w (omega (arith, rw z at b, fits .long)) (entry-table (s .domains) (words p) h k i hi y l) (set o n i) (mark u w)
+            (below w (omega (arith, rw z at b, fits .long)) (entry-table (s .domains) (words p) h k i hi y l)
+            (set o n i) (mark u w)
             (give-alike p s few o u a h k i n x y l new)))
 
-  pub table-alike : (h t i : ℕ) → h ≤ 2 → t + size h ≤ length p → TableOf (s .domains) (words p) h t i → (o : List ℕ) (u : ℕ → Bool) → Alike p s o u
+  pub table-alike : (h t i : ℕ) → h ≤ 2 → t + size h ≤ length p → TableOf (s .domains) (words p) h t i
+      → (o : List ℕ) (u : ℕ → Bool) → Alike p s o u
       → Matches p s (tableTally s p h t i o) (tableCheck F (words p) h t u)
   unfolding tableTally
-  table-alike zero t i hi b y o u a = rw (leaf-fine (formOf s) (words p) (λ k. lt-ltb (words p k) 4294967296 (small k)) 64 t u) a
+  table-alike zero t i hi b y o u a = rw (leaf-fine (formOf s) (words p)
+      (λ k. lt-ltb (words p k) 4294967296 (small k)) 64 t u) a
   table-alike (suc h) t i hi b y o u a =
-      through-alike p s (λ k j. enter (tableTally s p h) (decodeOf s (suc h) (words p k)) j) (entryCheck F (words p) (suc h)) 1024 t (1024 * i)
-      (λ e c. entry-alike h (t + e) (1024 * i + e) (omega arith) (y e c) (λ x r z. table-alike h x (1024 * i + e) (omega arith) r z)) o u a
+      through-alike p s (λ k j. enter (tableTally s p h) (decodeOf s (suc h) (words p k)) j)
+      (entryCheck F (words p) (suc h)) 1024 t (1024 * i)
+      (λ e c. entry-alike h (t + e) (1024 * i + e) (omega arith) (y e c)
+      (λ x r z. table-alike h x (1024 * i + e) (omega arith) r z)) o u a
 
   pub roots-alike : (n : ℕ) → n ≤ s .domains → Matches p s (rootsTally s p n) (rootsCheck F (words p) n (λ x. false))
   unfolding rootsTally rootsCheck
   roots-alike zero b = none-alike p s
   roots-alike (suc n) b =
       then-alike p s (tableTally s p 2 (1024 * n) n) (tableCheck F (words p) 2 (1024 * n))
-      (λ o u a. table-alike 2 (1024 * n) n (omega arith) (omega (arith, fits .long)) (root-table (s .domains) (words p) n b) o u a)
+      (λ o u a. table-alike 2 (1024 * n) n (omega arith) (omega (arith, fits .long))
+      (root-table (s .domains) (words p) n b) o u a)
       (rootsTally s p n) (rootsCheck F (words p) n (λ x. false)) (roots-alike n (omega arith))

@@ -35,9 +35,22 @@ place-low s n = ⊎-elim (λ x. omega (arith, x .height)) (λ x. omega (arith, x
 pub old-reached : (p : List ℕ) (s : Shape) (h i : ℕ) → h < 2 → i < blocks h * s .domains → old (words p) h i ≡ true
     → Reached p s (suc h) (entryOf (words p) h i) × (leads (suc h) (words p (entryOf (words p) h i)) ≡ true)
 old-reached p s zero i hi b o =
-    let (m, l) = and-both (oldMiddle (words p) (i / 1024)) (ltb (words p (entryOf (words p) 0 i)) 2147483648) o in
-    (step (i % 1024) (start {j = i / 1024} (i / 1024 / 1024, i / 1024 % 1024, refl, omega arith, omega arith, omega arith)) m (omega arith), l)
-old-reached p s (suc zero) i hi b o = (start {j = i} (i / 1024, i % 1024, refl, omega arith, omega arith, omega arith), o)
+    let (m, l) = and-both (oldMiddle (words p) (i / 1024)) (ltb (words p (entryOf (words p) 0 i)) 2147483648) o in (
+      step (i % 1024) (start {j = i / 1024} (
+        i / 1024 / 1024,
+        i / 1024 % 1024,
+        refl,
+        omega arith,
+        omega arith,
+        omega arith,
+      )) m (omega arith),
+      l,
+    )
+old-reached p s (suc zero) i hi b o = (
+  start {j = i}
+      (i / 1024, i % 1024, refl, omega arith, omega arith, omega arith),
+  o,
+)
 old-reached p s (suc (suc h)) i hi b o = absurd (omega arith)
 
 module _ (p : List ℕ) (s : Shape) (fits : Fits s (length p)) where
@@ -49,7 +62,8 @@ module _ (p : List ℕ) (s : Shape) (fits : Fits s (length p)) where
     pub stands-one : (i j : ℕ) → StandsAt p s n i → StandsAt p s n j → i ≡ j
     stands-one i j x y =
         let h = placeHeight n in
-        old-one (s .domains) (s .middles) (s .leaves) q h (place-low s n) i j (x .block) (y .block) (x .table) (y .table)
+        old-one (s .domains) (s .middles) (s .leaves) q h (place-low s n) i j (x .block) (y .block) (x .table)
+        (y .table)
         (ap (λ w. (w - firstPlace (s .domains) (s .middles) (s .leaves) h) / size h) (x .there ∙ sym (y .there)))
 
   module _ (o : List ℕ) (u : ℕ → Bool) (c : CheckedPool F (words p) u) (a : Alike p s o u) where
@@ -58,13 +72,15 @@ module _ (p : List ℕ) (s : Shape) (fits : Fits s (length p)) where
         let h = placeHeight n in
         let (r, l) = old-reached p s h i (place-low s n) (x .block) (x .table) in
         a .each n b
-        ∙ rw (led-place s (fits .range) n _ (c .sound .good r) l (x .there)) (c .marks (placeWord s n) (h, entryOf (words p) h i, r, l, x .there))
+        ∙ rw (led-place s (fits .range) n _ (c .sound .good r) l (x .there))
+        (c .marks (placeWord s n) (h, entryOf (words p) h i, r, l, x .there))
 
     alike-owners : Owners p s o
     alike-owners = record {
       long = a .long;
       owns = λ n i b x. stands-one (c .sound) n (getD o n 0) i (a .stands n b (stands-taken n i b x)) x;
-      stands = λ n b. by-cases (eqb (getD o n 0) none) (λ e. inl (eqb-true (getD o n 0) none e)) (λ e. inr (a .stands n b (ap not e)));
+      stands = λ n b. by-cases (eqb (getD o n 0) none) (λ e. inl (eqb-true (getD o n 0) none e))
+          (λ e. inr (a .stands n b (ap not e)));
     }
 
   module _ (small : (k : ℕ) → words p k < 4294967296) where
@@ -75,7 +91,8 @@ module _ (p : List ℕ) (s : Shape) (fits : Fits s (length p)) where
     pub fine-census : (o : List ℕ) → rootsTally s p (s .domains) ≡ owned o → Census p s true o
     fine-census o e = go (rootsCheck F (words p) (s .domains) (λ x. false)) refl (rw e at all)
       where
-        go : (y : Finding) → rootsCheck F (words p) (s .domains) (λ x. false) ≡ y → Matches p s (owned o) y → Census p s true o
+        go : (y : Finding) → rootsCheck F (words p) (s .domains) (λ x. false) ≡ y → Matches p s (owned o) y
+            → Census p s true o
         go Check.refused f m = absurd m
         go (met u) f m =
             let c = roots-check-sound F (lawful _ _ _) (words p) u f in

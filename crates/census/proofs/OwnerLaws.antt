@@ -22,7 +22,8 @@ use Rattle.census.specs.Census.{StandsAt, Owners}
 use Rattle.census.proofs.StandLaws.{EntryOf, block-few, stands-at}
 use Rattle.census.proofs.CensusLaws.{old-reached}
 
-module _ (p : List ℕ) (s : Shape) (fits : Fits s (length p)) (q : SoundPool (formOf s) (words p)) (o : List ℕ) (own : Owners p s o) (h : ℕ) (hi : h < 2) where
+module _ (p : List ℕ) (s : Shape) (fits : Fits s (length p)) (q : SoundPool (formOf s) (words p)) (o : List ℕ)
+    (own : Owners p s o) (h : ℕ) (hi : h < 2) where
   -- The owner of place `c` of the height.
   abbrev pub owner : ℕ → ℕ
   owner c = getD o (firstNumber h + c) 0
@@ -39,17 +40,23 @@ module _ (p : List ℕ) (s : Shape) (fits : Fits s (length p)) (q : SoundPool (f
 
     was-stands : StandsAt p s (firstNumber h + at) i
     was-stands =
-        stands-at p s h (entryOf (words p) h i) i (firstNumber h + at) (record { block = bi; word = refl; has = λ l. has })
+        stands-at p s h (entryOf (words p) h i) i (firstNumber h + at)
+        (record { block = bi; word = refl; has = λ l. has })
         (old-reached p s h i hi bi has .1) was-place
 
     pub was-owner : owner at ≡ i
     was-owner = own .owns (firstNumber h + at) i (was-place .below) was-stands
 
-    pub was-taken : (placeHeight (firstNumber h + at) ≡ h) × (firstNumber h + at < 72) × (taken o (firstNumber h + at) ≡ true)
+    pub was-taken : (placeHeight (firstNumber h + at) ≡ h) × (firstNumber h + at < 72)
+        × (taken o (firstNumber h + at) ≡ true)
     was-taken =
         let few = block-few (s .domains) h i (fits .range .domains) bi in
-        let x = was-place in
-        (omega (arith, x .height), x .below, ap (λ v. not (eqb v none)) was-owner ∙ ap not (ne-eqb i none (λ e. omega arith)))
+        let x = was-place in (
+          omega (arith, x .height),
+          x .below,
+          ap (λ v. not (eqb v none)) was-owner
+              ∙ ap not (ne-eqb i none (λ e. omega arith)),
+        )
 
   -- The owner of a place has its table there.
   pub owner-stands : (c : ℕ) → c < places (s .domains) (s .middles) (s .leaves) h → taken o (firstNumber h + c) ≡ true
@@ -65,6 +72,7 @@ module _ (p : List ℕ) (s : Shape) (fits : Fits s (length p)) (q : SoundPool (f
       let z : words p (entryOf (words p) h (owner c)) ≡ w = rw e at (y .there) ∙ x .word in (
         rw e at (y .block),
         rw e at (y .table),
-        sym (ap (λ v. (v - firstPlace (s .domains) (s .middles) (s .leaves) h) / size h) z ∙ Old.place-number (s .domains) (s .middles) (s .leaves) h c),
+        sym (ap (λ v. (v - firstPlace (s .domains) (s .middles) (s .leaves) h) / size h) z
+            ∙ Old.place-number (s .domains) (s .middles) (s .leaves) h c),
       ))
       (own .stands (firstNumber h + c) (x .below))

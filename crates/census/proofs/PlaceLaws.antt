@@ -1,4 +1,5 @@
--- Laws of places by number: which numbers a shape has, that no two begin at one word, and which number an entry that leads goes by.
+-- Laws of places by number: which numbers a shape has, that no two begin at one word, and which number an entry that
+-- leads goes by.
 use Prim.Native.Nat.{ℕ, zero, suc, _+_, _*_, _-_, _/_, _≤_, _<_}
 use mathlib.Core.Path.{_≡_, refl, sym, ap, _∙_}
 use mathlib.Core.Logic.{_⊎_, inl, inr, ⊎-elim}
@@ -20,10 +21,12 @@ use Rattle.census.specs.Places.{maxPlaces, placeHeight, firstNumber, pla
 bad-leads : {t : PoolWord} {n : ℕ} → Bad ≡ Leads t n → ⊥
 bad-leads e = let z : _≡_ {A = ℕ} 0 1 = cc in omega arith
 
-leads-number : (from long k nth w : ℕ) (t : PoolWord) (n : ℕ) → leadsTo from long k nth w ≡ Leads t n → n ≡ nth + (w - from) / long
+leads-number : (from long k nth w : ℕ) (t : PoolWord) (n : ℕ) → leadsTo from long k nth w ≡ Leads t n → n
+    ≡ nth + (w - from) / long
 leads-number from long k nth w t n e = go (isPlace from long k w) e
   where
-    go : (b : Bool) → cond b (Leads (record { 0 = w }) (nth + (w - from) / long)) Bad ≡ Leads t n → n ≡ nth + (w - from) / long
+    go : (b : Bool) → cond b (Leads (record { 0 = w }) (nth + (w - from) / long)) Bad ≡ Leads t n → n
+        ≡ nth + (w - from) / long
     go true e = cc
     go false e = absurd (bad-leads e)
 
@@ -52,12 +55,14 @@ module _ (s : Shape) where
   leaf-number n b = let e = le-ltb n 8 b in record { low = b; word = rw e; height = rw e; has = rw e }
 
   pub place-kinds : (n : ℕ) → Middle n ⊎ Leaf n
-  place-kinds n = by-cases (ltb n 8) (λ e. inl (middle-number n (ltb-true n 8 e))) (λ e. inr (leaf-number n (ltb-false n 8 e)))
+  place-kinds n = by-cases (ltb n 8) (λ e. inl (middle-number n (ltb-true n 8 e)))
+      (λ e. inr (leaf-number n (ltb-false n 8 e)))
 
   -- No two places of the shape begin at one word, and no two numbers of one height.
   pub place-apart : (n m : ℕ) → hasPlace n ≡ true → hasPlace m ≡ true → placeWord s n ≡ placeWord s m → n ≡ m
   place-apart n m a b e = ⊎-elim
-      (λ x. let h = ltb-true n (s .middles) (sym (x .has) ∙ a) in ⊎-elim (λ y. omega arith) (λ y. omega arith) (place-kinds m))
+      (λ x. let h = ltb-true n (s .middles) (sym (x .has) ∙ a) in ⊎-elim (λ y. omega arith) (λ y. omega arith)
+      (place-kinds m))
       (λ x. ⊎-elim
       (λ y. let h = ltb-true m (s .middles) (sym (y .has) ∙ b) in omega arith)
       (λ y. omega arith) (place-kinds m)) (place-kinds n)
@@ -80,7 +85,8 @@ module _ (s : Shape) where
   led-room h w g l = let (b, q, c, e) = leads-place (s .domains) (s .middles) (s .leaves) h w g l in go h b q c e
     where
       go : (h : ℕ) → h < 2 → (q : ℕ) → q < places (s .domains) (s .middles) (s .leaves) h
-          → w ≡ firstPlace (s .domains) (s .middles) (s .leaves) h + size h * q → w + size h ≤ poolLength (s .domains) (s .middles) (s .leaves)
+          → w ≡ firstPlace (s .domains) (s .middles) (s .leaves) h + size h * q → w + size h ≤ poolLength (s .domains)
+          (s .middles) (s .leaves)
       go zero b q c e = omega arith
       go (suc zero) b q c e = omega arith
       go (suc (suc h)) b q c e = absurd (omega arith)
@@ -88,17 +94,30 @@ module _ (s : Shape) where
   module _ (r : InRange (s .domains) (s .middles) (s .leaves)) where
     -- The `q`-th place for tables of the height `h` has the number `firstNumber h + q`.
     pub place-number : (h q w n : ℕ) → h < 2 → q < places (s .domains) (s .middles) (s .leaves) h
-        → w ≡ firstPlace (s .domains) (s .middles) (s .leaves) h + size h * q → n ≡ firstNumber h + q → PlaceAt (suc h) w n
+        → w ≡ firstPlace (s .domains) (s .middles) (s .leaves) h + size h * q → n ≡ firstNumber h + q
+        → PlaceAt (suc h) w n
     place-number zero q w n hi b e f =
         let x = leaf-number n (omega arith) in
-        record { below = omega arith; has = x .has ∙ lt-ltb (n - 8) (s .leaves) (omega arith); word = omega arith; height = ap suc (x .height) }
+        record {
+          below = omega arith;
+          has = x .has ∙ lt-ltb (n - 8) (s .leaves) (omega arith);
+          word = omega arith;
+          height = ap suc (x .height);
+        }
     place-number (suc zero) q w n hi b e f =
         let x = middle-number n (omega arith) in
-        record { below = omega arith; has = x .has ∙ lt-ltb n (s .middles) (omega arith); word = omega arith; height = ap suc (x .height) }
+        record {
+          below = omega arith;
+          has = x .has ∙ lt-ltb n (s .middles) (omega arith);
+          word = omega arith;
+          height =
+              ap suc (x .height);
+        }
     place-number (suc (suc h)) q w n hi b e f = absurd (omega arith)
 
     -- A good entry that leads goes by the number of a place.
-    pub led-number : (h w : ℕ) → formOf s .good (suc h) w ≡ true → leads (suc h) w ≡ true → (n : ℕ) × PlaceAt (suc h) w n
+    pub led-number : (h w : ℕ) → formOf s .good (suc h) w ≡ true → leads (suc h) w ≡ true → (n : ℕ)
+        × PlaceAt (suc h) w n
     led-number h w g l =
         let (b, q, c, e) = leads-place (s .domains) (s .middles) (s .leaves) h w g l in
         (firstNumber h + q, place-number h q w (firstNumber h + q) b c e refl)
@@ -114,12 +133,14 @@ module _ (s : Shape) where
     decoded-place (suc (suc zero)) w t n lo hi e =
         let (_, g, l, _) = decoded-leads s 2 w t n lo hi e in
         let (b, q, c, f) = leads-place (s .domains) (s .middles) (s .leaves) 1 w g l in
-        let k = leads-number _ _ _ _ w t n (sym (decode-root s 2 w (λ z. omega arith) (λ z. omega arith) (ltb-true w 2147483648 l)) ∙ e) in
+        let k = leads-number _ _ _ _ w t n (sym (decode-root s 2 w (λ z. omega arith) (λ z. omega arith)
+        (ltb-true w 2147483648 l)) ∙ e) in
         place-number 1 q w n b c f (omega arith)
     decoded-place (suc (suc (suc h))) w t n lo hi e = absurd (omega arith)
 
     -- A good entry that leads to the word where place `n` begins: from the height above it, the shape has the place ..
-    pub led-place : (n w : ℕ) → formOf s .good (suc (placeHeight n)) w ≡ true → leads (suc (placeHeight n)) w ≡ true → w ≡ placeWord s n
+    pub led-place : (n w : ℕ) → formOf s .good (suc (placeHeight n)) w ≡ true → leads (suc (placeHeight n)) w ≡ true
+        → w ≡ placeWord s n
         → hasPlace n ≡ true
     led-place n w g l e =
         let (m, x) = led-number (placeHeight n) w g l in
@@ -127,7 +148,8 @@ module _ (s : Shape) where
         rw f (x .has)
 
     -- .. and where the shape has it, from that height.
-    pub led-height : (n h w : ℕ) → hasPlace n ≡ true → formOf s .good (suc h) w ≡ true → leads (suc h) w ≡ true → w ≡ placeWord s n
+    pub led-height : (n h w : ℕ) → hasPlace n ≡ true → formOf s .good (suc h) w ≡ true → leads (suc h) w ≡ true → w
+        ≡ placeWord s n
         → h ≡ placeHeight n
     led-height n h w i g l e =
         let (m, x) = led-number h w g l in

@@ -1,4 +1,5 @@
--- What a sound pool gives to whoever walks it: each word reached is good and lies in the pool, and so does every table that one leads to.
+-- What a sound pool gives to whoever walks it: each word reached is good and lies in the pool, and so does every
+-- table that one leads to.
 use Prim.Native.Nat.{ℕ, zero, suc, _+_, _*_, _-_, _/_, _%_, _≤_, _<_}
 use mathlib.Core.Path.{_≡_, refl, sym, ap, _∙_}
 use mathlib.Core.Bool.{true, false, true≢false}
@@ -31,7 +32,8 @@ pub record Walkable (p : List ℕ) (s : Shape) : Type 0 where
   -- Where a reached word leads, a whole table lies in the pool,
   pub room : {h k : ℕ} → Reached p s (suc h) k → leads (suc h) (words p k) ≡ true → words p k + size h ≤ length p
   -- and each of its words is reached.
-  pub down : {h k : ℕ} → Reached p s (suc h) k → leads (suc h) (words p k) ≡ true → (i : ℕ) → i < size h → Reached p s h (words p k + i)
+  pub down : {h k : ℕ} → Reached p s (suc h) k → leads (suc h) (words p k) ≡ true → (i : ℕ) → i < size h
+      → Reached p s h (words p k + i)
   -- A reached word stands no higher than a root,
   pub low : {h k : ℕ} → Reached p s h k → h ≤ 2
   -- lies in the pool,
@@ -39,7 +41,8 @@ pub record Walkable (p : List ℕ) (s : Shape) : Type 0 where
   -- and is good.
   pub good : {h k : ℕ} → Reached p s h k → formOf s .good h (words p k) ≡ true
   -- No two lead to one table.
-  pub once : {h k j : ℕ} → Reached p s (suc h) k → leads (suc h) (words p k) ≡ true → Reached p s (suc h) j → leads (suc h) (words p j) ≡ true
+  pub once : {h k j : ℕ} → Reached p s (suc h) k → leads (suc h) (words p k) ≡ true → Reached p s (suc h) j
+      → leads (suc h) (words p j) ≡ true
       → words p k ≡ words p j → k ≡ j
 
 module _ (p : List ℕ) (s : Shape) (fits : Fits s (length p)) (sound : SoundPool (formOf s) (words p)) where
@@ -62,7 +65,8 @@ module _ (p : List ℕ) (s : Shape) (fits : Fits s (length p)) (sound : SoundPoo
     once = λ m l n o e. sound .once m l n o e;
   }
 
--- Word `k` of the height `h` decodes to a pointer to the table at `t`, one height below, in the place `n`: what a walker may then do.
+-- Word `k` of the height `h` decodes to a pointer to the table at `t`, one height below, in the place `n`: what a
+-- walker may then do.
 pub record Below (p : List ℕ) (s : Shape) (h k : ℕ) (t : PoolWord) (n : ℕ) : Type 0 where
   pub word : t .0 ≡ words p k
   pub goes : leads h (words p k) ≡ true
@@ -70,7 +74,8 @@ pub record Below (p : List ℕ) (s : Shape) (h k : ℕ) (t : PoolWord) (n : ℕ)
   pub reached : (i : ℕ) → i < size (h - 1) → Reached p s (h - 1) (t .0 + i)
   pub place : PlaceAt s h (t .0) n
   pub used : InUse p s n
-  pub rights : (a : ℕ) → right (formOf s) (words p) h k a ≡ right (formOf s) (words p) (h - 1) (t .0 + index (h - 1) a) a
+  pub rights : (a : ℕ) → right (formOf s) (words p) h k a ≡ right (formOf s) (words p) (h - 1)
+      (t .0 + index (h - 1) a) a
 
 module _ (p : List ℕ) (s : Shape) (r : Walkable p s) where
   -- The words of all roots, in one count; and the words by which an address goes.
@@ -82,7 +87,8 @@ module _ (p : List ℕ) (s : Shape) (r : Walkable p s) where
   pub entry-reached : (d a : ℕ) → d < s .domains → Reached p s 2 (1024 * d + index 2 a)
   entry-reached d a b = r .root d (index 2 a) b (index-below 2 a)
 
-  pub index-reached : {h k : ℕ} (a : ℕ) → Reached p s (suc h) k → leads (suc h) (words p k) ≡ true → Reached p s h (words p k + index h a)
+  pub index-reached : {h k : ℕ} (a : ℕ) → Reached p s (suc h) k → leads (suc h) (words p k) ≡ true
+      → Reached p s h (words p k + index h a)
   index-reached {h} a m l = r .down m l (index h a) (index-below h a)
 
   -- A reached word, by what it decodes to at a height above the leaves.
@@ -100,7 +106,8 @@ module _ (p : List ℕ) (s : Shape) (r : Walkable p s) where
         right-says (formOf s) (words p) h k a l ∙ ap (λ v. rightAt v (a / part h % parts h)) (sym f)
 
   -- .. and where it leads, all that lies below it.
-  below : {h k : ℕ} → Reached p s (suc h) k → leads (suc h) (words p k) ≡ true → {n : ℕ} → PlaceAt s (suc h) (words p k) n
+  below : {h k : ℕ} → Reached p s (suc h) k → leads (suc h) (words p k) ≡ true → {n : ℕ}
+      → PlaceAt s (suc h) (words p k) n
       → Below p s (suc h) k (record { 0 = words p k }) n
   below {h} {k} m l {n} x =
       let z : suc h - 1 ≡ h = omega arith in
@@ -114,7 +121,8 @@ module _ (p : List ℕ) (s : Shape) (r : Walkable p s) where
         rights = λ a. rw z (right-down (formOf s) (words p) h k a l);
       }
 
-  pub reached-leads : {h k : ℕ} → Reached p s h k → 0 < h → {t : PoolWord} {n : ℕ} → decodeOf s h (words p k) ≡ Leads t n → Below p s h k t n
+  pub reached-leads : {h k : ℕ} → Reached p s h k → 0 < h → {t : PoolWord} {n : ℕ} → decodeOf s h (words p k)
+      ≡ Leads t n → Below p s h k t n
   reached-leads {h = zero} m up e = absurd (omega arith)
   reached-leads {h = suc h} {k} m up {t} {n} e =
       let (f, g, l, b) = decoded-leads s (suc h) (words p k) t n up (r .low m) e in
@@ -135,5 +143,6 @@ module _ (p : List ℕ) (s : Shape) (r : Walkable p s) where
     pub middle-good : (i : ℕ) → i < 1024 → formOf s .good 1 (words p (words p k + i)) ≡ true
     middle-good i c = r .good (middle-reached i c)
 
-    pub leaf-room : (i : ℕ) → i < 1024 → leads 1 (words p (words p k + i)) ≡ true → words p (words p k + i) + 64 ≤ length p
+    pub leaf-room : (i : ℕ) → i < 1024 → leads 1 (words p (words p k + i)) ≡ true
+        → words p (words p k + i) + 64 ≤ length p
     leaf-room i c n = r .room (middle-reached i c) n

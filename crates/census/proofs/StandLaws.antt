@@ -1,4 +1,5 @@
--- Laws of entries and tables by the numbers of their blocks: which word is the entry of a block, and which block's table stands at a place.
+-- Laws of entries and tables by the numbers of their blocks: which word is the entry of a block, and which block's
+-- table stands at a place.
 use Prim.Native.Nat.{ℕ, zero, suc, _+_, _*_, _/_, _%_, _≤_, _<_}
 use mathlib.Core.Path.{_≡_, refl, sym, ap, subst, _∙_}
 use mathlib.Core.Bool.{true}
@@ -20,7 +21,8 @@ module _ (D : ℕ) (P : ℕ → ℕ) where
     pub word : k ≡ entryOf P h i
     pub has : leads (suc h) (P k) ≡ true → old P h i ≡ true
 
-  -- The words of the table at `t`, of height `h`, are the entries of the blocks in block `i`. (Those of a leaf have no tables.)
+  -- The words of the table at `t`, of height `h`, are the entries of the blocks in block `i`. (Those of a leaf have
+  -- no tables.)
   abbrev pub TableOf : ℕ → ℕ → ℕ → Type 0
   TableOf zero t i = Unit {0}
   TableOf (suc h) t i = (e : ℕ) → e < 1024 → EntryOf h (t + e) (1024 * i + e)
@@ -48,7 +50,8 @@ block-few D zero i d b = omega arith
 block-few D (suc h) i d b = omega arith
 
 -- Where the entry of a block leads to a place, the block's table stands there.
-pub stands-at : (p : List ℕ) (s : Shape) (h k i n : ℕ) → EntryOf (s .domains) (words p) h k i → leads (suc h) (words p k) ≡ true
+pub stands-at : (p : List ℕ) (s : Shape) (h k i n : ℕ) → EntryOf (s .domains) (words p) h k i
+    → leads (suc h) (words p k) ≡ true
     → PlaceAt s (suc h) (words p k) n → StandsAt p s n i
 stands-at p s h k i n x l y = go (placeHeight n) (let e = y .height in omega arith) refl
   where

@@ -1,4 +1,5 @@
--- Laws of the census as a program takes it: what an answer tells, a table one entry further, and an entry by what it decodes to.
+-- Laws of the census as a program takes it: what an answer tells, a table one entry further, and an entry by what it
+-- decodes to.
 use Prim.Native.Nat.{ℕ, zero, suc, _+_, _*_, _-_, _%_, _≤_, _<_}
 use mathlib.Core.Path.{_≡_, refl, sym, ap, _∙_}
 use mathlib.Core.Bool.{Bool, true, false, cond, true≢false, false≢true}
@@ -17,7 +18,8 @@ use Rattle.table.specs.Entries.{decodeOf}
 use Rattle.table.proofs.EntryLaws.{decode-rights}
 use Rattle.places.specs.Final.{blocks}
 use Rattle.census.specs.Places.{firstNumber}
-use Rattle.census.specs.Tally.{Tally, refused, owned, andThen, give, enter, through, tableTally, entryTally, rootsTally, Answers, tables}
+use Rattle.census.specs.Tally.{Tally, refused, owned, andThen, give, enter, through, tableTally, entryTally}
+use Rattle.census.specs.Tally.{rootsTally, Answers, tables}
 
 -- What an answer tells.
 pub answers-owned : (y : Tally) (r : Bool) (o : List ℕ) → Answers y r o → r ≡ true → y ≡ owned o
@@ -39,7 +41,8 @@ refused-answers y o e = rw e refl
 
 -- Of `n` words, `i` are passed; one further.
 module _ (f : ℕ → ℕ → List ℕ → Tally) (n k j i : ℕ) (o : List ℕ) (b : i < n) where
-  through-next : through f (n - i) (k + i) (j + i) o ≡ andThen (f (k + i) (j + i) o) (through f (n - (i + 1)) (k + (i + 1)) (j + (i + 1)))
+  through-next : through f (n - i) (k + i) (j + i) o ≡ andThen (f (k + i) (j + i) o)
+      (through f (n - (i + 1)) (k + (i + 1)) (j + (i + 1)))
   unfolding through
   through-next =
       let z : n - i ≡ suc (n - (i + 1)) = omega arith in
@@ -66,7 +69,8 @@ through-pass f n k j i o (suc m) b pass =
     through-pass f n k j i o m (omega arith) (λ e h. pass e (omega arith))
     ∙ (rw z at (through-step f n k j (i + m) o (omega arith) o (rw (x, y) (pass m (omega arith)))))
 
-pub through-start : (f : ℕ → ℕ → List ℕ → Tally) (n k j : ℕ) (o : List ℕ) → through f (n - 0) (k + 0) (j + 0) o ≡ through f n k j o
+pub through-start : (f : ℕ → ℕ → List ℕ → Tally) (n k j : ℕ) (o : List ℕ) → through f (n - 0) (k + 0) (j + 0) o
+    ≡ through f n k j o
 through-start f n k j o =
     let m : n - 0 ≡ n = omega arith in
     let x : k + 0 ≡ k = omega arith in
@@ -87,7 +91,8 @@ module _ (s : Shape) (p : List ℕ) where
   unfolding tableTally
   table-through zero t i o lo = absurd (omega arith)
   table-through (suc h) t i o lo =
-      ap (λ m. through (λ k j. enter (tableTally s p m) (decodeOf s (suc h) (words p k)) j) 1024 t (1024 * i) o) (sym (sub-one (suc h)))
+      ap (λ m. through (λ k j. enter (tableTally s p m) (decodeOf s (suc h) (words p k)) j) 1024 t (1024 * i) o)
+      (sym (sub-one (suc h)))
 
 -- An entry by what it decodes to.
 module _ (down : ℕ → ℕ → List ℕ → Tally) {e : Entry} (i : ℕ) (o : List ℕ) where
@@ -113,10 +118,12 @@ pub rights-pass : (s : Shape) (p : List ℕ) (h w i : ℕ) (o : List ℕ) → 0 
     → entryTally s p h w i o ≡ owned o
 rights-pass s p h w i o lo b g =
     let (low, high) = good-range w b g in
-    enter-rights (tableTally s p (h - 1)) i o (decode-rights s h w (λ z. omega arith) low ∙ ap (λ x. cond x (Rights w) Bad) g)
+    enter-rights (tableTally s p (h - 1)) i o
+    (decode-rights s h w (λ z. omega arith) low ∙ ap (λ x. cond x (Rights w) Bad) g)
 
 -- One root further; and once one is refused, so are all.
-pub roots-next : (s : Shape) (p : List ℕ) (n : ℕ) (o : List ℕ) → rootsTally s p n ≡ owned o → rootsTally s p (n + 1) ≡ tableTally s p 2 (1024 * n) n o
+pub roots-next : (s : Shape) (p : List ℕ) (n : ℕ) (o : List ℕ) → rootsTally s p n ≡ owned o → rootsTally s p (n + 1)
+    ≡ tableTally s p 2 (1024 * n) n o
 unfolding rootsTally
 roots-next s p n o e = rw add-one (ap (λ y. andThen y (tableTally s p 2 (1024 * n) n)) e)
 

@@ -18,13 +18,15 @@ pub record StandsAt (p : List ℕ) (s : Shape) (n i : ℕ) : Type 0 where
   pub table : old (words p) (placeHeight n) i ≡ true
   pub there : words p (entryOf (words p) (placeHeight n) i) ≡ placeWord s n
 
--- The owners of the places: of each place the number of the block whose table stands there, and none where no table does.
+-- The owners of the places: of each place the number of the block whose table stands there, and none where no table
+-- does.
 pub record Owners (p : List ℕ) (s : Shape) (o : List ℕ) : Type 0 where
   pub long : length o ≡ maxPlaces
   pub owns : (n i : ℕ) → n < maxPlaces → StandsAt p s n i → getD o n 0 ≡ i
   pub stands : (n : ℕ) → n < maxPlaces → (getD o n 0 ≡ none) ⊎ StandsAt p s n (getD o n 0)
 
--- The census answers true exactly where the pool is sound, and then leaves the owners; else what it leaves does not matter.
+-- The census answers true exactly where the pool is sound, and then leaves the owners; else what it leaves does not
+-- matter.
 pub record Census (p : List ℕ) (s : Shape) (r : Bool) (o : List ℕ) : Type 0 where
   pub sound : r ≡ true → SoundPool (formOf s) (words p)
   pub whole : SoundPool (formOf s) (words p) → r ≡ true

@@ -1,4 +1,5 @@
--- The places of a pool by number, as a decoded entry names them: the middle places from 0 on, the leaf places from 8 on.
+-- The places of a pool by number, as a decoded entry names them: the middle places from 0 on, the leaf places from 8
+-- on.
 use Prim.Native.Nat.{ℕ, zero, suc, _+_, _*_, _-_}
 use mathlib.Core.Path.{_≡_}
 use mathlib.Core.Bool.{true, cond}
@@ -24,7 +25,8 @@ firstNumber (suc h) = 0
 
 -- The pool word where place `n` begins.
 abbrev pub placeWord : Shape → ℕ → ℕ
-placeWord s n = cond (ltb n maxMiddles) (firstMiddle (s .domains) + 1024 * n) (firstLeaf (s .domains) (s .middles) + 64 * (n - maxMiddles))
+placeWord s n = cond (ltb n maxMiddles) (firstMiddle (s .domains) + 1024 * n)
+    (firstLeaf (s .domains) (s .middles) + 64 * (n - maxMiddles))
 
 -- Place `n` is in use: a word that the roots reach leads to it.
 abbrev pub InUse : List ℕ → Shape → ℕ → Type 0

@@ -1,5 +1,5 @@
--- The census as a program takes it: an entry is checked, and the table that it leads to, one level down, under the number of its block;
--- a place that has an owner already is refused a second.
+-- The census as a program takes it: an entry is checked, and the table that it leads to, one level down, under the
+-- number of its block; a place that has an owner already is refused a second.
 use Prim.Native.Nat.{ℕ, zero, suc, _+_, _*_, _-_, _<_}
 use mathlib.Core.Path.{_≡_}
 use mathlib.Core.Bool.{Bool, true, false, cond, not}
@@ -52,11 +52,12 @@ abbrev pub AllPlain : (ℕ → ℕ) → ℕ → ℕ → Type 0
 AllPlain P k n = (j : ℕ) → j < n → goodRights (P (k + j)) ≡ true
 
 module _ (s : Shape) (p : List ℕ) where
-  -- The table of a height that begins at `t`, of block `i` (a root is that of its domain): its entries are those of the blocks from `1024 * i` on.
-  -- In a leaf every value is good.
+  -- The table of a height that begins at `t`, of block `i` (a root is that of its domain): its entries are those of
+  -- the blocks from `1024 * i` on. In a leaf every value is good.
   unfoldable pub tableTally : ℕ → ℕ → ℕ → List ℕ → Tally
   tableTally zero t i o = owned o
-  tableTally (suc h) t i o = through (λ k j. enter (tableTally h) (decodeOf s (suc h) (words p k)) j) 1024 t (1024 * i) o
+  tableTally (suc h) t i o = through (λ k j. enter (tableTally h) (decodeOf s (suc h) (words p k)) j) 1024 t
+      (1024 * i) o
 
   -- The word `w` as the entry of the height `h` of block `i`.
   abbrev pub entryTally : ℕ → ℕ → ℕ → List ℕ → Tally

@@ -22,7 +22,8 @@ use Rattle.plan.specs.Plan.{isLead, isNew, InTable, tableOf, rootAfter, pageAft
 use Rattle.plan.specs.Goals.{Planned}
 use Rattle.change.specs.Runs.{phases, At}
 use Rattle.change.specs.declared.ahead.Span.{Span}
-use Rattle.change.specs.Ahead.{Ahead, Outside, Untouched, RootIdle, MiddleIdle, LeafIdle, NotNew, KeptIdle, NewIdle, Idle, PagesBefore}
+use Rattle.change.specs.Ahead.{Ahead, Outside, Untouched, RootIdle, MiddleIdle, LeafIdle, NotNew, KeptIdle}
+use Rattle.change.specs.Ahead.{NewIdle, Idle, PagesBefore}
 use Rattle.change.proofs.TableLaws.{in-within, table-within}
 use Rattle.change.proofs.StateLaws.{at-pass}
 
@@ -35,7 +36,8 @@ pub ahead-all : {k : ℕ} {best : Span} {A : ℕ → Type 0} → k ≤ best .fro
 ahead-all h f = record { from = h; upto = omega arith; some = inr refl; passed = λ j lo hi. f j }
 
 -- One more table was looked at.
-pub ahead-both : {k : ℕ} {best mid r : Span} {A B : ℕ → Type 0} → Ahead k best A mid → Ahead k mid B r → Ahead k best (λ j. A j × B j) r
+pub ahead-both : {k : ℕ} {best mid r : Span} {A B : ℕ → Type 0} → Ahead k best A mid → Ahead k mid B r
+    → Ahead k best (λ j. A j × B j) r
 ahead-both {best = best} {r = r} a b =
     let u = a .upto in
     let v = b .upto in
@@ -55,13 +57,15 @@ module _ (i f l : ℕ) (fl : f ≤ l) (out : (i < f) ⊎ (l < i)) where
   not-last = ne-eqb i l (⊎-elim (λ h e. omega arith) (λ h e. omega arith) out)
 
   not-between : (ltb f i && ltb i l) ≡ false
-  not-between = ⊎-elim (λ h. rw (le-ltb f i (omega arith)) refl) (λ h. rw (le-ltb i l (omega arith)) (none (ltb f i))) out
+  not-between = ⊎-elim (λ h. rw (le-ltb f i (omega arith)) refl) (λ h. rw (le-ltb i l (omega arith)) (none (ltb f i)))
+      out
     where
       none : (b : Bool) → (b && false) ≡ false
       none true = refl
       none false = refl
 
-pub root-outside : (q : Plan) → PlanFits q → (j : ℕ) → Outside (1024 * q .domain + q .«first_block» .number) (1024 * q .domain + q .«last_block» .number + 1) j
+pub root-outside : (q : Plan) → PlanFits q → (j : ℕ) → Outside (1024 * q .domain + q .«first_block» .number)
+    (1024 * q .domain + q .«last_block» .number + 1) j
     → RootIdle q j
 root-outside q r j o e x =
     let (lo, hi) = in-within (1024 * q .domain) 1024 j e in
@@ -69,10 +73,15 @@ root-outside q r j o e x =
     let out : (i < q .«first_block» .number) ⊎ (q .«last_block» .number < i) = side lo in
     rw (not-first i _ _ (r .blocks) out, not-last i _ _ (r .blocks) out, not-between i _ _ (r .blocks) out) refl
   where
-    side : 1024 * q .domain ≤ j → (j - 1024 * q .domain < q .«first_block» .number) ⊎ (q .«last_block» .number < j - 1024 * q .domain)
+    side : 1024 * q .domain ≤ j → (j - 1024 * q .domain < q .«first_block» .number)
+        ⊎ (q .«last_block» .number < j - 1024 * q .domain)
     side lo = elim (decLt (j - 1024 * q .domain) (q .«first_block» .number)) [
       | yes h ↦ inl h
-      | no h ↦ elim (decLt (q .«last_block» .number) (j - 1024 * q .domain)) [ yes g ↦ inr g | no g ↦ absurd (o (omega arith) (omega arith)) ]
+      | no h ↦ elim (decLt (q .«last_block» .number) (j - 1024 * q .domain)) [
+        | yes g ↦ inr g
+        | no g ↦ absurd
+            (o (omega arith) (omega arith))
+      ]
     ]
 
 -- An edge without a table has no words.
@@ -83,16 +92,24 @@ pub table-outside : (e : Edge) (n j : ℕ) → Outside (e .last) (e .last + n) j
 table-outside e n j o z = let (lo, hi) = table-within e n j z in o lo hi
 
 pub middle-outside : (q : Plan) → PlanFits q → (e : Edge) (first past j : ℕ) → e .old < 2147483648
-    → PagesBefore (1024 * e .number) (q .«first_page» .number) first → PagesBefore (1024 * e .number) (q .«last_page» .number + 1) past
+    → PagesBefore (1024 * e .number) (q .«first_page» .number) first → PagesBefore (1024 * e .number)
+    (q .«last_page» .number + 1) past
     → Outside (e .last + first) (e .last + past) j → MiddleIdle q e j
 middle-outside q r e first past j h a b o y z x =
     let (lo, hi) = table-within e 1024 j z in
     let i = 1024 * e .number + (j - e .last) in
     let out : (i < q .«first_page» .number) ⊎ (q .«last_page» .number < i) = side lo hi in
-    rw (not-first i _ _ (r .pages) out, not-last i _ _ (r .pages) out, not-between i _ _ (r .pages) out, lt-ltb (e .old) 2147483648 h) refl
+    rw (
+      not-first i _ _ (r .pages) out,
+      not-last i _ _ (r .pages) out,
+      not-between i _ _ (r .pages) out,
+      lt-ltb
+          (e .old) 2147483648 h,
+    ) refl
   where
     side : e .last ≤ j → j < e .last + 1024
-        → (1024 * e .number + (j - e .last) < q .«first_page» .number) ⊎ (q .«last_page» .number < 1024 * e .number + (j - e .last))
+        → (1024 * e .number + (j - e .last) < q .«first_page» .number)
+        ⊎ (q .«last_page» .number < 1024 * e .number + (j - e .last))
     side lo hi = elim (decLt (j - e .last) first) [
       | yes g ↦ inl (a .before (j - e .last) g)
       | no g ↦ elim (decLt (j - e .last) past) [
@@ -125,7 +142,8 @@ fourth-of false false false true e = refl
 fourth-of false false false false e = absurd (false≢true e)
 
 -- An edge's table that is not one that stays is new.
-table-new : (e : Edge) (n j : ℕ) → tableOf e n j ≡ true → isLead (e .old) ≡ false → (isNew e && InTable (e .last) n j) ≡ true
+table-new : (e : Edge) (n j : ℕ) → tableOf e n j ≡ true → isLead (e .old) ≡ false → (isNew e && InTable (e .last) n j)
+    ≡ true
 table-new e n j z f = let (a, b) = and-both (isLead (e .last)) (InTable (e .last) n j) z in rw (a, b, f) refl
 
 -- An edge without a table, one whose table stays, and words outside a new table.
@@ -141,12 +159,14 @@ new-kept e n h j = rw (lt-ltb (e .old) 2147483648 h) (none (isLead (e .last)))
 
 pub new-outside : (e : Edge) (n j : ℕ) → Outside (e .last) (e .last + n) j → NotNew e n j
 new-outside e n j o = by-cases (isNew e && InTable (e .last) n j)
-    (λ t. absurd (let (a, b) = and-both (isNew e) (InTable (e .last) n j) t in let (lo, hi) = in-within (e .last) n j b in o lo hi))
+    (λ t. absurd (let (a, b) = and-both (isNew e) (InTable (e .last) n j) t in let (lo, hi) = in-within (e .last) n j
+    b in o lo hi))
     (λ f. f)
 
 module _ (q : Plan) (j : ℕ) where
   -- A word that is idle in each table that stays is idle among the words that stay in place.
-  pub kept-idle : RootIdle q j → MiddleIdle q (q .«first_block») j → MiddleIdle q (q .«last_block») j → LeafIdle (q .«first_page») j
+  pub kept-idle : RootIdle q j → MiddleIdle q (q .«first_block») j → MiddleIdle q (q .«last_block») j
+      → LeafIdle (q .«first_page») j
       → LeafIdle (q .«last_page») j → KeptIdle q j
   unfolding after newWord
   kept-idle a b c d e = by-cases (InTable (1024 * q .domain) 1024 j)
@@ -158,7 +178,8 @@ module _ (q : Plan) (j : ℕ) where
       (λ g. by-cases (tableOf (q .«last_block») 1024 j)
       (λ t. by-cases (isLead (q .«last_block» .old))
       (λ l. inl (λ x. rw (f, g, t) (c l t x)))
-      (λ n. inr (second-of (isNew (q .«first_block») && InTable (q .«first_block» .last) 1024 j) _ _ _ (table-new (q .«last_block») 1024 j t n))))
+      (λ n. inr (second-of (isNew (q .«first_block») && InTable (q .«first_block» .last) 1024 j) _ _ _
+      (table-new (q .«last_block») 1024 j t n))))
       (λ h. by-cases (tableOf (q .«first_page») 64 j)
       (λ t. by-cases (isLead (q .«first_page» .old))
       (λ l. absurd (d l t))
@@ -168,27 +189,33 @@ module _ (q : Plan) (j : ℕ) where
       (λ t. by-cases (isLead (q .«last_page» .old))
       (λ l. absurd (e l t))
       (λ n. inr (fourth-of (isNew (q .«first_block») && InTable (q .«first_block» .last) 1024 j)
-      (isNew (q .«last_block») && InTable (q .«last_block» .last) 1024 j) (isNew (q .«first_page») && InTable (q .«first_page» .last) 64 j) _
+      (isNew (q .«last_block») && InTable (q .«last_block» .last) 1024 j)
+      (isNew (q .«first_page») && InTable (q .«first_page» .last) 64 j) _
       (table-new (q .«last_page») 64 j t n))))
       (λ l. inl (λ x. rw (f, g, h, k, l) refl))))))
 
   -- A word that is of none of the four is of no new table.
-  pub new-idle : NotNew (q .«first_block») 1024 j → NotNew (q .«last_block») 1024 j → NotNew (q .«first_page») 64 j → NotNew (q .«last_page») 64 j
+  pub new-idle : NotNew (q .«first_block») 1024 j → NotNew (q .«last_block») 1024 j → NotNew (q .«first_page») 64 j
+      → NotNew (q .«last_page») 64 j
       → NewIdle q j
   unfolding newWord
   new-idle a b c d = rw (a, b, c, d) refl
 
 -- A run passes over words that are idle in its phase.
-pub at-ahead : {s : Shape} {d : ℕ} {paint : Paint} {q : Plan} {old : List ℕ} {Q : ℕ → ℕ} {kept : ℕ → Bool} {n c i k left : ℕ} {x : List ℕ}
-    → Planned s d paint q old Q kept → i ≤ k → ((j : ℕ) → i ≤ j → j < k → Idle q c j) → At s d paint old Q kept n c i x left
+pub at-ahead : {s : Shape} {d : ℕ} {paint : Paint} {q : Plan} {old : List ℕ} {Q : ℕ → ℕ} {kept : ℕ
+    → Bool} {n c i k left : ℕ} {x : List ℕ}
+    → Planned s d paint q old Q kept → i ≤ k → ((j : ℕ) → i ≤ j → j < k → Idle q c j)
+    → At s d paint old Q kept n c i x left
     → At s d paint old Q kept n c k x left
 at-ahead {s = s} {q = q} {old = old} {Q = Q} {kept = kept} {c = c} {i = i} {k = k} p h idle a = at-pass i k h passes a
   where
     other : (j : ℕ) → newWord q j ≡ not (eqb c 2) → j < length old → Q j ≢ words old j → phases s old kept j ≢ c
     other j e l m = by-phase (kept j) (sym (p .new j l m) ∙ e)
       where
-        by-phase : (b : Bool) → not b ≡ not (eqb c 2) → cond b (cond (leads (zone (s .domains) (s .middles) (s .leaves) j) (words old j)) 1 3) 2 ≢ c
-        by-phase true z y = one-or-three (leads (zone (s .domains) (s .middles) (s .leaves) j) (words old j)) (y ∙ eqb-true c 2 (not-false (eqb c 2) (sym z)))
+        by-phase : (b : Bool) → not b ≡ not (eqb c 2)
+            → cond b (cond (leads (zone (s .domains) (s .middles) (s .leaves) j) (words old j)) 1 3) 2 ≢ c
+        by-phase true z y = one-or-three (leads (zone (s .domains) (s .middles) (s .leaves) j) (words old j))
+            (y ∙ eqb-true c 2 (not-false (eqb c 2) (sym z)))
           where
             one-or-three : (b : Bool) → _≡_ {A = ℕ} (cond b 1 3) 2 → ⊥
             one-or-three true w = omega arith
@@ -197,7 +224,8 @@ at-ahead {s = s} {q = q} {old = old} {Q = Q} {kept = kept} {c = c} {i = i} {k = 
 
     passes : (j : ℕ) → i ≤ j → j < k → (Q j ≡ words old j) ⊎ (phases s old kept j ≢ c)
     passes j lo hi = elim (decLt j (length old)) [
-      | yes e ↦ ⊎-elim (λ z. inl (sym (p .final j e) ∙ z (words old j))) (λ z. elim (ℕ-discrete (Q j) (words old j)) [ yes g ↦ inl g | no g ↦ inr (other j z e g) ]) (idle j lo hi)
+      | yes e ↦ ⊎-elim (λ z. inl (sym (p .final j e) ∙ z (words old j)))
+          (λ z. elim (ℕ-discrete (Q j) (words old j)) [ yes g ↦ inl g | no g ↦ inr (other j z e g) ]) (idle j lo hi)
       | no e ↦ inl (p .goal .beyond j (omega arith))
     ]
 

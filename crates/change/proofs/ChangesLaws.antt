@@ -12,12 +12,14 @@ use Rattle.targets.specs.declared.Paint.{Paint}
 use Rattle.change.specs.declared.Answer.{Answer}
 use Rattle.change.specs.declared.Answer.the-variants.{Done, Refused}
 use Rattle.change.specs.Cuts.{differing}
-use Rattle.change.specs.Answers.{ChangesRegion, Changes, no-shape, no-domain, no-right, no-region, in-order, unsound, unsettled, no-room, done, cut}
+use Rattle.change.specs.Answers.{ChangesRegion, Changes, no-shape, no-domain, no-right, no-region, in-order}
+use Rattle.change.specs.Answers.{unsound, unsettled, no-room, done, cut}
 use Rattle.change.proofs.DoneLaws.{one-done, done-not-cut}
 use Rattle.change.proofs.ReachedLaws.{one-cut}
 use Rattle.change.proofs.TidiesLaws.{Agree}
 
-one-from-6 : {p : List ℕ} {s : Shape} {d : ℕ} {paint : Paint} {n : ℕ} {a b : Answer} {x y : List ℕ} → ChangesRegion p s d paint n a x
+one-from-6 : {p : List ℕ} {s : Shape} {d : ℕ} {paint : Paint} {n : ℕ} {a b : Answer} {x y : List ℕ}
+    → ChangesRegion p s d paint n a x
     → ChangesRegion p s d paint n b y → Agree a x b y
 one-from-6 (unsound f) (unsound g) = (refl, refl)
 one-from-6 (unsound f) (unsettled g h) = absurd (f g)
@@ -32,16 +34,20 @@ one-from-6 (unsettled f u) (cut g q h) = absurd (u g)
 one-from-6 (no-room f u) (unsound g) = absurd (g (f .sound))
 one-from-6 (no-room f u) (unsettled g h) = absurd (h f)
 one-from-6 (no-room f u) (no-room g h) = (refl, refl)
-one-from-6 {s = s} (no-room f u) (done g q h) = absurd (u (finished-fits (s .domains) (s .middles) (s .leaves) (h .finished)))
-one-from-6 {s = s} (no-room f u) (cut g q h) = absurd (u (finished-fits (s .domains) (s .middles) (s .leaves) (h .cut .finished)))
+one-from-6 {s = s} (no-room f u) (done g q h) = absurd
+    (u (finished-fits (s .domains) (s .middles) (s .leaves) (h .finished)))
+one-from-6 {s = s} (no-room f u) (cut g q h) = absurd
+    (u (finished-fits (s .domains) (s .middles) (s .leaves) (h .cut .finished)))
 one-from-6 (done f q h) (unsound g) = absurd (g (f .sound))
 one-from-6 (done f q h) (unsettled g k) = absurd (k f)
-one-from-6 {s = s} (done f q h) (no-room g k) = absurd (k (finished-fits (s .domains) (s .middles) (s .leaves) (h .finished)))
+one-from-6 {s = s} (done f q h) (no-room g k) = absurd
+    (k (finished-fits (s .domains) (s .middles) (s .leaves) (h .finished)))
 one-from-6 {p = p} (done f q h) (done g x k) = let z = one-done h k in (ap (λ y. Done (differing p y)) z, z)
 one-from-6 (done f q h) (cut g x k) = absurd (done-not-cut h k)
 one-from-6 (cut f q h) (unsound g) = absurd (g (f .sound))
 one-from-6 (cut f q h) (unsettled g k) = absurd (k f)
-one-from-6 {s = s} (cut f q h) (no-room g k) = absurd (k (finished-fits (s .domains) (s .middles) (s .leaves) (h .cut .finished)))
+one-from-6 {s = s} (cut f q h) (no-room g k) = absurd
+    (k (finished-fits (s .domains) (s .middles) (s .leaves) (h .cut .finished)))
 one-from-6 (cut f q h) (done g x k) = absurd (done-not-cut k h)
 one-from-6 (cut f q h) (cut g x k) = (refl, one-cut h k)
 
@@ -52,10 +58,12 @@ same-region start len e f = cc
 same-refusal : (start len : ℕ) {k m : ℕ} → regionOf start len ≡ NoRegion k → regionOf start len ≡ NoRegion m → k ≡ m
 same-refusal start len e f = cc
 
-pub not-both : (start len : ℕ) {g : Region} {k : ℕ} → regionOf start len ≡ Covers g → regionOf start len ≡ NoRegion k → ⊥
+pub not-both : (start len : ℕ) {g : Region} {k : ℕ} → regionOf start len ≡ Covers g → regionOf start len ≡ NoRegion k
+    → ⊥
 not-both start len e f = let z : _≡_ {A = ℕ} 0 1 = cc in omega arith
 
-pub one-change : {p : List ℕ} {s : Shape} {d start len r n : ℕ} {a b : Answer} {x y : List ℕ} → Changes p s d start len r n a x
+pub one-change : {p : List ℕ} {s : Shape} {d start len r n : ℕ} {a b : Answer} {x y : List ℕ}
+    → Changes p s d start len r n a x
     → Changes p s d start len r n b y → Agree a x b y
 one-change (no-shape f) (no-shape g) = (refl, refl)
 one-change (no-shape f) (no-domain g h) = absurd (f g)
@@ -75,12 +83,15 @@ one-change (no-right f h t) (in-order g u v) = let k = u .right in absurd (omega
 one-change (no-region f h t k e) (no-shape g) = absurd (g f)
 one-change (no-region f h t k e) (no-domain g l) = absurd (omega arith)
 one-change (no-region f h t k e) (no-right g l m) = absurd (omega arith)
-one-change {start = start} {len = len} (no-region f h t k e) (no-region g l m j z) = (ap Refused (same-refusal start len e z), refl)
-one-change {start = start} {len = len} (no-region f h t k e) (in-order g u v) = absurd (not-both start len (u .region) e)
+one-change {start = start} {len = len} (no-region f h t k e) (no-region g l m j z) =
+    (ap Refused (same-refusal start len e z), refl)
+one-change {start = start} {len = len} (no-region f h t k e) (in-order g u v) = absurd
+    (not-both start len (u .region) e)
 one-change (in-order g u v) (no-shape f) = absurd (f (u .fits))
 one-change (in-order g u v) (no-domain f h) = let k = u .domain in absurd (omega arith)
 one-change (in-order g u v) (no-right f h t) = let k = u .right in absurd (omega arith)
-one-change {start = start} {len = len} (in-order g u v) (no-region f h t k e) = absurd (not-both start len (u .region) e)
+one-change {start = start} {len = len} (in-order g u v) (no-region f h t k e) = absurd
+    (not-both start len (u .region) e)
 one-change {start = start} {len = len} (in-order g u v) (in-order h w z) =
     let e = same-region start len (w .region) (u .region) in
     one-from-6 v (rw e at z)

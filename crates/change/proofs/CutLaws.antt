@@ -57,18 +57,23 @@ module _ (s : Shape) (d : ℕ) (paint : Paint) {x : List ℕ} {k v : ℕ} (due :
   ]
 
   -- Elsewhere the right stays.
-  other : (e a : ℕ) → e < s .domains → a < addresses → (Covered d paint e a → ⊥) → rightOf (formOf s) (words after-it) e a ≡ rightOf (formOf s) (words x) e a
-  other e a be ba n = ⊎-elim (λ q. q) (λ q. q ∙ due .finished .rights e a be ba ∙ aims-other s d paint (words x) e a n) (safe .rights e a be ba)
+  other : (e a : ℕ) → e < s .domains → a < addresses → (Covered d paint e a → ⊥) → rightOf (formOf s) (words after-it)
+      e a ≡ rightOf (formOf s) (words x) e a
+  other e a be ba n = ⊎-elim (λ q. q) (λ q. q ∙ due .finished .rights e a be ba ∙ aims-other s d paint (words x) e a
+      n) (safe .rights e a be ba)
 
-  same-aims : (e a : ℕ) → e < s .domains → a < addresses → aims s d paint (words x) e a ≡ aims s d paint (words after-it) e a
+  same-aims : (e a : ℕ) → e < s .domains → a < addresses → aims s d paint (words x) e a
+      ≡ aims s d paint (words after-it) e a
   same-aims e a be ba = ⊎-elim
       (λ c. aims-covered s d paint (words x) e a c ∙ sym (aims-covered s d paint (words after-it) e a c))
-      (λ n. aims-other s d paint (words x) e a n ∙ sym (other e a be ba n) ∙ sym (aims-other s d paint (words after-it) e a n))
+      (λ n. aims-other s d paint (words x) e a n ∙ sym (other e a be ba n)
+      ∙ sym (aims-other s d paint (words after-it) e a n))
       (covered-or d paint e a)
 
   -- The change from after the store finishes where the change from before it did.
   pub due-again : Finished (formOf s) (words after-it) (aims s d paint (words after-it)) (due .goal)
-  due-again = finished-same (formOf s) _ _ _ same-aims (finished-stays (formOf s) (lawful _ _ _) (exact _ _ _) (due .sound) (due .finished) mixed word)
+  due-again = finished-same (formOf s) _ _ _ same-aims
+      (finished-stays (formOf s) (lawful _ _ _) (exact _ _ _) (due .sound) (due .finished) mixed word)
 
   pub put-cuts : (old : List ℕ) (n : ℕ) → CutAt s d paint old n x → CutAt s d paint old (n + 1) (set x k v)
   put-cuts old n c = record {
@@ -87,7 +92,8 @@ module _ (s : Shape) (d : ℕ) (paint : Paint) {x : List ℕ} {k v : ℕ} (due :
   }
     where
       same : (j : ℕ) → due .goal j ≡ c .goal j
-      same = one-finished (formOf s) (lawful _ _ _) (wanting _ _ _) (words x) (aims s d paint (words x)) (exact _ _ _) (due .finished) (c .again)
+      same = one-finished (formOf s) (lawful _ _ _) (wanting _ _ _) (words x) (aims s d paint (words x)) (exact _ _ _)
+          (due .finished) (c .again)
 
       was : words x k ≡ words old k
       was = ⊎-elim (λ q. q) (λ q. absurd (due .differs (q ∙ sym (same k) ∙ sym (due .value)))) (c .each k)

@@ -1,4 +1,5 @@
--- Every change and every tidying has an outcome: the run that goes from word to word and from phase to phase ends, finished or cut.
+-- Every change and every tidying has an outcome: the run that goes from word to word and from phase to phase ends,
+-- finished or cut.
 use Prim.Native.Nat.{ℕ, zero, suc, _+_, _≤_, _<_}
 use mathlib.Core.Path.{_≡_, refl, sym, ap, _∙_}
 use mathlib.Core.Logic.{_≢_, _⊎_, inl, inr, ⊎-elim}
@@ -29,7 +30,8 @@ use Rattle.plan.specs.Aims.{aims, Goal}
 use Rattle.change.specs.declared.Answer.{Answer}
 use Rattle.change.specs.Runs.{phases, At}
 use Rattle.change.specs.Answers.{noPaint, paintOf, IsDone, IsCut, ChangesRegion, Changes, Tidies}
-use Rattle.change.specs.Answers.{no-shape, no-domain, no-right, no-region, in-order, unsound, unsettled, no-room, done, cut}
+use Rattle.change.specs.Answers.{no-shape, no-domain, no-right, no-region, in-order, unsound, unsettled}
+use Rattle.change.specs.Answers.{no-room, done, cut}
 use Rattle.change.proofs.State.{at-skip, at-store, at-long}
 use Rattle.change.proofs.StateLaws.{at-begin, at-turn, at-end}
 use Rattle.change.proofs.OutcomeLaws.{outcome-done, outcome-cut}
@@ -53,7 +55,8 @@ module _ (s : Shape) (d : ℕ) (paint : Paint) (old : List ℕ) (Q : ℕ → ℕ
     ]
   ]
     where
-      stores : (l : ℕ) → At s d paint old Q kept n c k x l → Q k ≢ words x k → phases s old kept k ≡ c → Stands c (k + 1) ⊎ WasCut
+      stores : (l : ℕ) → At s d paint old Q kept n c k x l → Q k ≢ words x k → phases s old kept k ≡ c
+          → Stands c (k + 1) ⊎ WasCut
       stores zero b z y = inr (x, outcome-cut s d paint old Q kept n c k x b (let i = at-long b in omega arith) z)
       stores (suc l) b z y = inl (set x k (Q k), l, at-store b l (omega arith) (let i = at-long b in omega arith) z y)
 
@@ -64,11 +67,16 @@ module _ (s : Shape) (d : ℕ) (paint : Paint) (old : List ℕ) (Q : ℕ → ℕ
 
   next-phase : (c : ℕ) → Stands c 0 ⊎ WasCut → Stands (c + 1) 0 ⊎ WasCut
   next-phase c (inr w) = inr w
-  next-phase c (inl a) = ⊎-elim (λ (x, left, b). inl (x, left, at-turn c b)) inr (phase-ends c (length old) 0 (omega arith) a)
+  next-phase c (inl a) = ⊎-elim (λ (x, left, b). inl (x, left, at-turn c b)) inr
+      (phase-ends c (length old) 0 (omega arith) a)
 
   pub goal-ends : Goal s d paint old Q kept → ((q : List ℕ) × IsDone s d paint old n q) ⊎ WasCut
   goal-ends g = ⊎-elim
-      (λ (x, left, a). inl (x, outcome-done s d paint old Q kept x n left g (at-long a) (at-end (omega arith) a) (ap (λ t. left + t) (a .cut .count) ∙ a .sum)))
+      (λ (x, left, a). inl (
+        x,
+        outcome-done s d paint old Q kept x n left g (at-long a) (at-end (omega arith) a)
+            (ap (λ t. left + t) (a .cut .count) ∙ a .sum),
+      ))
       inr
       (next-phase 3 (next-phase 2 (next-phase 1 (inl (old, n, at-begin n g)))))
 
@@ -76,7 +84,8 @@ module _ (s : Shape) (d : ℕ) (paint : Paint) (old : List ℕ) (Q : ℕ → ℕ
 sound-or : (s : Shape) (P : ℕ → ℕ) → SoundPool (formOf s) P ⊎ (SoundPool (formOf s) P → ⊥)
 sound-or s P = go (rootsCheck (formOf s) P (s .domains) (λ x. false)) refl
   where
-    go : (r : Finding) → rootsCheck (formOf s) P (s .domains) (λ x. false) ≡ r → SoundPool (formOf s) P ⊎ (SoundPool (formOf s) P → ⊥)
+    go : (r : Finding) → rootsCheck (formOf s) P (s .domains) (λ x. false) ≡ r → SoundPool (formOf s) P
+        ⊎ (SoundPool (formOf s) P → ⊥)
     go refused e = inr (roots-check-refused (formOf s) (lawful _ _ _) P e)
     go (met u) e = inl (roots-check-sound (formOf s) (lawful _ _ _) P u e .sound)
 
@@ -134,7 +143,8 @@ region-ends p s d paint n f r = ⊎-elim
     (sound-or s (words p))
 
 -- .. and of any change.
-pub change-ends : (p : List ℕ) (s : Shape) (d start len r n : ℕ) → (a : Answer) × (q : List ℕ) × Changes p s d start len r n a q
+pub change-ends : (p : List ℕ) (s : Shape) (d start len r n : ℕ) → (a : Answer) × (q : List ℕ)
+    × Changes p s d start len r n a q
 change-ends p s d start len r n = by-cases (fitsOf s (length p))
     (λ e.
     let f = test-fits s (length p) e in

@@ -22,3 +22,4 @@ pub mod Witness
 pub mod EndLaws
 pub mod StoreListLaws
 pub mod SteerLaws
+pub mod AnswerLaws

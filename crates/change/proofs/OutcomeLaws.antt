@@ -24,7 +24,8 @@ use Rattle.change.proofs.DifferLaws.{differing-less}
 
 module _ (s : Shape) (d : ℕ) (paint : Paint) (old : List ℕ) where
   -- A pool that is the goal word by word is the finished one.
-  pub outcome-done : (Q : ℕ → ℕ) (kept : ℕ → Bool) (y : List ℕ) (n left : ℕ) → Goal s d paint old Q kept → length y ≡ length old
+  pub outcome-done : (Q : ℕ → ℕ) (kept : ℕ → Bool) (y : List ℕ) (n left : ℕ) → Goal s d paint old Q kept → length y
+      ≡ length old
       → ((j : ℕ) → words y j ≡ Q j) → left + differing old y ≡ n → IsDone s d paint old n y
   outcome-done Q kept y n left g l e c = record {
     finished = finished-words (formOf s) _ _ (λ j. sym (e j)) (g .finished);
@@ -33,13 +34,17 @@ module _ (s : Shape) (d : ℕ) (paint : Paint) (old : List ℕ) where
   }
 
   -- Every cut of the change has the same goal.
-  pub one-goal : {n : ℕ} {x : List ℕ} (Q : ℕ → ℕ) → Finished (formOf s) (words old) (aims s d paint (words old)) Q → (c : CutAt s d paint old n x)
+  pub one-goal : {n : ℕ} {x : List ℕ} (Q : ℕ → ℕ) → Finished (formOf s) (words old) (aims s d paint (words old)) Q
+      → (c : CutAt s d paint old n x)
       → (j : ℕ) → c .goal j ≡ Q j
-  one-goal Q f c = one-finished (formOf s) (lawful _ _ _) (wanting _ _ _) (words old) (aims s d paint (words old)) (exact _ _ _) (c .finished) f
+  one-goal Q f c = one-finished (formOf s) (lawful _ _ _) (wanting _ _ _) (words old) (aims s d paint (words old))
+      (exact _ _ _) (c .finished) f
 
   -- A run that stands before a word that is to change was cut.
-  cut-here : (Q : ℕ → ℕ) (kept : ℕ → Bool) (n c k : ℕ) (x : List ℕ) → Goal s d paint old Q kept → (cut : CutAt s d paint old n x)
-      → ((j : ℕ) → words x j ≡ midway (words old) Q (phases s old kept) c k j) → k < length x → Q k ≢ words x k → IsCut s d paint old n x
+  cut-here : (Q : ℕ → ℕ) (kept : ℕ → Bool) (n c k : ℕ) (x : List ℕ) → Goal s d paint old Q kept
+      → (cut : CutAt s d paint old n x)
+      → ((j : ℕ) → words x j ≡ midway (words old) Q (phases s old kept) c k j) → k < length x → Q k ≢ words x k
+      → IsCut s d paint old n x
   cut-here Q kept n c k x g cut pool h w =
       let same = one-goal Q (g .finished) cut in
       let e : cut .goal ≡ Q = fun-ext same in
@@ -51,7 +56,8 @@ module _ (s : Shape) (d : ℕ) (paint : Paint) (old : List ℕ) where
             (rw (cut .long) at h) (λ y. w (sym (same k) ∙ sym (z k) ∙ y)));
       }
 
-  pub outcome-cut : (Q : ℕ → ℕ) (kept : ℕ → Bool) (n c k : ℕ) (x : List ℕ) → At s d paint old Q kept n c k x 0 → k < length x → Q k ≢ words x k
+  pub outcome-cut : (Q : ℕ → ℕ) (kept : ℕ → Bool) (n c k : ℕ) (x : List ℕ) → At s d paint old Q kept n c k x 0
+      → k < length x → Q k ≢ words x k
       → IsCut s d paint old n x
   outcome-cut Q kept n c k x a h w =
       let z = a .sum in

@@ -1,4 +1,5 @@
--- Which words a cut has reached: with a smaller allowance none that a greater one leaves out, so that a cut, too, leaves one pool.
+-- Which words a cut has reached: with a smaller allowance none that a greater one leaves out, so that a cut, too,
+-- leaves one pool.
 use Prim.Native.Nat.{ℕ, _≤_, _<_}
 use mathlib.Core.Path.{_≡_, refl, sym, ap, _∙_, fun-ext}
 use mathlib.Core.Logic.{_≢_, _⊎_, inl, inr, ⊎-elim}
@@ -63,7 +64,8 @@ module _ (P Q ph : ℕ → ℕ) (j : ℕ) where
   -- A word that is done at a point is done at every later one.
   stays-done : (c k e m : ℕ) → Upto c k e m → (midway P Q ph c k j ≡ P j) ⊎ (midway P Q ph c k j ≡ midway P Q ph e m j)
   stays-done c k e m u = elim (decLt (ph j) c) [
-    | yes h ↦ inr (midway-new P Q ph c k j h ∙ sym (midway-new P Q ph e m j (⊎-elim (λ z. omega arith) (λ z. let y = z .0 in omega arith) u)))
+    | yes h ↦ inr (midway-new P Q ph c k j h
+        ∙ sym (midway-new P Q ph e m j (⊎-elim (λ z. omega arith) (λ z. let y = z .0 in omega arith) u)))
     | no h ↦ elim (decLt c (ph j)) [
       | yes g ↦ inl (midway-old P Q ph c k j g)
       | no g ↦ elim (decLt j k) [
@@ -82,20 +84,25 @@ one-test F {t = t} {u = u} a b j = by-cases (t j)
     (λ e. e ∙ sym (b .is _ j (a .are j e)))
     (λ e. by-cases (u j) (λ f. a .is _ j (b .are j f) ∙ sym f) (λ f. e ∙ sym f))
 
-way-among : {s : Shape} {old : List ℕ} {goal : ℕ → ℕ} {x y : List ℕ} (a : OnTheWay s old goal x) (b : OnTheWay s old goal y)
+way-among : {s : Shape} {old : List ℕ} {goal : ℕ → ℕ} {x y : List ℕ} (a : OnTheWay s old goal x)
+    (b : OnTheWay s old goal y)
     → Upto (a .phase-reached) (a .word-reached) (b .phase-reached) (b .word-reached) → Among old x y
 way-among {s} {old} {goal} {x} {y} a b u j =
     let e : a .kept ≡ b .kept = fun-ext (one-test (formOf s) (a .tells) (b .tells)) in
-    let here : words y j ≡ midway (words old) goal (phases s old (a .kept)) (b .phase-reached) (b .word-reached) j = rw e (b .is j) in
+    let here : words y j ≡ midway (words old) goal (phases s old (a .kept)) (b .phase-reached) (b .word-reached) j =
+    rw e (b .is j) in
     ⊎-elim (λ z. inl (a .is j ∙ z)) (λ z. inr (a .is j ∙ z ∙ sym here))
-    (stays-done (words old) goal (phases s old (a .kept)) j (a .phase-reached) (a .word-reached) (b .phase-reached) (b .word-reached) u)
+    (stays-done (words old) goal (phases s old (a .kept)) j (a .phase-reached) (a .word-reached) (b .phase-reached)
+    (b .word-reached) u)
 
-ways-among : {s : Shape} {old : List ℕ} {goal : ℕ → ℕ} {x y : List ℕ} → OnTheWay s old goal x → OnTheWay s old goal y → Among old x y ⊎ Among old y x
+ways-among : {s : Shape} {old : List ℕ} {goal : ℕ → ℕ} {x y : List ℕ} → OnTheWay s old goal x → OnTheWay s old goal y
+    → Among old x y ⊎ Among old y x
 ways-among a b = ⊎-elim (λ u. inl (way-among a b u)) (λ u. inr (way-among b a u))
     (upto-or (a .phase-reached) (a .word-reached) (b .phase-reached) (b .word-reached))
 
 -- Where no more words differ, being among them is being the same.
-among-same : (old x y : List ℕ) → length x ≡ length old → length y ≡ length old → Among old x y → differing old y ≤ differing old x → x ≡ y
+among-same : (old x y : List ℕ) → length x ≡ length old → length y ≡ length old → Among old x y
+    → differing old y ≤ differing old x → x ≡ y
 among-same old x y a b among h = ext-getD 0 x y (a ∙ sym b) (λ j i. elim (ℕ-discrete (words x j) (words y j)) [
   | yes e ↦ e
   | no e ↦ absurd (let z = differing-less old x y j a b among (rw a at i) (λ q. e (sym q)) in omega arith)
@@ -104,7 +111,8 @@ among-same old x y a b among h = ext-getD 0 x y (a ∙ sym b) (λ j i. elim (ℕ
 module _ {s : Shape} {d : ℕ} {paint : Paint} {old : List ℕ} {n m : ℕ} {x y : List ℕ} where
   cuts-among : IsCut s d paint old n x → IsCut s d paint old m y → Among old x y ⊎ Among old y x
   cuts-among a b =
-      let e : b .cut .goal ≡ a .cut .goal = fun-ext (one-goal s d paint old (a .cut .goal) (a .cut .finished) (b .cut)) in
+      let e : b .cut .goal ≡ a .cut .goal = fun-ext
+      (one-goal s d paint old (a .cut .goal) (a .cut .finished) (b .cut)) in
       ways-among (a .way) (rw e at (b .way))
 
   -- The words reached with an allowance are among those reached with a greater one, whether that is cut ..
@@ -120,12 +128,14 @@ module _ {s : Shape} {d : ℕ} {paint : Paint} {old : List ℕ} {n m : ℕ} {x y
   -- .. or suffices.
   pub reached-done : IsCut s d paint old n x → IsDone s d paint old m y → Among old x y
   reached-done a b j = ⊎-elim inl
-      (λ z. inr (z ∙ one-finished (formOf s) (lawful _ _ _) (wanting _ _ _) (words old) (aims s d paint (words old)) (exact _ _ _)
+      (λ z. inr (z ∙ one-finished (formOf s) (lawful _ _ _) (wanting _ _ _) (words old) (aims s d paint (words old))
+      (exact _ _ _)
       (a .cut .finished) (b .finished) j))
       (a .cut .each j)
 
 -- A cut leaves one pool.
-pub one-cut : {s : Shape} {d : ℕ} {paint : Paint} {old : List ℕ} {n : ℕ} {x y : List ℕ} → IsCut s d paint old n x → IsCut s d paint old n y → x ≡ y
+pub one-cut : {s : Shape} {d : ℕ} {paint : Paint} {old : List ℕ} {n : ℕ} {x y : List ℕ} → IsCut s d paint old n x
+    → IsCut s d paint old n y → x ≡ y
 one-cut {old = old} {x = x} {y = y} a b =
     let p = a .cut .count in
     let q = b .cut .count in

@@ -35,13 +35,15 @@ use Rattle.change.specs.Answers.{paintOf, Asked, ChangesRegion, Changes,
 use Rattle.change.specs.Requests.{RegionIs, RequestIs}
 use Rattle.change.specs.Runs.{Ready, Ends, all-made, cut-short}
 
-ready-for : (p : List ℕ) (s : Shape) (d : ℕ) (paint : Paint) (q : Plan) {G : ℕ → ℕ} {K : ℕ → Bool} → Fits s (length p) → PlanFits q
+ready-for : (p : List ℕ) (s : Shape) (d : ℕ) (paint : Paint) (q : Plan) {G : ℕ → ℕ} {K : ℕ → Bool} → Fits s (length p)
+    → PlanFits q
     → Planned s d paint q p G K → Ready s d paint (Change q) p
 ready-for p s d paint q {G} {K} f r pl =
     record { fits = f; goal = G; kept = K; aim = pl .goal; meant = pl; follows = (r, omega arith, omega arith) }
 
 -- A plan that is right at its edges is ready to be carried out.
-pub plan-ready : (p : List ℕ) (s : Shape) (d : ℕ) (paint : Paint) (q : Plan) → Fits s (length p) → Settled (formOf s) (words p) → d < s .domains → Regular paint
+pub plan-ready : (p : List ℕ) (s : Shape) (d : ℕ) (paint : Paint) (q : Plan) → Fits s (length p)
+    → Settled (formOf s) (words p) → d < s .domains → Regular paint
     → PlanReady s d paint (words p) q → Ready s d paint (Change q) p
 plan-ready p s d paint q f t bd g r =
     let e = r .edges in
@@ -58,41 +60,49 @@ plan-ready p s d paint q f t bd g r =
     })
     (planned s d paint p f t bd g (r .free-middle) (r .free-leaf) (r .middles) (r .leaves) q e)
 
-pub planning-ready : (p : List ℕ) (s : Shape) (d : ℕ) (paint : Paint) (r : Planning) (q : Plan) → PlansChange s d paint (words p) r → r ≡ Planned-as q
+pub planning-ready : (p : List ℕ) (s : Shape) (d : ℕ) (paint : Paint) (r : Planning) (q : Plan)
+    → PlansChange s d paint (words p) r → r ≡ Planned-as q
     → PlanReady s d paint (words p) q
 planning-ready p s d paint r q z e = rw e at z
 
-pub planning-none : (p : List ℕ) (s : Shape) (d : ℕ) (paint : Paint) (r : Planning) → PlansChange s d paint (words p) r → r ≡ NoRoom
+pub planning-none : (p : List ℕ) (s : Shape) (d : ℕ) (paint : Paint) (r : Planning) → PlansChange s d paint
+    (words p) r → r ≡ NoRoom
     → Room (s .domains) (s .middles) (s .leaves) (aims s d paint (words p)) → ⊥
 planning-none p s d paint r z e = rw e at z
 
 -- The request of a region that is in order.
-pub request-is : (p : List ℕ) (s : Shape) (d start len r : ℕ) {g : Region} (q : Request) → Asked p s d start len r g → RegionIs p s d (paintOf g r) q
+pub request-is : (p : List ℕ) (s : Shape) (d start len r : ℕ) {g : Region} (q : Request) → Asked p s d start len r g
+    → RegionIs p s d (paintOf g r) q
     → RequestIs p s d start len r q
 request-is p s d start len r {g} (Refused k) a f = λ n. in-order g a (f n)
 request-is p s d start len r {g} (Known q) a (t, y) = (g, a, t, y)
 
 -- What the end of the loop says of the change.
-pub region-answers : {s : Shape} {d : ℕ} {paint : Paint} {p : List ℕ} {n : ℕ} {a : Answer} {y : List ℕ} → Settled (formOf s) (words p)
+pub region-answers : {s : Shape} {d : ℕ} {paint : Paint} {p : List ℕ} {n : ℕ} {a : Answer} {y : List ℕ}
+    → Settled (formOf s) (words p)
     → Ends p s d paint n a y → ChangesRegion p s d paint n a y
 region-answers t (all-made q d) = done t q d
 region-answers t (cut-short x c) = cut t x c
 
 -- A request that was refused, and one that was planned.
 module _ {p : List ℕ} {s : Shape} {d start len r : ℕ} where
-  pub request-refused : {q : Request} {k : ℕ} → RequestIs p s d start len r q → q ≡ Refused k → (n : ℕ) → Changes p s d start len r n (No k) p
+  pub request-refused : {q : Request} {k : ℕ} → RequestIs p s d start len r q → q ≡ Refused k → (n : ℕ)
+      → Changes p s d start len r n (No k) p
   request-refused f e = rw e at f
 
-  pub request-planned : {t : Request} {q : Plan} → RequestIs p s d start len r t → t ≡ Known q → RequestIs p s d start len r (Known q)
+  pub request-planned : {t : Request} {q : Plan} → RequestIs p s d start len r t → t ≡ Known q
+      → RequestIs p s d start len r (Known q)
   request-planned f e = rw e at f
 
   pub request-ready : {q : Plan} → RequestIs p s d start len r (Known q) → Ready s d (q .paint) (Change q) p
   request-ready {q} (g, a, t, y) = subst (λ (z : Paint). Ready s d z (Change q) p) (sym (y .meant .for-paint)) y
 
-  pub request-answers : {q : Plan} {n : ℕ} {a : Answer} {y : List ℕ} → RequestIs p s d start len r (Known q) → Ends p s d (q .paint) n a y
+  pub request-answers : {q : Plan} {n : ℕ} {a : Answer} {y : List ℕ} → RequestIs p s d start len r (Known q)
+      → Ends p s d (q .paint) n a y
       → Changes p s d start len r n a y
   request-answers (g, a, t, y) e = in-order g a (region-answers t (rw (y .meant .for-paint) at e))
 
 -- A region that was rounded may be changed.
 pub covers-regular : (start len r : ℕ) (g : Region) → r ≤ 3 → regionOf start len ≡ Covers g → Regular (paintOf g r)
-covers-regular start len r g h e = let c = region-covering start len g e in record { some = c .some; below = c .below; right = omega arith }
+covers-regular start len r g h e = let c = region-covering start len g e in
+    record { some = c .some; below = c .below; right = omega arith }

@@ -33,7 +33,8 @@ use Rattle.change.proofs.CutLaws.{put-cuts}
 use Rattle.plan.specs.Goals.{Planned}
 use Rattle.change.specs.Runs.{phases, At}
 
-module _ {s : Shape} {d : ℕ} {paint : Paint} {old : List ℕ} {Q : ℕ → ℕ} {kept : ℕ → Bool} {n c k : ℕ} {x : List ℕ} {left : ℕ}
+module _ {s : Shape} {d : ℕ} {paint : Paint} {old : List ℕ} {Q : ℕ → ℕ} {kept : ℕ
+    → Bool} {n c k : ℕ} {x : List ℕ} {left : ℕ}
     (a : At s d paint old Q kept n c k x left) where
   abbrev P : ℕ → ℕ
   P = words old
@@ -81,7 +82,8 @@ module _ {s : Shape} {d : ℕ} {paint : Paint} {old : List ℕ} {Q : ℕ → ℕ
       whole = fun-ext (a .pool)
 
       same : (j : ℕ) → a .cut .goal j ≡ Q j
-      same = one-finished (formOf s) (lawful _ _ _) (wanting _ _ _) P (aims s d paint P) (exact _ _ _) (a .cut .finished) (a .goal .finished)
+      same = one-finished (formOf s) (lawful _ _ _) (wanting _ _ _) P (aims s d paint P) (exact _ _ _)
+          (a .cut .finished) (a .goal .finished)
 
   -- What a plan says of the word.
   module _ {q : Plan} (p : Planned s d paint q old Q kept) (h : k < length x) where
@@ -96,25 +98,34 @@ module _ {s : Shape} {d : ℕ} {paint : Paint} {old : List ℕ} {Q : ℕ → ℕ
     pub at-phase : Q k ≢ words x k → phaseOf s q k (words x k) ≡ ph k
     at-phase m = rw (here-was m, p .new k (rw at-long at h) (λ e. m (e ∙ sym (here-was m)))) (go (kept k))
       where
-        zone-test : (ltb k (firstLeaf (s .domains) (s .middles)) && isLead (P k)) ≡ leads (zone (s .domains) (s .middles) (s .leaves) k) (P k)
+        zone-test : (ltb k (firstLeaf (s .domains) (s .middles)) && isLead (P k))
+            ≡ leads (zone (s .domains) (s .middles) (s .leaves) k) (P k)
         zone-test = by-cases (ltb k (firstMiddle (s .domains)))
-            (λ e. rw (e, lt-ltb k (firstLeaf (s .domains) (s .middles)) (let z = ltb-true k (firstMiddle (s .domains)) e in omega arith)) refl)
+            (λ e. rw (
+              e,
+              lt-ltb k (firstLeaf (s .domains) (s .middles))
+                  (let z = ltb-true k (firstMiddle (s .domains)) e in omega arith),
+            ) refl)
             (λ e. rw e (by-cases (ltb k (firstLeaf (s .domains) (s .middles))) (λ f. rw f refl) (λ f. rw f refl)))
 
-        go : (b : Bool) → _≡_ {A = ℕ} (cond (not b) 2 (cond (ltb k (firstLeaf (s .domains) (s .middles)) && isLead (P k)) 1 3))
+        go : (b : Bool) → _≡_ {A = ℕ} (cond (not b) 2
+            (cond (ltb k (firstLeaf (s .domains) (s .middles)) && isLead (P k)) 1 3))
             (cond b (cond (leads (zone (s .domains) (s .middles) (s .leaves) k) (P k)) 1 3) 2)
         go true = rw zone-test refl
         go false = refl
 
 -- From word to word.
-module _ {s : Shape} {d : ℕ} {paint : Paint} {old : List ℕ} {Q : ℕ → ℕ} {kept : ℕ → Bool} {n c k : ℕ} {x : List ℕ} {left : ℕ}
+module _ {s : Shape} {d : ℕ} {paint : Paint} {old : List ℕ} {Q : ℕ → ℕ} {kept : ℕ
+    → Bool} {n c k : ℕ} {x : List ℕ} {left : ℕ}
     (a : At s d paint old Q kept n c k x left) where
   -- Off word `k`, and at it where it does not change in this phase, nothing changes.
-  beside : (j : ℕ) → j ≢ k → midway (words old) Q (phases s old kept) c (k + 1) j ≡ midway (words old) Q (phases s old kept) c k j
-  beside j e = ap (λ b. cond (ltb (phases s old kept j) c || (eqb (phases s old kept j) c && b)) (Q j) (words old j)) (elim (decLt j k) [
-    | yes z ↦ lt-ltb j (k + 1) (omega arith) ∙ sym (lt-ltb j k z)
-    | no z ↦ le-ltb j (k + 1) (omega arith) ∙ sym (le-ltb j k (omega arith))
-  ])
+  beside : (j : ℕ) → j ≢ k → midway (words old) Q (phases s old kept) c (k + 1) j ≡ midway (words old) Q
+      (phases s old kept) c k j
+  beside j e = ap (λ b. cond (ltb (phases s old kept j) c || (eqb (phases s old kept j) c && b)) (Q j) (words old j))
+      (elim (decLt j k) [
+        | yes z ↦ lt-ltb j (k + 1) (omega arith) ∙ sym (lt-ltb j k z)
+        | no z ↦ le-ltb j (k + 1) (omega arith) ∙ sym (le-ltb j k (omega arith))
+      ])
 
   -- Once a word of this phase is passed, its finished value counts.
   passed : phases s old kept k ≡ c → midway (words old) Q (phases s old kept) c (k + 1) k ≡ Q k
@@ -137,7 +148,8 @@ module _ {s : Shape} {d : ℕ} {paint : Paint} {old : List ℕ} {Q : ℕ → ℕ
     cut = a .cut;
   }
     where
-      same : phases s old kept k ≢ c → midway (words old) Q (phases s old kept) c (k + 1) k ≡ midway (words old) Q (phases s old kept) c k k
+      same : phases s old kept k ≢ c → midway (words old) Q (phases s old kept) c (k + 1) k ≡ midway (words old) Q
+          (phases s old kept) c k k
       same e = rw (ne-eqb (phases s old kept k) c e) refl
 
       here : midway (words old) Q (phases s old kept) c (k + 1) k ≡ midway (words old) Q (phases s old kept) c k k

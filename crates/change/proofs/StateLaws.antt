@@ -21,7 +21,8 @@ use Rattle.plan.specs.Aims.{Goal}
 use Rattle.change.specs.Runs.{phases, At}
 
 -- The phases are 1, 2 and 3.
-phase-range : (s : Shape) (old : List ℕ) (kept : ℕ → Bool) (j : ℕ) → (1 ≤ phases s old kept j) × (phases s old kept j < 4)
+phase-range : (s : Shape) (old : List ℕ) (kept : ℕ → Bool) (j : ℕ) → (1 ≤ phases s old kept j)
+    × (phases s old kept j < 4)
 phase-range s old kept j = go (kept j) (leads (zone (s .domains) (s .middles) (s .leaves) j) (words old j))
   where
     go : (a b : Bool) → (1 ≤ cond a (cond b 1 3) 2) × (cond a (cond b 1 3) 2 < 4)
@@ -30,7 +31,8 @@ phase-range s old kept j = go (kept j) (leads (zone (s .domains) (s .middles) (s
     go false b = (omega arith, omega arith)
 
 -- Before the first store the pool is what a cut after no store leaves.
-pub cut-none : (s : Shape) (d : ℕ) (paint : Paint) (old : List ℕ) (Q : ℕ → ℕ) (kept : ℕ → Bool) → Goal s d paint old Q kept → CutAt s d paint old 0 old
+pub cut-none : (s : Shape) (d : ℕ) (paint : Paint) (old : List ℕ) (Q : ℕ → ℕ) (kept : ℕ → Bool)
+    → Goal s d paint old Q kept → CutAt s d paint old 0 old
 cut-none s d paint old Q kept p = record {
   goal = Q;
   finished = p .finished;
@@ -43,11 +45,13 @@ cut-none s d paint old Q kept p = record {
   again = p .finished;
 }
 
-pub at-begin : {s : Shape} {d : ℕ} {paint : Paint} {old : List ℕ} {Q : ℕ → ℕ} {kept : ℕ → Bool} (n : ℕ) → Goal s d paint old Q kept
+pub at-begin : {s : Shape} {d : ℕ} {paint : Paint} {old : List ℕ} {Q : ℕ → ℕ} {kept : ℕ → Bool} (n : ℕ)
+    → Goal s d paint old Q kept
     → At s d paint old Q kept n 1 0 old n
 at-begin {s} {d} {paint} {old} {Q} {kept} n p = record {
   goal = p;
-  pool = λ j. sym (rw (le-ltb (phases s old kept j) 1 (phase-range s old kept j .0), le-ltb j 0 (omega arith)) (go j (eqb (phases s old kept j) 1)));
+  pool = λ j. sym (rw (le-ltb (phases s old kept j) 1 (phase-range s old kept j .0), le-ltb j 0 (omega arith))
+      (go j (eqb (phases s old kept j) 1)));
   done = 0;
   sum = omega arith;
   cut = cut-none s d paint old Q kept p;
@@ -64,9 +68,11 @@ same u v z true false = z
 same u v z false true = sym z
 same u v z false false = refl
 
-module _ {s : Shape} {d : ℕ} {paint : Paint} {old : List ℕ} {Q : ℕ → ℕ} {kept : ℕ → Bool} {n : ℕ} {x : List ℕ} {left : ℕ} where
+module _ {s : Shape} {d : ℕ} {paint : Paint} {old : List ℕ} {Q : ℕ → ℕ} {kept : ℕ
+    → Bool} {n : ℕ} {x : List ℕ} {left : ℕ} where
   -- Words that are to stay, or are of another phase, are passed over in one step.
-  pub at-pass : {c : ℕ} (i k : ℕ) → i ≤ k → ((j : ℕ) → i ≤ j → j < k → (Q j ≡ words old j) ⊎ (phases s old kept j ≢ c)) → At s d paint old Q kept n c i x left
+  pub at-pass : {c : ℕ} (i k : ℕ) → i ≤ k →
+      ((j : ℕ) → i ≤ j → j < k → (Q j ≡ words old j) ⊎ (phases s old kept j ≢ c)) → At s d paint old Q kept n c i x left
       → At s d paint old Q kept n c k x left
   at-pass {c} i k lo idle a = record {
     goal = a .goal;
@@ -88,7 +94,8 @@ module _ {s : Shape} {d : ℕ} {paint : Paint} {old : List ℕ} {Q : ℕ → ℕ
       test : ℕ → Bool → ℕ
       test j b = cond (ltb (phases s old kept j) c || (eqb (phases s old kept j) c && b)) (Q j) (words old j)
 
-  pub at-jump : {c : ℕ} (i k : ℕ) → i ≤ k → ((j : ℕ) → i ≤ j → j < k → Q j ≡ words old j) → At s d paint old Q kept n c i x left
+  pub at-jump : {c : ℕ} (i k : ℕ) → i ≤ k → ((j : ℕ) → i ≤ j → j < k → Q j ≡ words old j)
+      → At s d paint old Q kept n c i x left
       → At s d paint old Q kept n c k x left
   at-jump i k lo stays = at-pass i k lo (λ j a b. inl (stays j a b))
 
@@ -98,7 +105,8 @@ module _ {s : Shape} {d : ℕ} {paint : Paint} {old : List ℕ} {Q : ℕ → ℕ
     goal = a .goal;
     pool = λ j. a .pool j ∙ elim (decLt j (length old)) [
       | yes e ↦ ap (λ b. cond b (Q j) (words old j)) (inside j e)
-      | no e ↦ same (Q j) (words old j) (a .goal .beyond j (omega arith)) (ltb (phases s old kept j) c || (eqb (phases s old kept j) c && ltb j (length old)))
+      | no e ↦ same (Q j) (words old j) (a .goal .beyond j (omega arith))
+          (ltb (phases s old kept j) c || (eqb (phases s old kept j) c && ltb j (length old)))
           (ltb (phases s old kept j) (c + 1) || (eqb (phases s old kept j) (c + 1) && ltb j 0))
     ];
     done = a .done;
@@ -106,13 +114,27 @@ module _ {s : Shape} {d : ℕ} {paint : Paint} {old : List ℕ} {Q : ℕ → ℕ
     cut = a .cut;
   }
     where
-      inside : (j : ℕ) → j < length old → (ltb (phases s old kept j) c || (eqb (phases s old kept j) c && ltb j (length old)))
+      inside : (j : ℕ) → j < length old → (ltb (phases s old kept j) c ||
+          (eqb (phases s old kept j) c && ltb j (length old)))
           ≡ (ltb (phases s old kept j) (c + 1) || (eqb (phases s old kept j) (c + 1) && ltb j 0))
       inside j e = elim (decLt (phases s old kept j) c) [
         | yes f ↦ rw (lt-ltb (phases s old kept j) c f, lt-ltb (phases s old kept j) (c + 1) (omega arith)) refl
         | no f ↦ elim (ℕ-discrete (phases s old kept j) c) [
-          | yes g ↦ rw (le-ltb (phases s old kept j) c (omega arith), eq-eqb (phases s old kept j) c g, lt-ltb j (length old) e, lt-ltb (phases s old kept j) (c + 1) (omega arith)) refl
-          | no g ↦ rw (le-ltb (phases s old kept j) c (omega arith), ne-eqb (phases s old kept j) c g, le-ltb (phases s old kept j) (c + 1) (omega arith), le-ltb j 0 (omega arith)) (last (eqb (phases s old kept j) (c + 1)))
+          | yes g ↦ rw (
+            le-ltb (phases s old kept j) c (omega arith),
+            eq-eqb (phases s old kept j) c g,
+            lt-ltb j
+                (length old) e,
+            lt-ltb (phases s old kept j) (c + 1) (omega arith),
+          ) refl
+          | no g ↦ rw (
+            le-ltb (phases s old kept j) c (omega arith),
+            ne-eqb (phases s old kept j) c g,
+            le-ltb
+                (phases s old kept j) (c + 1) (omega arith),
+            le-ltb j 0 (omega arith),
+          )
+              (last (eqb (phases s old kept j) (c + 1)))
         ]
       ]
         where
@@ -122,4 +144,5 @@ module _ {s : Shape} {d : ℕ} {paint : Paint} {old : List ℕ} {Q : ℕ → ℕ
 
   -- Past the last phase the pool is the finished one.
   pub at-end : {c k : ℕ} → 4 ≤ c → At s d paint old Q kept n c k x left → (j : ℕ) → words x j ≡ Q j
-  at-end {c} {k} h a j = a .pool j ∙ midway-new (words old) Q (phases s old kept) c k j (let z = phase-range s old kept j .1 in omega arith)
+  at-end {c} {k} h a j = a .pool j ∙ midway-new (words old) Q (phases s old kept) c k j
+      (let z = phase-range s old kept j .1 in omega arith)

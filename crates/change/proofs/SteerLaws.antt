@@ -1,4 +1,5 @@
--- The allowance never steers: each request has one list of stores, and whatever the allowance is, the first of them are made.
+-- The allowance never steers: each request has one list of stores, and whatever the allowance is, the first of them
+-- are made.
 use Prim.Native.Nat.{ℕ, _+_, _-_, _≤_, _<_}
 use mathlib.Core.Path.{_≡_, refl, sym, ap, _∙_, fun-ext}
 use mathlib.Core.Logic.{_⊎_, inl, inr, ⊎-elim}
@@ -26,7 +27,8 @@ use Rattle.change.specs.declared.Answer.the-variants.{Done, Cut, Refused
 use Rattle.change.specs.Cuts.{differing, CutAt}
 use Rattle.change.specs.Runs.{phases, At}
 use Rattle.change.specs.Answers.{noPaint, paintOf, IsDone, IsCut, Asked, ChangesRegion, Changes, Tidies}
-use Rattle.change.specs.Answers.{no-shape, no-domain, no-right, no-region, in-order, unsound, unsettled, no-room, done, cut}
+use Rattle.change.specs.Answers.{no-shape, no-domain, no-right, no-region, in-order, unsound, unsettled}
+use Rattle.change.specs.Answers.{no-room, done, cut}
 use Rattle.change.specs.StoreList.{OneStore, storesOf, stored, StoresAre, Makes}
 use Rattle.change.proofs.StateLaws.{at-begin, at-end}
 use Rattle.change.proofs.State.{at-long}
@@ -42,14 +44,16 @@ use Rattle.change.proofs.StoreListLaws.{cut-from, all-from}
 pub one-list : {s : Shape} {d : ℕ} {paint : Paint} {old : List ℕ} {l m : List OneStore} → StoresAre s d paint old l
     → StoresAre s d paint old m → l ≡ m
 one-list {s} {d} {paint} {old} a b =
-    let e : a .finished-pool ≡ b .finished-pool = fun-ext (one-finished (formOf s) (lawful _ _ _) (wanting _ _ _) (words old)
+    let e : a .finished-pool ≡ b .finished-pool = fun-ext
+    (one-finished (formOf s) (lawful _ _ _) (wanting _ _ _) (words old)
     (aims s d paint (words old)) (exact _ _ _) (a .goal .finished) (b .goal .finished)) in
     let g : Goal s d paint old (b .finished-pool) (a .kept) = rw e at (a .goal) in
     let k : a .kept ≡ b .kept = fun-ext (one-test (formOf s) (g .tells) (b .goal .tells)) in
     let z : storesOf s old (a .finished-pool) (a .kept) ≡ storesOf s old (b .finished-pool) (b .kept) = rw (e, k) in
     a .list ∙ z ∙ sym (b .list)
 
-module _ (s : Shape) (d : ℕ) (paint : Paint) (old : List ℕ) (Q : ℕ → ℕ) (kept : ℕ → Bool) (g : Goal s d paint old Q kept) where
+module _ (s : Shape) (d : ℕ) (paint : Paint) (old : List ℕ) (Q : ℕ → ℕ) (kept : ℕ → Bool)
+    (g : Goal s d paint old Q kept) where
   abbrev list : List OneStore
   list = storesOf s old Q kept
 
@@ -68,7 +72,8 @@ module _ (s : Shape) (d : ℕ) (paint : Paint) (old : List ℕ) (Q : ℕ → ℕ
   list-done n h =
       let a = list-end n h in
       let z = list-made n h in
-      outcome-done s d paint old Q kept (stored old list) n (n - length list) g (at-long a) (at-end (omega arith) a) (omega arith)
+      outcome-done s d paint old Q kept (stored old list) n (n - length list) g (at-long a) (at-end (omega arith) a)
+      (omega arith)
 
   -- The first `n` stores leave what is said of a cut after `n`.
   prefix-goal : (n : ℕ) → n ≤ length list → CutAt s d paint old n (stored old (take n list))
@@ -85,7 +90,8 @@ module _ (s : Shape) (d : ℕ) (paint : Paint) (old : List ℕ) (Q : ℕ → ℕ
   makes-done : {n : ℕ} {q : List ℕ} → IsDone s d paint old n q → Makes old list n (Done (differing old q)) q
   makes-done {n} {q} f = elim (decLt n (length list)) [
     | yes i ↦ absurd (done-not-cut f (list-cut n i))
-    | no i ↦ (let e = one-done f (list-done n (omega arith)) in (omega arith, ap (differing old) e ∙ list-made n (omega arith), e))
+    | no i ↦ (let e = one-done f (list-done n (omega arith)) in
+        (omega arith, ap (differing old) e ∙ list-made n (omega arith), e))
   ]
 
   makes-cut : {n : ℕ} {x : List ℕ} → IsCut s d paint old n x → Makes old list n Cut x
@@ -107,29 +113,34 @@ module _ {s : Shape} {d : ℕ} {paint : Paint} {p : List ℕ} {l : List OneStore
   cut-makes = rw (a .list) (makes-cut s d paint p (a .finished-pool) (a .kept) (a .goal))
 
 -- The stores of a change that has room.
-room-stores : (s : Shape) (d : ℕ) (paint : Paint) (p : List ℕ) → paint .right < 4 → Fits s (length p) → SoundPool (formOf s) (words p)
-    → Room (s .domains) (s .middles) (s .leaves) (aims s d paint (words p)) → (l : List OneStore) × StoresAre s d paint p l
+room-stores : (s : Shape) (d : ℕ) (paint : Paint) (p : List ℕ) → paint .right < 4 → Fits s (length p)
+    → SoundPool (formOf s) (words p)
+    → Room (s .domains) (s .middles) (s .leaves) (aims s d paint (words p)) → (l : List OneStore)
+    × StoresAre s d paint p l
 room-stores s d paint p r f sP room =
     let (Q, kept, g) = fits-goal s d paint p r f sP room in
     (storesOf s p Q kept, record { finished-pool = Q; kept = kept; goal = g; list = refl })
 
 -- From refusal 6 on, the list of stores is empty where the request is refused ..
 module _ {p : List ℕ} {s : Shape} {d : ℕ} {paint : Paint} {n : ℕ} where
-  unsound-makes : {a : Answer} {q : List ℕ} → (SoundPool (formOf s) (words p) → ⊥) → ChangesRegion p s d paint n a q → Makes p [] n a q
+  unsound-makes : {a : Answer} {q : List ℕ} → (SoundPool (formOf s) (words p) → ⊥) → ChangesRegion p s d paint n a q
+      → Makes p [] n a q
   unsound-makes u (unsound g) = (refl, refl)
   unsound-makes u (unsettled g h) = absurd (u g)
   unsound-makes u (no-room g h) = absurd (u (g .sound))
   unsound-makes u (done g q h) = absurd (u (g .sound))
   unsound-makes u (cut g q h) = absurd (u (g .sound))
 
-  unsettled-makes : {a : Answer} {q : List ℕ} → (Settled (formOf s) (words p) → ⊥) → ChangesRegion p s d paint n a q → Makes p [] n a q
+  unsettled-makes : {a : Answer} {q : List ℕ} → (Settled (formOf s) (words p) → ⊥) → ChangesRegion p s d paint n a q
+      → Makes p [] n a q
   unsettled-makes u (unsound g) = (refl, refl)
   unsettled-makes u (unsettled g h) = (refl, refl)
   unsettled-makes u (no-room g h) = absurd (u g)
   unsettled-makes u (done g q h) = absurd (u g)
   unsettled-makes u (cut g q h) = absurd (u g)
 
-  full-makes : {a : Answer} {q : List ℕ} → (Room (s .domains) (s .middles) (s .leaves) (aims s d paint (words p)) → ⊥) → ChangesRegion p s d paint n a q
+  full-makes : {a : Answer} {q : List ℕ} → (Room (s .domains) (s .middles) (s .leaves) (aims s d paint (words p)) → ⊥)
+      → ChangesRegion p s d paint n a q
       → Makes p [] n a q
   full-makes u (unsound g) = (refl, refl)
   full-makes u (unsettled g h) = (refl, refl)
@@ -138,7 +149,8 @@ module _ {p : List ℕ} {s : Shape} {d : ℕ} {paint : Paint} {n : ℕ} where
   full-makes u (cut g q h) = absurd (u (finished-fits (s .domains) (s .middles) (s .leaves) (h .cut .finished)))
 
   -- .. and else that of its change.
-  room-makes : {l : List OneStore} {a : Answer} {q : List ℕ} → Settled (formOf s) (words p) → StoresAre s d paint p l → ChangesRegion p s d paint n a q
+  room-makes : {l : List OneStore} {a : Answer} {q : List ℕ} → Settled (formOf s) (words p) → StoresAre s d paint p l
+      → ChangesRegion p s d paint n a q
       → Makes p l n a q
   room-makes t x (unsound g) = absurd (g (t .sound))
   room-makes t x (unsettled g h) = absurd (h t)
@@ -167,7 +179,8 @@ region-stores p s d paint f r = let (a, q, c) = region-ends p s d paint 0 f r in
 
 module _ {p : List ℕ} {s : Shape} {d start len r n : ℕ} where
   -- A request that is not in order up to refusal 5 makes no store ..
-  early-makes : {a : Answer} {q : List ℕ} → ((g : Region) → Asked p s d start len r g → ⊥) → Changes p s d start len r n a q → Makes p [] n a q
+  early-makes : {a : Answer} {q : List ℕ} → ((g : Region) → Asked p s d start len r g → ⊥)
+      → Changes p s d start len r n a q → Makes p [] n a q
   early-makes u (no-shape f) = (refl, refl)
   early-makes u (no-domain f h) = (refl, refl)
   early-makes u (no-right f h t) = (refl, refl)
@@ -193,7 +206,8 @@ change-stores p s d start len r = let (a, q, c) = change-ends p s d start len r 
     none : ((g : Region) → Asked p s d start len r g → ⊥) → (l : List OneStore) × ChangeMakes p s d start len r l
     none u = ([], λ n a q c. early-makes u c)
 
-    go : {a : Answer} {q : List ℕ} → Changes p s d start len r 0 a q → (l : List OneStore) × ChangeMakes p s d start len r l
+    go : {a : Answer} {q : List ℕ} → Changes p s d start len r 0 a q → (l : List OneStore)
+        × ChangeMakes p s d start len r l
     go (no-shape f) = none (λ g x. f (x .fits))
     go (no-domain f h) = none (λ g x. let k = x .domain in omega arith)
     go (no-right f h t) = none (λ g x. let k = x .right in omega arith)
@@ -207,13 +221,15 @@ abbrev TidyMakes : List ℕ → Shape → List OneStore → Type 0
 TidyMakes p s l = (n : ℕ) (a : Answer) (q : List ℕ) → Tidies p s n a q → Makes p l n a q
 
 module _ {p : List ℕ} {s : Shape} {n : ℕ} where
-  refused-tidies : {a : Answer} {q : List ℕ} → (Fits s (length p) → SoundPool (formOf s) (words p) → ⊥) → Tidies p s n a q → Makes p [] n a q
+  refused-tidies : {a : Answer} {q : List ℕ} → (Fits s (length p) → SoundPool (formOf s) (words p) → ⊥)
+      → Tidies p s n a q → Makes p [] n a q
   refused-tidies u (no-shape f) = (refl, refl)
   refused-tidies u (unsound f g) = (refl, refl)
   refused-tidies u (done f g q h) = absurd (u f g)
   refused-tidies u (cut f g q h) = absurd (u f g)
 
-  tidies-makes : {l : List OneStore} {a : Answer} {q : List ℕ} → Fits s (length p) → SoundPool (formOf s) (words p) → StoresAre s 0 noPaint p l → Tidies p s n a q
+  tidies-makes : {l : List OneStore} {a : Answer} {q : List ℕ} → Fits s (length p) → SoundPool (formOf s) (words p)
+      → StoresAre s 0 noPaint p l → Tidies p s n a q
       → Makes p l n a q
   tidies-makes f t x (no-shape g) = absurd (g f)
   tidies-makes f t x (unsound g h) = absurd (h t)
@@ -226,7 +242,8 @@ tidy-stores p s = let (a, q, c) = tidy-ends p s 0 in go c
     sound-stores : Fits s (length p) → SoundPool (formOf s) (words p) → (l : List OneStore) × TidyMakes p s l
     sound-stores f t =
         let (Q, kept, g) = tidy-goal s 0 p f t in
-        let x : StoresAre s 0 noPaint p (storesOf s p Q kept) = record { finished-pool = Q; kept = kept; goal = g; list = refl } in
+        let x : StoresAre s 0 noPaint p (storesOf s p Q kept) =
+        record { finished-pool = Q; kept = kept; goal = g; list = refl } in
         (storesOf s p Q kept, λ n a q c. tidies-makes f t x c)
 
     go : {a : Answer} {q : List ℕ} → Tidies p s 0 a q → (l : List OneStore) × TidyMakes p s l

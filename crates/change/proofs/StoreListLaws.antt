@@ -1,4 +1,5 @@
--- The stores of a change as a list: whatever the allowance, the first of them are made, and each leaves what is said of a cut.
+-- The stores of a change as a list: whatever the allowance, the first of them are made, and each leaves what is said
+-- of a cut.
 use Prim.Native.Nat.{ℕ, zero, suc, _+_, _-_, _≤_, _<_}
 use mathlib.Core.Path.{_≡_, refl, sym, ap, _∙_, fun-ext}
 use mathlib.Core.Logic.{_≢_, _⊎_, inl, inr, ⊎-elim}
@@ -74,7 +75,8 @@ module _ (s : Shape) (d : ℕ) (paint : Paint) (old : List ℕ) (Q : ℕ → ℕ
     ]
 
   -- A run of a phase whose stores the rest of the allowance does not cover is cut after as many of them ..
-  cut-in : (c m k : ℕ) → k + m ≡ length old → (x : List ℕ) (left : ℕ) → Stands c k x left → left < length (inPhase c m k)
+  cut-in : (c m k : ℕ) → k + m ≡ length old → (x : List ℕ) (left : ℕ) → Stands c k x left
+      → left < length (inPhase c m k)
       → IsCut s d paint old n (stored x (take left (inPhase c m k)))
   unfolding storesIn stored
   cut-in c zero k e x left a h = absurd (omega arith)
@@ -84,26 +86,32 @@ module _ (s : Shape) (d : ℕ) (paint : Paint) (old : List ℕ) (Q : ℕ → ℕ
       rest = inPhase c m (k + 1)
 
       go : (t : Bool) → test a ≡ t
-          → ((y : List ℕ) (l : ℕ) → Stands c (k + 1) y l → l < length rest → IsCut s d paint old n (stored y (take l rest)))
+          → ((y : List ℕ) (l : ℕ) → Stands c (k + 1) y l → l < length rest → IsCut s d paint old n
+          (stored y (take l rest)))
           → (l : ℕ) → Stands c k x l → l < length (cond t (here k ∷ rest) rest)
           → IsCut s d paint old n (stored x (take l (cond t (here k ∷ rest) rest)))
-      go true q later zero b h = outcome-cut s d paint old Q kept n c k x b (let i = at-long b in omega arith) (changes-now a q)
+      go true q later zero b h = outcome-cut s d paint old Q kept n c k x b (let i = at-long b in omega arith)
+          (changes-now a q)
       go true q later (suc l) b h = later (set x k (Q k)) l
-          (at-store b l (omega arith) (let i = at-long b in omega arith) (changes-now a q) (phase-now a q)) (omega arith)
+          (at-store b l (omega arith) (let i = at-long b in omega arith) (changes-now a q) (phase-now a q))
+          (omega arith)
       go false q later l b h = later x l (passed-over b q) h
 
   -- .. and one that it covers goes on to the next phase.
-  all-in : (c m k : ℕ) → k + m ≡ length old → (x : List ℕ) (all left : ℕ) → all ≡ length (inPhase c m k) + left → Stands c k x all
+  all-in : (c m k : ℕ) → k + m ≡ length old → (x : List ℕ) (all left : ℕ) → all ≡ length (inPhase c m k) + left
+      → Stands c k x all
       → Stands c (length old) (stored x (inPhase c m k)) left
   unfolding storesIn stored
-  all-in c zero k e x all left h a = let z : k ≡ length old = omega arith in let y : all ≡ left = omega arith in rw (z, y) at a
+  all-in c zero k e x all left h a = let z : k ≡ length old = omega arith in let y : all
+      ≡ left = omega arith in rw (z, y) at a
   all-in c (suc m) k e x all left h a = go (test a) refl (all-in c m (k + 1) (omega arith)) all h a
     where
       rest : List OneStore
       rest = inPhase c m (k + 1)
 
       go : (t : Bool) → test a ≡ t
-          → ((y : List ℕ) (l i : ℕ) → l ≡ length rest + i → Stands c (k + 1) y l → Stands c (length old) (stored y rest) i)
+          → ((y : List ℕ) (l i : ℕ) → l ≡ length rest + i → Stands c (k + 1) y l → Stands c (length old)
+          (stored y rest) i)
           → (l : ℕ) → l ≡ length (cond t (here k ∷ rest) rest) + left → Stands c k x l
           → Stands c (length old) (stored x (cond t (here k ∷ rest) rest)) left
       go true q later zero h b = absurd (omega arith)
@@ -116,7 +124,8 @@ module _ (s : Shape) (d : ℕ) (paint : Paint) (old : List ℕ) (Q : ℕ → ℕ
     abbrev now : List OneStore
     now = inPhase c (length old) 0
 
-    phase-cut : ((y : List ℕ) (l : ℕ) → Stands (c + 1) 0 y l → l < length later → IsCut s d paint old n (stored y (take l later)))
+    phase-cut : ((y : List ℕ) (l : ℕ) → Stands (c + 1) 0 y l → l < length later → IsCut s d paint old n
+        (stored y (take l later)))
         → (x : List ℕ) (left : ℕ) → Stands c 0 x left → left < length (now ++ later)
         → IsCut s d paint old n (stored x (take left (now ++ later)))
     phase-cut then x left a h = elim (decLt left (length now)) [
@@ -129,8 +138,10 @@ module _ (s : Shape) (d : ℕ) (paint : Paint) (old : List ℕ) (Q : ℕ → ℕ
           (at-turn c (all-in c (length old) 0 (omega arith) x left (left - length now) e a)) (omega arith)))
     ]
 
-    phase-all : (e : ℕ) → ((y : List ℕ) (l i : ℕ) → l ≡ length later + i → Stands (c + 1) 0 y l → Stands e 0 (stored y later) i)
-        → (x : List ℕ) (all left : ℕ) → all ≡ length (now ++ later) + left → Stands c 0 x all → Stands e 0 (stored x (now ++ later)) left
+    phase-all : (e : ℕ) → ((y : List ℕ) (l i : ℕ) → l ≡ length later + i → Stands (c + 1) 0 y l
+        → Stands e 0 (stored y later) i)
+        → (x : List ℕ) (all left : ℕ) → all ≡ length (now ++ later) + left → Stands c 0 x all
+        → Stands e 0 (stored x (now ++ later)) left
     phase-all e then x all left h a =
         let z = length-append now later in
         rw (stored-append x now later) (then (stored x now) (length later + left) left refl
@@ -143,9 +154,11 @@ module _ (s : Shape) (d : ℕ) (paint : Paint) (old : List ℕ) (Q : ℕ → ℕ
   cut-from zero c x left a h = absurd (omega arith)
   cut-from (suc f) c x left a h = phase-cut c (fromPhase f (c + 1)) (cut-from f (c + 1)) x left a h
 
-  pub all-from : (f c e : ℕ) → e ≡ c + f → (x : List ℕ) (all left : ℕ) → all ≡ length (fromPhase f c) + left → Stands c 0 x all
+  pub all-from : (f c e : ℕ) → e ≡ c + f → (x : List ℕ) (all left : ℕ) → all ≡ length (fromPhase f c) + left
+      → Stands c 0 x all
       → Stands e 0 (stored x (fromPhase f c)) left
   unfolding storesFrom stored
-  all-from zero c e q x all left h a = let z : e ≡ c = omega arith in let y : all ≡ left = omega arith in rw z (rw y at a)
+  all-from zero c e q x all left h a = let z : e ≡ c = omega arith in let y : all ≡ left = omega arith in rw z
+      (rw y at a)
   all-from (suc f) c e q x all left h a =
       phase-all c (fromPhase f (c + 1)) e (all-from f (c + 1) e (omega arith)) x all left h a

@@ -23,7 +23,8 @@ use Rattle.change.proofs.TidyGoalLaws.{tidy-finished, finished-tidy}
 abbrev pub Agree : Answer → List ℕ → Answer → List ℕ → Type 0
 Agree a x b y = (a ≡ b) × (x ≡ y)
 
-pub one-tidy : {p : List ℕ} {s : Shape} {n : ℕ} {a b : Answer} {x y : List ℕ} → Tidies p s n a x → Tidies p s n b y → Agree a x b y
+pub one-tidy : {p : List ℕ} {s : Shape} {n : ℕ} {a b : Answer} {x y : List ℕ} → Tidies p s n a x → Tidies p s n b y
+    → Agree a x b y
 one-tidy (no-shape f) (no-shape g) = (refl, refl)
 one-tidy (no-shape f) (unsound g u) = absurd (f g)
 one-tidy (no-shape f) (done g u q d) = absurd (f g)
@@ -44,9 +45,11 @@ one-tidy (cut f u x c) (cut g w y d) = (refl, one-cut c d)
 -- A tidying that is done leaves a settled pool with the same rights.
 pub record Tidied (s : Shape) (p q : List ℕ) : Type 0 where
   pub settled : Settled (formOf s) (words q)
-  pub rights : (d a : ℕ) → d < s .domains → a < addresses → rightOf (formOf s) (words q) d a ≡ rightOf (formOf s) (words p) d a
+  pub rights : (d a : ℕ) → d < s .domains → a < addresses → rightOf (formOf s) (words q) d a
+      ≡ rightOf (formOf s) (words p) d a
 
-pub tidy-settled : {p : List ℕ} {s : Shape} {n : ℕ} {a : Answer} {q : List ℕ} (m : ℕ) → a ≡ Done m → Tidies p s n a q → Tidied s p q
+pub tidy-settled : {p : List ℕ} {s : Shape} {n : ℕ} {a : Answer} {q : List ℕ} (m : ℕ) → a ≡ Done m → Tidies p s n a q
+    → Tidied s p q
 tidy-settled m e (no-shape f) = absurd (let z : _≡_ {A = ℕ} 0 1 = cc in omega arith)
 tidy-settled m e (unsound f u) = absurd (let z : _≡_ {A = ℕ} 0 1 = cc in omega arith)
 tidy-settled {p = p} {s = s} m e (done f u q d) =
@@ -55,7 +58,8 @@ tidy-settled {p = p} {s = s} m e (done f u q d) =
 tidy-settled m e (cut f u x c) = absurd (let z : _≡_ {A = ℕ} 0 1 = cc in omega arith)
 
 -- A settled pool is tidy already.
-pub tidy-none : {p : List ℕ} {s : Shape} {n : ℕ} {a : Answer} {q : List ℕ} → Fits s (length p) → Settled (formOf s) (words p) → Tidies p s n a q
+pub tidy-none : {p : List ℕ} {s : Shape} {n : ℕ} {a : Answer} {q : List ℕ} → Fits s (length p)
+    → Settled (formOf s) (words p) → Tidies p s n a q
     → (a ≡ Done 0) × (q ≡ p)
 tidy-none {p} {s} {n} f t y =
     let d : IsDone s 0 noPaint p n p = record {

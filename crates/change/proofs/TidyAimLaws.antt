@@ -26,10 +26,12 @@ use Rattle.change.specs.declared.Work.the-variants.{Tidying}
 use Rattle.change.specs.Answers.{noPaint}
 use Rattle.change.specs.Runs.{Run, Stands, OnlyFrom, MiddleOwners}
 use Rattle.change.specs.Tidying.{TidyAt, AimedAt, MiddlePlace, Owns, Table, Place}
-use Rattle.change.proofs.TidyWordLaws.{root-becomes, page-becomes, root-stays, still-leads, page-stays, leaf-stays, place-stays}
+use Rattle.change.proofs.TidyWordLaws.{root-becomes, page-becomes, root-stays, still-leads, page-stays}
+use Rattle.change.proofs.TidyWordLaws.{leaf-stays, place-stays}
 use Rattle.change.proofs.TidyingLaws.{tidy-now, tidy-old, between, behind, tidy-to, as-tidying, of-tidying}
 
--- The target read from the pool `x` for the block of height `h`, of `size` bytes, that has the number `n` and the entry `w`.
+-- The target read from the pool `x` for the block of height `h`, of `size` bytes, that has the number `n` and the
+-- entry `w`.
 abbrev pub ReadTarget : List ℕ → ℕ → ℕ → ℕ → ℕ → Target → Type 0
 ReadTarget x h w n size t = (R : ℕ → ℕ) → Gives (words x) h w n R → t ≡ targetOf (painted noPaint R) h (n * size)
 
@@ -50,7 +52,8 @@ module _ (s : Shape) (x : List ℕ) where
     pub root-reads : Fits s (length x) → SoundPool (formOf s) (words x) → Readable x 2 (words x k)
     root-reads f o = rw split at (root-readable s x f o (k / 1024) (k % 1024) (omega arith) (omega arith))
 
-    pub root-aim : (t : Target) → leads 2 (words x k) ≡ true → ReadTarget x 2 (words x k) (k % 1024) 4194304 t → AimedAt s k x t
+    pub root-aim : (t : Target) → leads 2 (words x k) ≡ true → ReadTarget x 2 (words x k) (k % 1024) 4194304 t
+        → AimedAt s k x t
     root-aim t l f old goal kept n left a =
         let R = rightOf (formOf s) (words x) (k / 1024) in
         let g : Gives (words x) 2 (words x k) (k % 1024) R =
@@ -59,7 +62,8 @@ module _ (s : Shape) (x : List ℕ) where
         (f R g ∙ unpainted-target noPaint R 2 (k % 1024) (omega arith))
 
     pub root-passed : leads 2 (words x k) ≡ false → AimedAt s k x Mixed
-    root-passed l old goal kept n left a = root-stays (s .domains) (s .middles) (s .leaves) (a .cut .sound) (tidy-now a) k b l
+    root-passed l old goal kept n left a = root-stays (s .domains) (s .middles) (s .leaves) (a .cut .sound)
+        (tidy-now a) k b l
 
   -- Word `i` of the middle table at `t`, which the root word `o` owns.
   module _ (o t : ℕ) (w : Owns s x o t) (i : ℕ) (bi : i < 1024) where
@@ -71,11 +75,13 @@ module _ (s : Shape) (x : List ℕ) where
 
     pub page-reads : Fits s (length x) → SoundPool (formOf s) (words x) → Readable x 1 (words x (t + i))
     page-reads f z =
-        let r = rw cut-in at (middle-readable s x f z (o / 1024) (o % 1024) i (let z = w .root in omega arith) (omega arith)
+        let r = rw cut-in at (middle-readable s x f z (o / 1024) (o % 1024) i (let z = w .root in omega arith)
+        (omega arith)
         (rw cut-in (low f)) bi) in
         rw (w .leads) at r
 
-    pub page-aim : (c : Target) → Fits s (length x) → leads 1 (words x (t + i)) ≡ true → ReadTarget x 1 (words x (t + i)) (o % 1024 * 1024 + i) 4096 c
+    pub page-aim : (c : Target) → Fits s (length x) → leads 1 (words x (t + i)) ≡ true
+        → ReadTarget x 1 (words x (t + i)) (o % 1024 * 1024 + i) 4096 c
         → AimedAt s (t + i) x c
     page-aim c f l g old goal kept n left a =
         let R = rightOf (formOf s) (words x) (o / 1024) in
@@ -83,14 +89,16 @@ module _ (s : Shape) (x : List ℕ) where
         rw cut-in at (root-gives (s .domains) (s .middles) (s .leaves) (words x) (o / 1024) (o % 1024) (omega arith)) in
         let v = rw (w .leads) at (middle-gives (words x) R (words x o) (o % 1024) i (low f) bi u) in
         let (p, b, e) = w .place in
-        rw (w .leads) at (page-becomes (s .domains) (s .middles) (s .leaves) (a .cut .sound) (tidy-now a) o i c (w .root) bi
+        rw (w .leads) at (page-becomes (s .domains) (s .middles) (s .leaves) (a .cut .sound) (tidy-now a) o i c
+        (w .root) bi
         (behind a o (let z = w .root in omega arith)) (low f) (rw (w .leads) l)
         (g R v ∙ unpainted-target noPaint R 1 (o % 1024 * 1024 + i) (omega arith)))
 
     pub page-passed : leads 1 (words x (t + i)) ≡ false → AimedAt s (t + i) x Mixed
     page-passed l old goal kept n left a =
         let (p, b, e) = w .place in
-        page-stays (s .domains) (s .middles) (s .leaves) (a .cut .sound) (tidy-now a) (t + i) (omega arith) (omega arith) l
+        page-stays (s .domains) (s .middles) (s .leaves) (a .cut .sound) (tidy-now a) (t + i) (omega arith)
+        (omega arith) l
 
   -- A table has words below the leaves; one that begins among the roots is a root, and any other has its owner.
   pub table-inside : (o t i : ℕ) → Table s x o t → i < 1024 → t + i < firstLeaf (s .domains) (s .middles)
@@ -99,7 +107,8 @@ module _ (s : Shape) (x : List ℕ) where
   pub table-end : (o t : ℕ) → Table s x o t → t + 1024 ≤ firstLeaf (s .domains) (s .middles)
   table-end o t y = ⊎-elim (λ h. omega arith) (λ w. let (p, b, e) = w .place in omega arith) y
 
-  pub table-root : (o t i : ℕ) → Table s x o t → i < 1024 → t < firstMiddle (s .domains) → t + i < firstMiddle (s .domains)
+  pub table-root : (o t i : ℕ) → Table s x o t → i < 1024 → t < firstMiddle (s .domains)
+      → t + i < firstMiddle (s .domains)
   table-root o t i y bi h = ⊎-elim (λ z. omega arith) (λ w. let (p, b, e) = w .place in absurd (omega arith)) y
 
   pub table-owned : (o t : ℕ) → Table s x o t → firstMiddle (s .domains) ≤ t → Owns s x o t
@@ -112,13 +121,16 @@ module _ (s : Shape) (x : List ℕ) where
       (λ w. page-passed o t w i bi (le-ltb _ _ h)) y
 
   -- Words of a table that are eight rights each are passed over.
-  plain-stays : (o t i m : ℕ) → Table s x o t → i + m ≤ 1024 → AllPlain (words x) (t + i) m → (old : List ℕ) (goal : ℕ → ℕ) (kept : ℕ → Bool) (n k left : ℕ)
+  plain-stays : (o t i m : ℕ) → Table s x o t → i + m ≤ 1024 → AllPlain (words x) (t + i) m
+      → (old : List ℕ) (goal : ℕ → ℕ) (kept : ℕ → Bool) (n k left : ℕ)
       → TidyAt s old goal kept n k x left → (j : ℕ) → t + i ≤ j → j < t + i + m → goal j ≡ words x j
   plain-stays o t i m y b plain old goal kept n k left a j lo hi = ⊎-elim
-      (λ h. root-stays (s .domains) (s .middles) (s .leaves) (a .cut .sound) (tidy-now a) j (omega arith) (plain-stands (words x) (t + i) m j plain lo hi))
+      (λ h. root-stays (s .domains) (s .middles) (s .leaves) (a .cut .sound) (tidy-now a) j (omega arith)
+      (plain-stands (words x) (t + i) m j plain lo hi))
       (λ w.
       let (p, c, e) = w .place in
-      page-stays (s .domains) (s .middles) (s .leaves) (a .cut .sound) (tidy-now a) j (omega arith) (omega arith) (plain-stands (words x) (t + i) m j plain lo hi)) y
+      page-stays (s .domains) (s .middles) (s .leaves) (a .cut .sound) (tidy-now a) j (omega arith) (omega arith)
+      (plain-stands (words x) (t + i) m j plain lo hi)) y
 
   pub plain-passed : (o t i m : ℕ) → Table s x o t → i + m ≤ 1024 → AllPlain (words x) (t + i) m
       → (u : Run s Tidying) → Stands s Tidying u 1 (t + i) x → Stands s Tidying u 1 (t + (i + m)) x
@@ -134,10 +146,12 @@ module _ (s : Shape) (x : List ℕ) where
       let a = as-tidying s u y in
       of-tidying s u (tidy-to a (t + 1024) (omega arith) (λ j lo hi.
       let z : j ≡ firstMiddle (s .domains) + 1024 * p + (j - t) = omega arith in
-      rw z (place-stays (s .domains) (s .middles) (s .leaves) (a .cut .sound) (tidy-now a) p b (λ k bk y. nobody k bk (y ∙ sym e)) (j - t) (omega arith))))
+      rw z (place-stays (s .domains) (s .middles) (s .leaves) (a .cut .sound) (tidy-now a) p b
+      (λ k bk y. nobody k bk (y ∙ sym e)) (j - t) (omega arith))))
 
   -- Past the last middle place all is finished: leaves stay.
-  pub tidy-end : (k : ℕ) → firstLeaf (s .domains) (s .middles) ≤ k → (u : Run s Tidying) → Stands s Tidying u 1 k x → (j : ℕ) → words x j ≡ u .goal j
+  pub tidy-end : (k : ℕ) → firstLeaf (s .domains) (s .middles) ≤ k → (u : Run s Tidying) → Stands s Tidying u 1 k x
+      → (j : ℕ) → words x j ≡ u .goal j
   tidy-end k h u y j =
       let a = as-tidying s u y in
       elim (decLt j k) [
@@ -164,13 +178,20 @@ owners-begin {s} {p} {o} fits own = record {
   long = own .long;
   only = λ i b j bj w.
       let range = fits .range in
-      let l : leads 2 (words p j) ≡ true = rw w (lt-ltb (firstMiddle (s .domains) + 1024 * i) 2147483648 (omega arith)) in
+      let l : leads 2 (words p j) ≡ true = rw w
+      (lt-ltb (firstMiddle (s .domains) + 1024 * i) 2147483648 (omega arith)) in
       let q = middle-number s i (omega arith) in
-      own .owns i j (omega arith) (record { block = rw (q .height) bj; table = rw (q .height) l; there = rw (q .height) (w ∙ sym (q .word)) });
+      own .owns i j (omega arith) (record {
+        block = rw (q .height) bj;
+        table = rw (q .height) l;
+        there =
+            rw (q .height) (w ∙ sym (q .word));
+      });
 }
 
 -- and they stay so while the pool is tidied: a root word that still leads leads where it did.
-pub owners-now : {s : Shape} {old o x : List ℕ} {goal : ℕ → ℕ} {kept : ℕ → Bool} {n k left : ℕ} → Fits s (length x) → MiddleOwners s o old
+pub owners-now : {s : Shape} {old o x : List ℕ} {goal : ℕ → ℕ} {kept : ℕ → Bool} {n k left : ℕ} → Fits s (length x)
+    → MiddleOwners s o old
     → TidyAt s old goal kept n k x left → MiddleOwners s o x
 owners-now {s} {old} {o} {x} {goal} fits own a = record {
   long = own .long;

@@ -1,4 +1,5 @@
--- Where the tables fit, a change has a finished pool to go to. A tidying aims at the rights that there are, and always fits.
+-- Where the tables fit, a change has a finished pool to go to. A tidying aims at the rights that there are, and
+-- always fits.
 use Prim.Native.Nat.{ℕ, _*_, _/_, _<_}
 use mathlib.Core.Path.{_≡_, refl, sym}
 use mathlib.Core.Bool.{Bool}
@@ -31,7 +32,8 @@ use Rattle.plan.specs.Aims.{aims, Covered, Goal}
 use Rattle.change.specs.Answers.{noPaint}
 use Rattle.plan.proofs.AimLaws.{aims-other}
 
-pub fits-goal : (s : Shape) (d : ℕ) (paint : Paint) (p : List ℕ) → paint .right < 4 → Fits s (length p) → SoundPool (formOf s) (words p)
+pub fits-goal : (s : Shape) (d : ℕ) (paint : Paint) (p : List ℕ) → paint .right < 4 → Fits s (length p)
+    → SoundPool (formOf s) (words p)
     → Room (s .domains) (s .middles) (s .leaves) (aims s d paint (words p))
     → (Q : ℕ → ℕ) × (kept : ℕ → Bool) × Goal s d paint p Q kept
 fits-goal s d paint p r fits sP room =
@@ -40,10 +42,13 @@ fits-goal s d paint p r fits sP room =
     let L = s .leaves in
     let P = words p in
     let R = aims s d paint P in
-    let S : (e : ℕ) → e < D → WordRights (R e) = λ e be. changed-rights (rightOf (formOf s) P) d (region paint) (paint .right) e r (pool-rights D M L P e) in
-    let (fM, middle, OM) = owners (1024 * D) M (wantMiddle R) (oldMiddle P) (wasMiddle D P) (old-one D M L sP 1 (omega arith))
+    let S : (e : ℕ) → e < D → WordRights (R e) = λ e be. changed-rights (rightOf (formOf s) P) d (region paint)
+    (paint .right) e r (pool-rights D M L P e) in
+    let (fM, middle, OM) = owners (1024 * D) M (wantMiddle R) (oldMiddle P) (wasMiddle D P)
+    (old-one D M L sP 1 (omega arith))
     (old-below D M L sP 1 (omega arith)) (room .middles) in
-    let (fL, leaf, OL) = owners (1048576 * D) L (wantLeaf R) (oldLeaf P) (wasLeaf D M P) (old-one D M L sP 0 (omega arith))
+    let (fL, leaf, OL) = owners (1048576 * D) L (wantLeaf R) (oldLeaf P) (wasLeaf D M P)
+    (old-one D M L sP 0 (omega arith))
     (old-below D M L sP 0 (omega arith)) (room .leaves) in (
       final D M L middle leaf R P,
       keptWord D M L fM fL,
@@ -65,11 +70,13 @@ aims-none s d P e a = aims-other s d noPaint P e a (none-covered d e a)
 
 pub tidy-finished : (s : Shape) (d : ℕ) (P : ℕ → ℕ) {Q : ℕ → ℕ} → Finished (formOf s) P (aims s d noPaint P) Q
     → Finished (formOf s) P (rightOf (formOf s) P) Q
-tidy-finished s d P f = finished-same (formOf s) P (aims s d noPaint P) (rightOf (formOf s) P) (λ e a be ba. aims-none s d P e a) f
+tidy-finished s d P f = finished-same (formOf s) P (aims s d noPaint P) (rightOf (formOf s) P)
+    (λ e a be ba. aims-none s d P e a) f
 
 pub finished-tidy : (s : Shape) (d : ℕ) (P : ℕ → ℕ) {Q : ℕ → ℕ} → Finished (formOf s) P (rightOf (formOf s) P) Q
     → Finished (formOf s) P (aims s d noPaint P) Q
-finished-tidy s d P f = finished-same (formOf s) P (rightOf (formOf s) P) (aims s d noPaint P) (λ e a be ba. sym (aims-none s d P e a)) f
+finished-tidy s d P f = finished-same (formOf s) P (rightOf (formOf s) P) (aims s d noPaint P)
+    (λ e a be ba. sym (aims-none s d P e a)) f
 
 pub tidy-goal : (s : Shape) (d : ℕ) (p : List ℕ) → Fits s (length p) → SoundPool (formOf s) (words p)
     → (Q : ℕ → ℕ) × (kept : ℕ → Bool) × Goal s d noPaint p Q kept

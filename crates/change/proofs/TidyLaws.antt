@@ -1,5 +1,5 @@
--- The finished pool of a tidying, which has the rights of the old one: it has no table that the old one had not, and its words differ
--- from the old ones only where a table is given up. For any form.
+-- The finished pool of a tidying, which has the rights of the old one: it has no table that the old one had not, and
+-- its words differ from the old ones only where a table is given up. For any form.
 use Prim.Native.Nat.{ℕ, zero, suc, _<_}
 use mathlib.Core.Path.{_≡_, refl, sym, _∙_}
 use mathlib.Core.Logic.{_≢_}
@@ -18,7 +18,8 @@ use Rattle.theory.proofs.KeptLaws.{kept-zone}
 use Rattle.theory.proofs.FinishedLaws.{stable}
 use Rattle.theory.proofs.ReadyLaws.{finished-links}
 
-module _ (F : Form) (L : Lawful F) (W : Wanting F) (E : Exact F) {P Q : ℕ → ℕ} (sP : SoundPool F P) (f : Finished F P (rightOf F P) Q) where
+module _ (F : Form) (L : Lawful F) (W : Wanting F) (E : Exact F) {P Q : ℕ → ℕ} (sP : SoundPool F P)
+    (f : Finished F P (rightOf F P) Q) where
   module _ (d a : ℕ) (bd : d < F .domains) (ba : a < F .span) where
     -- Where the finished pool leads, the old one led.
     pub led-before : {h j : ℕ} → Visits F Q a (F .top) (entry F d a) (suc h) j → F .leads (suc h) (Q j) ≡ true
@@ -32,7 +33,8 @@ module _ (F : Form) (L : Lawful F) (W : Wanting F) (E : Exact F) {P Q : ℕ → 
         rw o at m
 
     -- Where a walk comes in the finished pool, it came in the old one, by kept words.
-    pub visits-before : {m j : ℕ} → Visits F Q a (F .top) (entry F d a) m j → Kept F P Q m j × Visits F P a (F .top) (entry F d a) m j
+    pub visits-before : {m j : ℕ} → Visits F Q a (F .top) (entry F d a) m j → Kept F P Q m j × Visits F P a (F .top)
+        (entry F d a) m j
     visits-before here = (top (d, F .index (F .top) a, refl, refl, bd, L .index-below (F .top) a), here)
     visits-before (next {m} {j} v l) =
         let (c, w) = visits-before v in
@@ -44,10 +46,12 @@ module _ (F : Form) (L : Lawful F) (W : Wanting F) (E : Exact F) {P Q : ℕ → 
     pub unled-same : (m : ℕ) {j : ℕ} → Visits F Q a (F .top) (entry F d a) m j → F .leads m (P j) ≡ false → Q j ≡ P j
     unled-same m {j} v l = by-cases (F .leads m (Q j)) (λ q. absurd (never m v l q)) (λ q.
         E .says-exact m a (Q j) (P j) (rightOf F P d) ba
-        (says-same F m (rightOf F Q d) (rightOf F P d) a (Q j) (λ b bb. f .rights d b bd bb) (says-at F L Q (f .settled .sound) d a m j bd v q))
+        (says-same F m (rightOf F Q d) (rightOf F P d) a (Q j) (λ b bb. f .rights d b bd bb)
+        (says-at F L Q (f .settled .sound) d a m j bd v q))
         (says-at F L P sP d a m j bd (visits-before v .1) l))
       where
-        never : (m : ℕ) {j : ℕ} → Visits F Q a (F .top) (entry F d a) m j → F .leads m (P j) ≡ false → F .leads m (Q j) ≡ true → ⊥
+        never : (m : ℕ) {j : ℕ} → Visits F Q a (F .top) (entry F d a) m j → F .leads m (P j) ≡ false
+            → F .leads m (Q j) ≡ true → ⊥
         never zero {j} v l q = true≢false (sym q ∙ E .last (Q j))
         never (suc m) v l q = true≢false (sym (led-before v q (visits-before v .1)) ∙ l)
 

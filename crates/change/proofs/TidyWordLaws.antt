@@ -1,5 +1,5 @@
--- The finished words of a tidying in the paper's form: a word whose block wants a table stays, and any other becomes rights; a middle
--- place to which no root word leads stays as it is, and so does every leaf.
+-- The finished words of a tidying in the paper's form: a word whose block wants a table stays, and any other becomes
+-- rights; a middle place to which no root word leads stays as it is, and so does every leaf.
 use Prim.Native.Nat.{ℕ, suc, _+_, _*_, _/_, _%_, _≤_, _<_}
 use mathlib.Core.Path.{_≡_, refl, sym, ap, subst, _∙_}
 use mathlib.Core.Logic.{_≢_}
@@ -28,9 +28,11 @@ use Rattle.targets.proofs.TargetLaws.{wanted-mixed, unwanted-said}
 use Rattle.change.specs.Tidying.{Becomes}
 use Rattle.change.proofs.TidyLaws.{led-before, visits-before, unkept-stays, unled-stays}
 
-module _ (D M L : ℕ) {P Q : ℕ → ℕ} (sP : SoundPool (form D M L) P) (f : Finished (form D M L) P (rightOf (form D M L) P) Q) where
+module _ (D M L : ℕ) {P Q : ℕ → ℕ} (sP : SoundPool (form D M L) P)
+    (f : Finished (form D M L) P (rightOf (form D M L) P) Q) where
   -- A word where the walk of `a` comes in the finished pool.
-  module _ (d a : ℕ) (bd : d < D) (ba : a < addresses) {h j : ℕ} (v : Visits (form D M L) Q a 2 (entry (form D M L) d a) (suc h) j) where
+  module _ (d a : ℕ) (bd : d < D) (ba : a < addresses) {h j : ℕ}
+      (v : Visits (form D M L) Q a 2 (entry (form D M L) d a) (suc h) j) where
     abbrev R : ℕ → ℕ
     R = rightOf (form D M L) P d
 
@@ -39,7 +41,8 @@ module _ (D M L : ℕ) {P Q : ℕ → ℕ} (sP : SoundPool (form D M L) P) (f : 
 
     wanted-stays : wantsOf R (suc h) a ≡ true → Q j ≡ P j
     wanted-stays e =
-        let x = wanting D M L .same (suc h) a R (rightOf (form D M L) Q d) (λ b bb. sym (f .rights d b bd bb)) (wants-divided R (suc h) a ba e) in
+        let x = wanting D M L .same (suc h) a R (rightOf (form D M L) Q d) (λ b bb. sym (f .rights d b bd bb))
+        (wants-divided R (suc h) a ba e) in
         let (t, (k, u, l, _)) = f .settled .there bd ba hi x in
         let o : k ≡ j = one-word (form D M L) Q u v refl in
         let m : leads (suc h) (Q j) ≡ true = rw o at l in
@@ -63,7 +66,8 @@ module _ (D M L : ℕ) {P Q : ℕ → ℕ} (sP : SoundPool (form D M L) P) (f : 
         (λ w. rw (e ∙ wanted-mixed R (suc h) a w) (wanted-stays w))
         (λ w. rw (e ∙ unwanted-said R (suc h) a w) (
           unwanted-rights w,
-          λ z. true≢false (sym l ∙ ap (leads (suc h)) z ∙ wants-says D M L R (suc h) a (pool-rights D M L P d) hi ba w .rights),
+          λ z. true≢false (sym l ∙ ap (leads (suc h)) z ∙ wants-says D M L R (suc h) a (pool-rights D M L P d) hi ba
+              w .rights),
         ))
 
   -- A root word, for its block.
@@ -76,18 +80,22 @@ module _ (D M L : ℕ) {P Q : ℕ → ℕ} (sP : SoundPool (form D M L) P) (f : 
       target-becomes (k / 1024) a (omega arith) (omega arith) v t e l
 
   -- A word of the middle table to which the root word `o`, which stays, leads, for its page.
-  pub page-becomes : (o i : ℕ) (t : Target) → o < firstMiddle D → i < 1024 → P o ≡ Q o → leads 2 (P o) ≡ true → leads 1 (P (P o + i)) ≡ true
-      → t ≡ targetOf (rightOf (form D M L) P (o / 1024)) 1 ((o % 1024 * 1024 + i) * 4096) → Becomes t (P (P o + i)) (Q (P o + i))
+  pub page-becomes : (o i : ℕ) (t : Target) → o < firstMiddle D → i < 1024 → P o ≡ Q o → leads 2 (P o) ≡ true
+      → leads 1 (P (P o + i)) ≡ true
+      → t ≡ targetOf (rightOf (form D M L) P (o / 1024)) 1 ((o % 1024 * 1024 + i) * 4096) → Becomes t (P (P o + i))
+      (Q (P o + i))
   page-becomes o i t b bi q r l e =
       let a = (o % 1024 * 1024 + i) * 4096 in
       let z : entry (form D M L) (o / 1024) a ≡ o = omega arith in
       let y : index 1 a ≡ i = omega arith in
       let v : Visits (form D M L) Q a 2 (entry (form D M L) (o / 1024) a) 1 (Q o + index 1 a) = step a z in
       let w : Visits (form D M L) Q a 2 (entry (form D M L) (o / 1024) a) 1 (P o + i) =
-      subst (λ u. Visits (form D M L) Q a 2 (entry (form D M L) (o / 1024) a) 1 u) (ap (λ u. Q o + u) y ∙ ap (λ u. u + i) (sym q)) v in
+      subst (λ u. Visits (form D M L) Q a 2 (entry (form D M L) (o / 1024) a) 1 u)
+      (ap (λ u. Q o + u) y ∙ ap (λ u. u + i) (sym q)) v in
       target-becomes (o / 1024) a (omega arith) (omega arith) w t e l
     where
-      step : (a : ℕ) → entry (form D M L) (o / 1024) a ≡ o → Visits (form D M L) Q a 2 (entry (form D M L) (o / 1024) a) 1 (Q o + index 1 a)
+      step : (a : ℕ) → entry (form D M L) (o / 1024) a ≡ o → Visits (form D M L) Q a 2
+          (entry (form D M L) (o / 1024) a) 1 (Q o + index 1 a)
       step a z = rw z (next here (rw q at r))
 
   -- What does not lead stays.
@@ -102,7 +110,8 @@ module _ (D M L : ℕ) {P Q : ℕ → ℕ} (sP : SoundPool (form D M L) P) (f : 
       (λ m.
       let a = k % 1024 * 4194304 in
       let z : entry (form D M L) (k / 1024) a ≡ k = omega arith in
-      sym (f .keeps {d = k / 1024} {a = a} {h = 1} (omega arith) (omega arith) (k, rw z here, m, refl) (k, rw z here, l, refl)))
+      sym (f .keeps {d = k / 1024} {a = a} {h = 1} (omega arith) (omega arith) (k, rw z here, m, refl)
+      (k, rw z here, l, refl)))
       (λ m. root-stays k b m)
 
   pub page-stays : (k : ℕ) → firstMiddle D ≤ k → k < firstLeaf D M → leads 1 (P k) ≡ false → Q k ≡ P k
@@ -128,7 +137,8 @@ module _ (D M L : ℕ) {P Q : ℕ → ℕ} (sP : SoundPool (form D M L) P) (f : 
 
   -- A middle place to which no root word leads is in no kept table, and stays.
   module _ (p : ℕ) (bp : p < M) (nobody : (k : ℕ) → k < firstMiddle D → P k ≢ firstMiddle D + 1024 * p) where
-    under : (j o i : ℕ) → Kept (form D M L) P Q 2 j → leads 2 (P j) ≡ true → o < 1024 → i < 1024 → P j + o ≡ firstMiddle D + 1024 * p + i → ⊥
+    under : (j o i : ℕ) → Kept (form D M L) P Q 2 j → leads 2 (P j) ≡ true → o < 1024 → i < 1024 → P j + o
+        ≡ firstMiddle D + 1024 * p + i → ⊥
     under j o i c l bo bi e =
         let (_, q, _, x) = leads-place D M L 1 (P j) (sP .good (kept-reach (form D M L) c)) l in
         nobody j (zone-root j (kept-zone (form D M L) (lawful D M L) sP c)) (omega arith)
@@ -146,4 +156,5 @@ module _ (D M L : ℕ) {P Q : ℕ → ℕ} (sP : SoundPool (form D M L) P) (f : 
 
     pub place-stays : (i : ℕ) → i < 1024 → Q (firstMiddle D + 1024 * p + i) ≡ P (firstMiddle D + 1024 * p + i)
     place-stays i bi =
-        unkept-stays (form D M L) (lawful D M L) (wanting D M L) (exact D M L) sP f (firstMiddle D + 1024 * p + i) (λ m c. unowned i bi refl c)
+        unkept-stays (form D M L) (lawful D M L) (wanting D M L) (exact D M L) sP f (firstMiddle D + 1024 * p + i)
+        (λ m c. unowned i bi refl c)

@@ -1,4 +1,5 @@
--- A tidying between two words: what lies behind it is finished, what is to change is of the first phase; and how it goes on from a word.
+-- A tidying between two words: what lies behind it is finished, what is to change is of the first phase; and how it
+-- goes on from a word.
 use Prim.Native.Nat.{ℕ, _+_, _≤_, _<_}
 use mathlib.Core.Path.{_≡_, refl, sym, _∙_}
 use mathlib.Core.Logic.{_≢_, _⊎_, inl, inr, ⊎-elim}
@@ -28,7 +29,8 @@ use Rattle.change.proofs.OutcomeLaws.{one-goal}
 use Rattle.change.proofs.TidyGoalLaws.{tidy-finished}
 use Rattle.change.proofs.TidyLaws.{differs-first}
 
-module _ {s : Shape} {old : List ℕ} {Q : ℕ → ℕ} {kept : ℕ → Bool} {n k : ℕ} {x : List ℕ} {left : ℕ} (a : TidyAt s old Q kept n k x left) where
+module _ {s : Shape} {old : List ℕ} {Q : ℕ → ℕ} {kept : ℕ → Bool} {n k : ℕ} {x : List ℕ} {left : ℕ}
+    (a : TidyAt s old Q kept n k x left) where
   same-goal : (j : ℕ) → a .cut .goal j ≡ Q j
   same-goal = one-goal s 0 noPaint old Q (a .goal .finished) (a .cut)
 
@@ -81,22 +83,27 @@ module _ {s : Shape} {old : List ℕ} {Q : ℕ → ℕ} {kept : ℕ → Bool} {n
 
 -- A run of the work is a tidying.
 module _ (s : Shape) (u : Run s Tidying) {x : List ℕ} where
-  pub as-tidying : {k : ℕ} → Stands s Tidying u 1 k x → TidyAt s (u .old) (u .goal) (u .kept) (u .allowance) k x (u .left)
+  pub as-tidying : {k : ℕ} → Stands s Tidying u 1 k x → TidyAt s (u .old) (u .goal) (u .kept) (u .allowance) k x
+      (u .left)
   as-tidying a = let (e, f) = u .meant in rw (e, f) at a
 
-  pub of-tidying : {k : ℕ} → TidyAt s (u .old) (u .goal) (u .kept) (u .allowance) k x (u .left) → Stands s Tidying u 1 k x
+  pub of-tidying : {k : ℕ} → TidyAt s (u .old) (u .goal) (u .kept) (u .allowance) k x (u .left)
+      → Stands s Tidying u 1 k x
   of-tidying a = let (e, f) = u .meant in rw (e, f) a
 
   -- The word stays,
-  pub aim-passes : (k : ℕ) (t : Target) → t ≡ Mixed → AimedAt s k x t → Stands s Tidying u 1 k x → Stands s Tidying u 1 (k + 1) x
+  pub aim-passes : (k : ℕ) (t : Target) → t ≡ Mixed → AimedAt s k x t → Stands s Tidying u 1 k x
+      → Stands s Tidying u 1 (k + 1) x
   aim-passes k t e f b =
       let a = as-tidying b in
       let stays : u .goal k ≡ words x k = rw e at (f (u .old) (u .goal) (u .kept) (u .allowance) (u .left) a) in
       of-tidying (tidy-to a (k + 1) (omega arith) (λ j lo hi. let z : j ≡ k = omega arith in rw z stays))
 
   -- or is stored.
-  pub aim-stores : (k v : ℕ) (t : Target) → t ≡ Says v → AimedAt s k x t → Stands s Tidying u 1 k x → Stores s Tidying u x 1 k v
+  pub aim-stores : (k v : ℕ) (t : Target) → t ≡ Says v → AimedAt s k x t → Stands s Tidying u 1 k x
+      → Stores s Tidying u x 1 k v
   aim-stores k v t e f b =
       let a = as-tidying b in
-      let (g, w) : Becomes (Says v) (words x k) (u .goal k) = rw e at (f (u .old) (u .goal) (u .kept) (u .allowance) (u .left) a) in
+      let (g, w) : Becomes (Says v) (words x k) (u .goal k) = rw e
+      at (f (u .old) (u .goal) (u .kept) (u .allowance) (u .left) a) in
       record { at = b; phase = here-first a (λ z. w (sym z ∙ g)); value = sym g; differs = w }

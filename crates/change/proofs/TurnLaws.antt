@@ -16,7 +16,8 @@ use Rattle.change.proofs.State.{at-long, at-final, at-phase, at-skip}
 use Rattle.change.proofs.StateLaws.{at-turn}
 use Rattle.change.proofs.AheadLaws.{at-ahead}
 
-module _ (s : Shape) (q : Plan) (c k : ℕ) (x : List ℕ) (h : k < length x) (u : Run s (Change q)) (a : Stands s (Change q) u c k x) where
+module _ (s : Shape) (q : Plan) (c k : ℕ) (x : List ℕ) (h : k < length x) (u : Run s (Change q))
+    (a : Stands s (Change q) u c k x) where
   moves : after q k (words x k) ≢ words x k → u .goal k ≢ words x k
   moves n e = n (at-final a (u .meant) h ∙ e)
 
@@ -31,7 +32,8 @@ module _ (s : Shape) (q : Plan) (c k : ℕ) (x : List ℕ) (h : k < length x) (u
   ]
 
   -- or is stored.
-  pub turn-stores : phaseOf s q k (words x k) ≡ c → after q k (words x k) ≢ words x k → Stores s (Change q) u x c k (after q k (words x k))
+  pub turn-stores : phaseOf s q k (words x k) ≡ c → after q k (words x k) ≢ words x k → Stores s (Change q) u x c k
+      (after q k (words x k))
   turn-stores p n = record {
     at = a;
     phase = sym (at-phase a (u .meant) h (moves n)) ∙ p;

@@ -1,4 +1,5 @@
--- What the one store asks can be met: where the one domain may read everything and is to lose it all, the store of the first root word is due.
+-- What the one store asks can be met: where the one domain may read everything and is to lose it all, the store of
+-- the first root word is due.
 use Prim.Native.Nat.{ℕ, _*_, _/_, _≤_, _<_}
 use mathlib.Core.Path.{_≡_, refl, sym, ap, _∙_}
 use mathlib.Core.Logic.{_≢_, inl}
@@ -75,7 +76,8 @@ module _ (s : Shape) (one : s .domains ≡ 1) where
   taken : Finished (formOf s) (words all-read) (aims s 0 nothing (words all-read)) (words (freshPool s))
   taken = record {
     settled = fresh-settled s;
-    rights = λ d a bd ba. fresh-right s d a bd ∙ sym (aims-covered s 0 nothing (words all-read) d a (omega arith, whole a ba));
+    rights = λ d a bd ba. fresh-right s d a bd
+        ∙ sym (aims-covered s 0 nothing (words all-read) d a (omega arith, whole a ba));
     keeps = λ {d = d} {a = a} {h = h} {t = t} bd ba x y. absurd (fresh-led s d a h t bd y);
     order = λ {d = d} {a = a} {h = h} {s = u} (bd, ba, x, un) n o. absurd (fresh-led s d a h u bd x);
     lowest = λ {d = d} {a = a} {h = h} {t = t} x (bd, ba, y, un) p lt free. absurd (fresh-led s d a h t bd y);

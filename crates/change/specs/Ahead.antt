@@ -15,7 +15,8 @@ use Rattle.change.specs.declared.Work.the-variants.{Change}
 use Rattle.change.specs.declared.ahead.Span.{Span}
 use Rattle.change.specs.Runs.{Run, Stands}
 
--- From word `k` on the next row is `r`, not after `best`: all words before it are as `Passed` says. It has a word, or is `best`.
+-- From word `k` on the next row is `r`, not after `best`: all words before it are as `Passed` says. It has a word, or
+-- is `best`.
 pub record Ahead (k : ℕ) (best : Span) (Passed : ℕ → Type 0) (r : Span) : Type 0 where
   pub from : k ≤ r .from .0
   pub upto : r .from .0 ≤ best .from .0
@@ -30,7 +31,8 @@ Outside start past j = start ≤ j → j < past → ⊥
 abbrev pub Untouched : Plan → ℕ → Type 0
 Untouched q j = (x : ℕ) → after q j x ≡ x
 
--- Of the words of the domain's root, of an edge's middle table that stays and of its leaf that stays, `j` is none that the plan alters.
+-- Of the words of the domain's root, of an edge's middle table that stays and of its leaf that stays, `j` is none
+-- that the plan alters.
 abbrev pub RootIdle : Plan → ℕ → Type 0
 RootIdle q j = InTable (1024 * q .domain) 1024 j ≡ true → (x : ℕ) → rootAfter q (j - 1024 * q .domain) x ≡ x
 
@@ -44,7 +46,8 @@ LeafIdle e j = isLead (e .old) ≡ true → tableOf e 64 j ≡ true → ⊥
 abbrev pub NotNew : Edge → ℕ → ℕ → Type 0
 NotNew e n j = (isNew e && InTable (e .last) n j) ≡ false
 
--- In the phases of words that stay in place: it stays as it is, or is of a new table. In the phase of new tables: it is of none.
+-- In the phases of words that stay in place: it stays as it is, or is of a new table. In the phase of new tables: it
+-- is of none.
 abbrev pub KeptIdle : Plan → ℕ → Type 0
 KeptIdle q j = Untouched q j ⊎ (newWord q j ≡ true)
 
@@ -55,12 +58,14 @@ NewIdle q j = newWord q j ≡ false
 abbrev pub Idle : Plan → ℕ → ℕ → Type 0
 Idle q c j = Untouched q j ⊎ (newWord q j ≡ not (eqb c 2))
 
--- After the cursor's row comes the row of the cursor `r`, in a pool of `n` words: of the same phase, or of the next one once this is through.
+-- After the cursor's row comes the row of the cursor `r`, in a pool of `n` words: of the same phase, or of the next
+-- one once this is through.
 pub record NextRow (q : Plan) (at : Cursor) (n : ℕ) (r : Cursor) : Type 0 where
   pub row : (r .word .0 ≤ r .past .0) × (r .past .0 ≤ n)
   pub last : r .phase ≤ 4
   pub moves : at .phase * 4294967296 + at .past .0 < r .phase * 4294967296 + r .past .0
-  pub comes : (s : Shape) (u : Run s (Change q)) (x : List ℕ) → length x ≡ n → Stands s (Change q) u (at .phase) (at .past .0) x
+  pub comes : (s : Shape) (u : Run s (Change q)) (x : List ℕ) → length x ≡ n → Stands s (Change q) u (at .phase)
+      (at .past .0) x
       → Stands s (Change q) u (r .phase) (r .word .0) x
 
 -- Of the 1,024 pages from page `begin` on, `r` come before page `n`.

@@ -40,13 +40,15 @@ paintOf g r = record { lo = g .lo; hi = g .hi; right = r }
 abbrev pub noPaint : Paint
 noPaint = record { lo = 0; hi = 0; right = 0 }
 
--- The stores come in phases, and in a phase in the order of the words: the pool `x`, between `old` and `goal`, is reached on that way.
+-- The stores come in phases, and in a phase in the order of the words: the pool `x`, between `old` and `goal`, is
+-- reached on that way.
 pub record OnTheWay (s : Shape) (old : List ℕ) (goal : ℕ → ℕ) (x : List ℕ) : Type 0 where
   pub kept : ℕ → Bool
   pub tells : Tells (formOf s) (words old) goal kept
   pub phase-reached : ℕ
   pub word-reached : ℕ
-  pub is : (j : ℕ) → words x j ≡ midway (words old) goal (phase (formOf s) (words old) kept) phase-reached word-reached j
+  pub is : (j : ℕ) → words x j ≡ midway (words old) goal (phase (formOf s) (words old) kept) phase-reached
+      word-reached j
 
 -- With the allowance `n` the change of `old` was cut: `n` stores were made, and more were wanted.
 pub record IsCut (s : Shape) (d : ℕ) (paint : Paint) (old : List ℕ) (n : ℕ) (x : List ℕ) : Type 0 where
@@ -70,10 +72,12 @@ pub record Asked (p : List ℕ) (s : Shape) (d start len r : ℕ) (g : Region) :
 -- The part of a change from refusal 6 on.
 pub data ChangesRegion (p : List ℕ) (s : Shape) (d : ℕ) (paint : Paint) (n : ℕ) : Answer → List ℕ → Type 0 where
   unsound : (SoundPool (formOf s) (words p) → ⊥) → ChangesRegion p s d paint n (Refused 6) p
-  unsettled : SoundPool (formOf s) (words p) → (Settled (formOf s) (words p) → ⊥) → ChangesRegion p s d paint n (Refused 7) p
+  unsettled : SoundPool (formOf s) (words p) → (Settled (formOf s) (words p) → ⊥) → ChangesRegion p s d paint n
+      (Refused 7) p
   no-room : Settled (formOf s) (words p) → (Room (s .domains) (s .middles) (s .leaves) (aims s d paint (words p)) → ⊥)
       → ChangesRegion p s d paint n (Refused 8) p
-  done : Settled (formOf s) (words p) → (q : List ℕ) → IsDone s d paint p n q → ChangesRegion p s d paint n (Done (differing p q)) q
+  done : Settled (formOf s) (words p) → (q : List ℕ) → IsDone s d paint p n q → ChangesRegion p s d paint n
+      (Done (differing p q)) q
   cut : Settled (formOf s) (words p) → (x : List ℕ) → IsCut s d paint p n x → ChangesRegion p s d paint n Cut x
 
 -- The change of the pool `p`, for domain `d`, start, length, right and allowance, answers and leaves.
@@ -82,13 +86,16 @@ pub data Changes (p : List ℕ) (s : Shape) (d start len r n : ℕ) : Answer →
   no-domain : Fits s (length p) → s .domains ≤ d → Changes p s d start len r n (Refused 2) p
   no-right : Fits s (length p) → d < s .domains → 3 < r → Changes p s d start len r n (Refused 3) p
   -- 4 or 5, as the rounding of the region says.
-  no-region : Fits s (length p) → d < s .domains → r ≤ 3 → (k : ℕ) → regionOf start len ≡ NoRegion k → Changes p s d start len r n (Refused k) p
+  no-region : Fits s (length p) → d < s .domains → r ≤ 3 → (k : ℕ) → regionOf start len ≡ NoRegion k
+      → Changes p s d start len r n (Refused k) p
   -- 6, 7 or 8; done; or cut.
-  in-order : (g : Region) → Asked p s d start len r g → {a : Answer} {q : List ℕ} → ChangesRegion p s d (paintOf g r) n a q → Changes p s d start len r n a q
+  in-order : (g : Region) → Asked p s d start len r g → {a : Answer} {q : List ℕ} → ChangesRegion p s d (paintOf g r)
+      n a q → Changes p s d start len r n a q
 
 -- The tidying of the pool `p` with an allowance answers and leaves.
 pub data Tidies (p : List ℕ) (s : Shape) (n : ℕ) : Answer → List ℕ → Type 0 where
   no-shape : (Fits s (length p) → ⊥) → Tidies p s n (Refused 1) p
   unsound : Fits s (length p) → (SoundPool (formOf s) (words p) → ⊥) → Tidies p s n (Refused 6) p
-  done : Fits s (length p) → SoundPool (formOf s) (words p) → (q : List ℕ) → IsDone s 0 noPaint p n q → Tidies p s n (Done (differing p q)) q
+  done : Fits s (length p) → SoundPool (formOf s) (words p) → (q : List ℕ) → IsDone s 0 noPaint p n q
+      → Tidies p s n (Done (differing p q)) q
   cut : Fits s (length p) → SoundPool (formOf s) (words p) → (x : List ℕ) → IsCut s 0 noPaint p n x → Tidies p s n Cut x

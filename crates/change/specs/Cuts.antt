@@ -32,14 +32,16 @@ pub record CutAt (s : Shape) (d : ℕ) (paint : Paint) (old : List ℕ) (n : ℕ
   pub sound : SoundPool (formOf s) (words x)
   -- every covered word has its old or new right,
   pub covered : (e a : ℕ) → e < s .domains → a < addresses → Covered d paint e a
-      → (rightOf (formOf s) (words x) e a ≡ rightOf (formOf s) (words old) e a) ⊎ (rightOf (formOf s) (words x) e a ≡ paint .right)
+      → (rightOf (formOf s) (words x) e a ≡ rightOf (formOf s) (words old) e a)
+      ⊎ (rightOf (formOf s) (words x) e a ≡ paint .right)
   -- and every other its old one.
   pub others : (e a : ℕ) → e < s .domains → a < addresses → (Covered d paint e a → ⊥)
       → rightOf (formOf s) (words x) e a ≡ rightOf (formOf s) (words old) e a
   -- The change from here would finish in the same pool.
   pub again : Finished (formOf s) (words x) (aims s d paint (words x)) goal
 
--- A store of `v` at word `k` is due in the pool `x`: it is one that the change from here to its finished pool makes first.
+-- A store of `v` at word `k` is due in the pool `x`: it is one that the change from here to its finished pool makes
+-- first.
 pub record Due (s : Shape) (d : ℕ) (paint : Paint) (x : List ℕ) (k v : ℕ) : Type 0 where
   pub goal : ℕ → ℕ
   pub finished : Finished (formOf s) (words x) (aims s d paint (words x)) goal

@@ -1,4 +1,5 @@
--- What comes of a request before anything is stored: refused, whatever the allowance; or in order, with the plan of its change.
+-- What comes of a request before anything is stored: refused, whatever the allowance; or in order, with the plan of
+-- its change.
 use Prim.Native.Nat.{ℕ}
 use mathlib.Core.List.{List}
 use Rattle.theory.specs.Pool.{words}
@@ -22,4 +23,5 @@ RegionIs p s d paint (Planned q) = Settled (formOf s) (words p) × Ready s d pai
 -- From refusal 1 on.
 abbrev pub RequestIs : List ℕ → Shape → ℕ → ℕ → ℕ → ℕ → Request → Type 0
 RequestIs p s d start len r (Refused k) = (n : ℕ) → Changes p s d start len r n (No k) p
-RequestIs p s d start len r (Planned q) = (g : Region) × Asked p s d start len r g × Settled (formOf s) (words p) × Ready s d (paintOf g r) (Change q) p
+RequestIs p s d start len r (Planned q) = (g : Region) × Asked p s d start len r g × Settled (formOf s) (words p)
+    × Ready s d (paintOf g r) (Change q) p

@@ -1,4 +1,5 @@
--- A change or a tidying that is running: where it stands, which store it makes next, and how it ends. For the inner functions.
+-- A change or a tidying that is running: where it stands, which store it makes next, and how it ends. For the inner
+-- functions.
 use Prim.Native.Nat.{ℕ, _+_, _*_, _≤_, _<_}
 use mathlib.Core.Path.{_≡_}
 use mathlib.Core.Logic.{_≢_}
@@ -29,8 +30,10 @@ use Rattle.change.specs.Answers.{noPaint, IsDone, IsCut}
 abbrev pub phases : Shape → List ℕ → (ℕ → Bool) → ℕ → ℕ
 phases s old kept = phase (formOf s) (words old) kept
 
--- In the change of `old` with the allowance `n`, the phases before `c`, and of phase `c` the words below `k`, are done; `left` stores are left.
-pub record At (s : Shape) (d : ℕ) (paint : Paint) (old : List ℕ) (Q : ℕ → ℕ) (kept : ℕ → Bool) (n c k : ℕ) (x : List ℕ) (left : ℕ) : Type 0 where
+-- In the change of `old` with the allowance `n`, the phases before `c`, and of phase `c` the words below `k`, are
+-- done; `left` stores are left.
+pub record At (s : Shape) (d : ℕ) (paint : Paint) (old : List ℕ) (Q : ℕ → ℕ) (kept : ℕ → Bool) (n c k : ℕ)
+    (x : List ℕ) (left : ℕ) : Type 0 where
   pub goal : Goal s d paint old Q kept
   pub pool : (j : ℕ) → words x j ≡ midway (words old) Q (phases s old kept) c k j
   pub done : ℕ
@@ -57,7 +60,8 @@ pub record Run (s : Shape) (w : Work) : Type 0 where
 abbrev pub Stands : (s : Shape) (w : Work) → Run s w → ℕ → ℕ → List ℕ → Type 0
 Stands s w r c k x = At s (r .domain) (r .paint) (r .old) (r .goal) (r .kept) (r .allowance) c k x (r .left)
 
--- A cursor that the work can go on from, in a pool of `n` words: the plan is in its ranges and the row within the pool; a tidying has one phase.
+-- A cursor that the work can go on from, in a pool of `n` words: the plan is in its ranges and the row within the
+-- pool; a tidying has one phase.
 abbrev pub Follows : Work → Cursor → ℕ → Type 0
 Follows (Change q) c n = PlanFits q × (c .word .0 ≤ c .past .0) × (c .past .0 ≤ n)
 Follows Tidying c n = c .phase ≡ 1
@@ -89,19 +93,22 @@ pub record Stores (s : Shape) (w : Work) (r : Run s w) (x : List ℕ) (c k v : �
   pub value : v ≡ r .goal k
   pub differs : words x k ≢ v
 
--- Every run of the work that stands at word `i` of phase `c` makes, next, the store of `v` at word `k`, and goes on from the cursor `on`.
+-- Every run of the work that stands at word `i` of phase `c` makes, next, the store of `v` at word `k`, and goes on
+-- from the cursor `on`.
 pub record Wanted (s : Shape) (w : Work) (x : List ℕ) (c i k v : ℕ) (on : Cursor) : Type 0 where
   pub inside : k < length x
   pub word : on .word .0 ≡ k + 1
   pub follows : Follows w on (length x)
   pub stores : (r : Run s w) → Stands s w r c i x → Stores s w r x (on .phase) k v
 
--- The next store of the work from word `i` of phase `c` on; or there is none, and every run that stands there has finished.
+-- The next store of the work from word `i` of phase `c` on; or there is none, and every run that stands there has
+-- finished.
 abbrev pub NextIs : Shape → Work → List ℕ → ℕ → ℕ → Next → Type 0
 NextIs s w x c i (Store k v on) = Wanted s w x c i (k .0) v on
 NextIs s w x c i None = (r : Run s w) → Stands s w r c i x → (j : ℕ) → words x j ≡ r .goal j
 
--- The next store of the work from word `i` of phase `c` on; or there is none before word `to`, and every run that stands there comes to it.
+-- The next store of the work from word `i` of phase `c` on; or there is none before word `to`, and every run that
+-- stands there comes to it.
 abbrev pub NextIn : Shape → Work → List ℕ → ℕ → ℕ → ℕ → Next → Type 0
 NextIn s w x c i to (Store k v on) = Wanted s w x c i (k .0) v on
 NextIn s w x c i to None = (r : Run s w) → Stands s w r c i x → Stands s w r c to x

@@ -50,8 +50,8 @@ pub record StoresAre (s : Shape) (d : ℕ) (paint : Paint) (old : List ℕ) (l :
   pub goal : Goal s d paint old finished-pool kept
   pub list : l ≡ storesOf s old finished-pool kept
 
--- With the allowance `n`, the first `n` stores of the list were made, or all; done is all of them, with their number, and cut is
--- fewer. A refusal has none.
+-- With the allowance `n`, the first `n` stores of the list were made, or all; done is all of them, with their number,
+-- and cut is fewer. A refusal has none.
 abbrev pub Makes : List ℕ → List OneStore → ℕ → Answer → List ℕ → Type 0
 Makes p l n (Refused k) q = (l ≡ []) × (q ≡ p)
 Makes p l n (Done k) q = (length l ≤ n) × (k ≡ length l) × (q ≡ stored p l)

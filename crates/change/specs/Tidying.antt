@@ -1,4 +1,5 @@
--- What a tidying does with a word, and whose a table is. It makes the stores of the first phase alone. For the inner functions.
+-- What a tidying does with a word, and whose a table is. It makes the stores of the first phase alone. For the inner
+-- functions.
 use Prim.Native.Nat.{ℕ, _*_, _+_, _≤_, _<_}
 use mathlib.Core.Path.{_≡_}
 use mathlib.Core.Logic.{_≢_, _⊎_}
@@ -24,7 +25,8 @@ Becomes Mixed w g = g ≡ w
 -- For every tidying that has come to word `k` of the pool `x`, the word is to become what the target says.
 abbrev pub AimedAt : Shape → ℕ → List ℕ → Target → Type 0
 AimedAt s k x t =
-    (old : List ℕ) (goal : ℕ → ℕ) (kept : ℕ → Bool) (n left : ℕ) → TidyAt s old goal kept n k x left → Becomes t (words x k) (goal k)
+    (old : List ℕ) (goal : ℕ → ℕ) (kept : ℕ → Bool) (n left : ℕ) → TidyAt s old goal kept n k x left
+    → Becomes t (words x k) (goal k)
 
 -- A middle place begins at word `t`.
 abbrev pub MiddlePlace : Shape → ℕ → Type 0

@@ -3,7 +3,8 @@ ghost use Prim.Native.Nat.{ℕ, _+_, _<_, _≤_};
 ghost use mathlib.Core.Path.{_≡_};
 ghost use Rattle.plan.specs.Plan.{PlanFits};
 ghost use Rattle.change.specs.Runs.{Looks, NextIs, NextIn};
-ghost use Rattle.change.specs.Ahead.{Ahead, Outside, NotNew, RootIdle, MiddleIdle, LeafIdle, KeptIdle, NewIdle, Idle, PagesBefore};
+ghost use Rattle.change.specs.Ahead.{Ahead, Outside, NotNew, RootIdle, MiddleIdle, LeafIdle, KeptIdle, NewIdle};
+ghost use Rattle.change.specs.Ahead.{Idle, PagesBefore};
 ghost use Rattle.change.specs.Ahead.{NextRow};
 use crate::Cursor;
 use crate::Next;
@@ -21,7 +22,8 @@ pub struct Span {
     pub past: PoolWord,
 }
 
-// The first of two rows: the words from `k` on of those from `start` up to `past`, or `best` where that comes before them.
+// The first of two rows: the words from `k` on of those from `start` up to `past`, or `best` where that comes before
+// them.
 fn nearer(k: PoolWord, start: PoolWord, past: PoolWord, best: Span) -> Span
     requires { ⌜ k .0 ≤ best .from .0 ⌝ }
     ensures { λ r. ⌜ Ahead (k .0) best (Outside (start .0) (past .0)) r ⌝ }
@@ -204,7 +206,8 @@ fn next_row(plan: Plan, at: Cursor, end: PoolWord) -> Cursor
 // The store at the cursor's word, if the word changes in this phase.
 fn next_here(pool: &[u32], shape: Shape, plan: Plan, at: Cursor) -> Next
     requires { ⌜ Looks shape (Work.Change plan) at (now pool) × (at .word .0 < at .past .0) ⌝ }
-    ensures { λ r. ⌜ NextIn shape (Work.Change plan) (now (pool .entry)) (at .phase) (at .word .0) (at .word .0 + 1) r ⌝ }
+    ensures { λ r. ⌜ NextIn shape (Work.Change plan) (now (pool .entry)) (at .phase) (at .word .0) (at .word .0 + 1)
+        r ⌝ }
 {
     let phase = at.phase;
     let k = at.word;

@@ -6,7 +6,8 @@ ghost use mathlib.Core.Bool.{cond, _&&_};
 ghost use Rattle.words.specs.Rights.{rightAt, eightOf};
 ghost use lib.ListN.{length, set};
 ghost use Rattle.table.specs.Shape.{Fits, InRange};
-ghost use Rattle.plan.specs.Plan.{isLead, InTable, tableOf, isNew, rootAfter, pageAfter, leafAfter, after, newWord, phaseOf, PlanFits};
+ghost use Rattle.plan.specs.Plan.{isLead, InTable, tableOf, isNew, rootAfter, pageAfter, leafAfter, after, newWord};
+ghost use Rattle.plan.specs.Plan.{phaseOf, PlanFits};
 ghost use Rattle.plan.specs.Planning.{Regular};
 ghost use Rattle.change.specs.Answers.{Changes};
 ghost use Rattle.change.specs.Cuts.{CutAt, Due};
@@ -39,7 +40,8 @@ pub enum Work {
     Tidying,
 }
 
-// Where a run stands: the phase, and in it the word. The words from there up to `past` are a row, to be looked at one by one.
+// Where a run stands: the phase, and in it the word. The words from there up to `past` are a row, to be looked at one
+// by one.
 pub struct Cursor {
     pub phase: u32,
     pub word: PoolWord,
@@ -253,7 +255,8 @@ fn new_word(plan: Plan, k: PoolWord) -> bool
     of_new_table(page2, 64, k)
 }
 
-// The phase in which word `k`, which holds `x`, is stored: words that lead are given up first, then new tables are filled, then the rest is linked.
+// The phase in which word `k`, which holds `x`, is stored: words that lead are given up first, then new tables are
+// filled, then the rest is linked.
 fn phase_of(shape: Shape, plan: Plan, k: PoolWord, x: u32) -> u32
     requires { ⌜ InRange (shape .domains) (shape .middles) (shape .leaves) ⌝ }
     ensures { λ r. ⌜ r ≡ phaseOf shape plan (k .0) x ⌝ }
@@ -273,11 +276,13 @@ fn phase_of(shape: Shape, plan: Plan, k: PoolWord, x: u32) -> u32
     3
 }
 
-// The one store. All stores of a change and of a tidying are made here, and none but one that is due: the pool is then what a cut leaves.
+// The one store. All stores of a change and of a tidying are made here, and none but one that is due: the pool is
+// then what a cut leaves.
 fn put(pool: &mut [u32], shape: Shape, domain: u32, paint: Paint, at: PoolWord, value: u32)
     requires { ⌜ Due shape domain paint (now pool) (at .0) value ⌝ }
     ensures stored { λ r. ⌜ now (pool .exit) ≡ set (now (pool .entry)) (at .0) value ⌝ }
-    ensures cut { λ r. ⌜ ((old : List ℕ) (n : ℕ) → CutAt shape domain paint old n (now (pool .entry)) → CutAt shape domain paint old (n + 1) (now (pool .exit))) ⌝ }
+    ensures cut { λ r. ⌜ ((old : List ℕ) (n : ℕ) → CutAt shape domain paint old n (now (pool .entry))
+        → CutAt shape domain paint old (n + 1) (now (pool .exit))) ⌝ }
 {
     let i = words::pool_index(at);
     pool[i] = value;
@@ -295,8 +300,9 @@ fn next_store(pool: &[u32], shape: Shape, owners: &[u32], work: Work, from: Curs
     }
 }
 
-// The one loop: it asks which store comes next, and makes it, until there is none or none is left. Besides `put`, and `change` and `tidy`, which
-// call it once, nothing holds the pool to write in; and nothing else is told the allowance.
+// The one loop: it asks which store comes next, and makes it, until there is none or none is left. Besides `put`, and
+// `change` and `tidy`, which call it once, nothing holds the pool to write in; and nothing else is told the
+// allowance.
 fn make_stores(
     pool: &mut [u32],
     shape: Shape,
@@ -385,8 +391,9 @@ fn plan_request(
     }
 }
 
-// Gives a domain a right on every word that a region covers. Whatever the pool holds and whatever the numbers are, it answers; a refusal changes no
-// word, and a cut leaves each word with its old right or, where it is covered, with its new one.
+// Gives a domain a right on every word that a region covers. Whatever the pool holds and whatever the numbers are, it
+// answers; a refusal changes no word, and a cut leaves each word with its old right or, where it is covered, with its
+// new one.
 pub fn change(
     pool: &mut [u32],
     shape: Shape,

@@ -1,5 +1,5 @@
-// Tidying: each table of a sound pool that its block does not want is given up, and its entry becomes the rights that it had. Words are met
-// in the order of the pool, so the roots come first and only tables that stay are looked into.
+// Tidying: each table of a sound pool that its block does not want is given up, and its entry becomes the rights that
+// it had. Words are met in the order of the pool, so the roots come first and only tables that stay are looked into.
 ghost use Prim.Native.Nat.{_+_, _<_, _≤_};
 ghost use lib.ListN.{length};
 ghost use Rattle.theory.specs.Pool.{words, SoundPool};
@@ -18,8 +18,8 @@ use targets::Target;
 use targets::UNPAINTED;
 use words::PoolWord;
 
-// What word `i` of the table at `base` is to become, where the root word `owner` leads to a middle table. A word that does not lead stays: most
-// are eight rights, and searching for their target would say so too.
+// What word `i` of the table at `base` is to become, where the root word `owner` leads to a middle table. A word that
+// does not lead stays: most are eight rights, and searching for their target would say so too.
 fn target_at(pool: &[u32], shape: Shape, owner: u32, base: PoolWord, i: u32) -> Target
     requires { ⌜ Fits shape (length (now pool)) × SoundPool (formOf shape) (words (now pool)) ⌝ }
     requires { ⌜ Table shape (now pool) owner (base .0) × (i < 1024) ⌝ }
@@ -68,8 +68,9 @@ fn next_given_up(pool: &[u32], shape: Shape, owner: u32, base: PoolWord, from: u
     Next::None
 }
 
-// The root, or the middle place, at `base`. No root word but its owner leads to a middle place. Tables that are not wanted are given up by the
-// time it is met: where the owner no longer leads here, or there is none, the place holds what it held.
+// The root, or the middle place, at `base`. No root word but its owner leads to a middle place. Tables that are not
+// wanted are given up by the time it is met: where the owner no longer leads here, or there is none, the place holds
+// what it held.
 fn next_in_place(pool: &[u32], shape: Shape, owners: &[u32], base: PoolWord, from: u32) -> Next
     requires { ⌜ Fits shape (length (now pool)) × SoundPool (formOf shape) (words (now pool)) ⌝ }
     requires { ⌜ MiddleOwners shape (now owners) (now pool) ⌝ }

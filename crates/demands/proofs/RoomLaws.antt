@@ -16,7 +16,8 @@ use Rattle.change.specs.declared.Answer.the-variants.{Done, Cut, Refused}
 use Rattle.change.specs.Answers.{paintOf, Asked, ChangesRegion, Changes, Tidies, no-shape, no-domain, no-right}
 use Rattle.change.specs.Answers.{no-region, in-order, unsound, unsettled, no-room, done, cut}
 use Rattle.demands.specs.Series.{History, Series, RoomFor, ByRoom, full, finishes, is-cut}
-use Rattle.demands.proofs.SeriesLaws.{apart, cut-apart, same-number, one-region, series-tidy-ends}
+use Rattle.change.proofs.AnswerLaws.{done-refused, cut-refused, same-number}
+use Rattle.demands.proofs.SeriesLaws.{one-region, series-tidy-ends}
 
 cut-done : {k : ℕ} → Cut ≡ Done k → ⊥
 cut-done e = let z : _≡_ {A = ℕ} 0 1 = cc in omega arith
@@ -24,20 +25,20 @@ cut-done e = let z : _≡_ {A = ℕ} 0 1 = cc in omega arith
 -- A finished change and a finished tidying leave a settled pool ..
 pub changed-settled : {s : Shape} {p q : List ℕ} {d start len r n k : ℕ} {c : Answer} → Changes p s d start len r n c q
     → c ≡ Done k → Settled (formOf s) (words q)
-changed-settled (no-shape y) e = absurd (apart (sym e))
-changed-settled (no-domain y z) e = absurd (apart (sym e))
-changed-settled (no-right y z w) e = absurd (apart (sym e))
-changed-settled (no-region y z w k v) e = absurd (apart (sym e))
-changed-settled (in-order g asked (unsound y)) e = absurd (apart (sym e))
-changed-settled (in-order g asked (unsettled y z)) e = absurd (apart (sym e))
-changed-settled (in-order g asked (no-room y z)) e = absurd (apart (sym e))
+changed-settled (no-shape y) e = absurd (done-refused (sym e))
+changed-settled (no-domain y z) e = absurd (done-refused (sym e))
+changed-settled (no-right y z w) e = absurd (done-refused (sym e))
+changed-settled (no-region y z w k v) e = absurd (done-refused (sym e))
+changed-settled (in-order g asked (unsound y)) e = absurd (done-refused (sym e))
+changed-settled (in-order g asked (unsettled y z)) e = absurd (done-refused (sym e))
+changed-settled (in-order g asked (no-room y z)) e = absurd (done-refused (sym e))
 changed-settled (in-order g asked (done y q z)) e = z .finished .settled
 changed-settled (in-order g asked (cut y q z)) e = absurd (cut-done e)
 
 pub tidied-settled : {s : Shape} {p q : List ℕ} {n k : ℕ} {c : Answer} → Tidies p s n c q → c ≡ Done k
     → Settled (formOf s) (words q)
-tidied-settled (no-shape y) e = absurd (apart (sym e))
-tidied-settled (unsound y z) e = absurd (apart (sym e))
+tidied-settled (no-shape y) e = absurd (done-refused (sym e))
+tidied-settled (unsound y z) e = absurd (done-refused (sym e))
 tidied-settled (done y z q w) e = w .finished .settled
 tidied-settled (cut y z q w) e = absurd (cut-done e)
 
@@ -75,14 +76,14 @@ by-room-not-7 (full y) = (
   (λ e. let w = same-number e in omega arith),
   (λ e. let w = same-number e in omega arith),
 )
-by-room-not-7 (finishes y k) = (apart, apart)
-by-room-not-7 (is-cut y) = (cut-apart, cut-apart)
+by-room-not-7 (finishes y k) = (done-refused, done-refused)
+by-room-not-7 (is-cut y) = (cut-refused, cut-refused)
 
 by-room-8 : {s : Shape} {p : List ℕ} {d : ℕ} {g : Region} {r : ℕ} {c : Answer} → ByRoom s p d g r c
     → (c ≡ Refused 8 → RoomFor s p d g r → ⊥) × ((RoomFor s p d g r → ⊥) → c ≡ Refused 8)
 by-room-8 (full y) = ((λ e. y), (λ z. refl))
-by-room-8 (finishes y k) = ((λ e. absurd (apart e)), (λ z. absurd (z y)))
-by-room-8 (is-cut y) = ((λ e. absurd (cut-apart e)), (λ z. absurd (z y)))
+by-room-8 (finishes y k) = ((λ e. absurd (done-refused e)), (λ z. absurd (z y)))
+by-room-8 (is-cut y) = ((λ e. absurd (cut-refused e)), (λ z. absurd (z y)))
 
 pub settled-not-7 : {p : List ℕ} {s : Shape} {d start len r n : ℕ} {g : Region} {c : Answer} {q : List ℕ}
     → Settled (formOf s) (words p) → Asked p s d start len r g

@@ -6,7 +6,7 @@ use mathlib.Core.Bool.{true, cond, _&&_}
 use mathlib.Core.List.{List}
 use native.Mathlib.Omega.{arith}
 use native.Mathlib.Decide.{ℕ-discrete, decLt}
-use Rattle.words.proofs.RegionLaws.{region-empty, region-beyond, region-covers}
+use Rattle.words.proofs.RegionLaws.{region-number}
 use lib.Dec.{leb, ltb}
 use lib.ListN.{length, length-append, length-replicate}
 use borrow.Author.Tests.{ltb-true}
@@ -28,28 +28,14 @@ use Rattle.change.specs.declared.Answer.the-variants.{Done, Cut, Refused}
 use Rattle.plan.specs.Aims.{Covered}
 use Rattle.change.specs.Answers.{paintOf, noPaint, Asked, ChangesRegion, Changes, Tidies, no-shape}
 use Rattle.change.specs.Answers.{no-domain, no-right, no-region, in-order, unsound, unsettled, no-room, done, cut}
+use Rattle.change.proofs.AnswerLaws.{done-refused, cut-refused, same-number}
+use Rattle.change.proofs.TidyGoalLaws.{none-covered}
 use Rattle.plan.proofs.AimLaws.{aims-covered, aims-other, covered-or}
 use Rattle.demands.specs.Series.{History, made, changed, tidied, Covers-it, Series, fresh, change, tidy}
 use Rattle.demands.specs.Series.{Holds}
 
-pub apart : {k m : ℕ} → Done k ≡ Refused m → ⊥
-apart e = let z : _≡_ {A = ℕ} 0 1 = cc in omega arith
-
-pub cut-apart : {m : ℕ} → Cut ≡ Refused m → ⊥
-cut-apart e = let z : _≡_ {A = ℕ} 0 1 = cc in omega arith
-
-pub same-number : {k m : ℕ} → Refused k ≡ Refused m → k ≡ m
-same-number e = cc
-
 pub one-region : (start len : ℕ) {g h : Region} → regionOf start len ≡ Covers g → regionOf start len ≡ Covers h → g ≡ h
 one-region start len e f = cc
-
--- The empty paint covers nothing.
-pub nothing-covered : (d e a : ℕ) → Covered d noPaint e a → ⊥
-nothing-covered d e a (q, c) = none (a / 4) c
-  where
-    none : (x : ℕ) → (leb 0 x && ltb x 0) ≡ true → ⊥
-    none x z = let (_, y) = and-both (leb 0 x) (ltb x 0) z in let w = ltb-true x 0 y in omega arith
 
 -- The length of a fresh pool is that of its shape.
 fresh-long : (s : Shape) → length (freshPool s) ≡ poolLength (s .domains) (s .middles) (s .leaves)
@@ -120,13 +106,13 @@ module _ {s : Shape} {p : List ℕ} {h : History} (o : Holds s p h) where
     fits = rw (f .long) (o .fits);
     sound = f .finished .settled .sound;
     rights = λ e a be ba.
-        let other = aims-other s 0 noPaint (words p) e a (nothing-covered 0 e a) in
+        let other = aims-other s 0 noPaint (words p) e a (none-covered 0 e a) in
         rw (f .finished .rights e a be ba ∙ other) (o .rights e a be ba);
   }
   tidy-holds (cut x y q f) = record {
     fits = rw (f .cut .long) (o .fits);
     sound = f .cut .sound;
-    rights = λ e a be ba. rw (f .cut .others e a be ba (nothing-covered 0 e a)) (o .rights e a be ba);
+    rights = λ e a be ba. rw (f .cut .others e a be ba (none-covered 0 e a)) (o .rights e a be ba);
   }
 
 -- Demand 3: after any series the pool is sound, and every word has the right of the last finished change that covers
@@ -142,23 +128,8 @@ never-unsound : {s : Shape} {p q : List ℕ} {d : ℕ} {paint : Paint} {n : ℕ}
 never-unsound o (unsound x) e = x o
 never-unsound o (unsettled x y) e = let z = same-number e in omega arith
 never-unsound o (no-room x y) e = let z = same-number e in omega arith
-never-unsound o (done x q y) e = apart e
-never-unsound o (cut x q y) e = cut-apart e
-
-region-number : (start len k : ℕ) → regionOf start len ≡ NoRegion k → (k ≡ 4) ⊎ (k ≡ 5)
-region-number start len k e = elim (ℕ-discrete len 0) [
-  | yes a ↦ inl (number (sym (region-empty start len a) ∙ e))
-  | no a ↦ elim (decLt 4294967296 (roundedEnd start len)) [
-    | yes b ↦ inr (number (sym (region-beyond start len (omega (arith, a)) b) ∙ e))
-    | no b ↦ absurd (other (sym (region-covers start len (omega (arith, a)) (omega arith)) ∙ e))
-  ]
-]
-  where
-    number : {m : ℕ} → NoRegion m ≡ NoRegion k → k ≡ m
-    number z = cc
-
-    other : {g : Region} → Covers g ≡ NoRegion k → ⊥
-    other z = let y : _≡_ {A = ℕ} 0 1 = cc in omega arith
+never-unsound o (done x q y) e = done-refused e
+never-unsound o (cut x q y) e = cut-refused e
 
 pub series-never-6 : {s : Shape} {p q : List ℕ} {h : History} {d start len r n : ℕ} {c : Answer} → Series s p h
     → Changes p s d start len r n c q → c ≢ Refused 6
@@ -179,4 +150,4 @@ series-tidy-ends x (cut y z q w) = inr refl
 
 pub series-tidy-never-6 : {s : Shape} {p q : List ℕ} {h : History} {n : ℕ} {c : Answer} → Series s p h
     → Tidies p s n c q → c ≢ Refused 6
-series-tidy-never-6 x y e = ⊎-elim (λ (k, z). apart (sym z ∙ e)) (λ z. cut-apart (sym z ∙ e)) (series-tidy-ends x y)
+series-tidy-never-6 x y e = ⊎-elim (λ (k, z). done-refused (sym z ∙ e)) (λ z. cut-refused (sym z ∙ e)) (series-tidy-ends x y)

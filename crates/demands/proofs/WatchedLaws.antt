@@ -41,7 +41,8 @@ use Rattle.lookaside.proofs.VerdictLaws.{check-right, check-as-emptied}
 use Rattle.demands.specs.Series.{History, Series, fresh, change, tidy}
 use Rattle.demands.specs.Watched.{placesOf, altered, Watched, emptied, checked, changed, tidied, flushed-all}
 use Rattle.demands.specs.Watched.{flushed-domain, flushed-region, unflushed}
-use Rattle.demands.proofs.SeriesLaws.{nothing-covered, series-holds}
+use Rattle.demands.proofs.SeriesLaws.{series-holds}
+use Rattle.change.proofs.TidyGoalLaws.{none-covered}
 use Rattle.demands.proofs.ClearLaws.{AllClear, not-six, orSix, emptied-clear, flushed-clear, check-clear}
 use Rattle.demands.proofs.ClearLaws.{change-clear, tidy-clear, check-six}
 
@@ -84,8 +85,8 @@ pub tidy-same : {p q : List ℕ} {s : Shape} {n : ℕ} {c : Answer} → Tidies p
 tidy-same (no-shape x) e a be ba z = refl
 tidy-same (unsound x y) e a be ba z = refl
 tidy-same {p} {s = s} (done x y q f) e a be ba z =
-    sym (f .finished .rights e a be ba ∙ aims-other s 0 noPaint (words p) e a (nothing-covered 0 e a))
-tidy-same (cut x y q f) e a be ba z = sym (f .cut .others e a be ba (nothing-covered 0 e a))
+    sym (f .finished .rights e a be ba ∙ aims-other s 0 noPaint (words p) e a (none-covered 0 e a))
+tidy-same (cut x y q f) e a be ba z = sym (f .cut .others e a be ba (none-covered 0 e a))
 
 -- The buffer agrees with the table but where it is stale, no slot answers where the walk is refused 6, and its pointer
 -- is in order.
@@ -172,7 +173,8 @@ six-or-not (NotFound n) = elim (ℕ-discrete n 6) [ yes e ↦ inl (ap NotFound e
 -- refusals are the same too. Of every pool, sound or not.
 pub same-verdict : {s : Shape} {p : List ℕ} {b : Buffer} {x : Places} → Watched s p b x → (d kind size a : ℕ)
     → a < addresses → x d a ≡ false
-    → withoutLoads (checkOf p s b d kind size a .verdict) ≡ withoutLoads (checkOf p s emptyBuffer d kind size a .verdict)
+    → withoutLoads (checkOf p s b d kind size a .verdict)
+    ≡ withoutLoads (checkOf p s emptyBuffer d kind size a .verdict)
 same-verdict {s} {p} {b} {x} w d kind size a h z =
     let o = watched-sees w in
     let same = refusal-pointer s (length p) d kind size a (b .next) (emptyBuffer .next) (o .pointer) first-pointer in

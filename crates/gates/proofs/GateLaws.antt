@@ -17,7 +17,8 @@ use Rattle.gates.specs.declared.GateAt.{GateAt}
 use Rattle.gates.specs.declared.Gates.{Gates}
 use Rattle.gates.specs.declared.Here.the-variants.{Nothing, Stands}
 use Rattle.gates.specs.Lists.{before, others, takeOut}
-use Rattle.gates.specs.Gates.{maxGates, held, standsAt, placeOf, gateIn, gateOf, leadsTo, placeRefusal, setRefused, setDone, stored, setAtPlace, setOf, without, removeOf}
+use Rattle.gates.specs.Gates.{maxGates, held, standsAt, placeOf, gateIn, gateOf, leadsTo, placeRefusal}
+use Rattle.gates.specs.Gates.{setRefused, setDone, stored, setAtPlace, setOf, without, removeOf}
 use Rattle.theory.proofs.Logic.{by-cases, and-both}
 use Rattle.gates.proofs.ListLaws.{none-refuses}
 
@@ -47,7 +48,8 @@ module _ (d a : ℕ) where
   unfolding before gateIn
   no-gate-found [] h = refl
   no-gate-found (x ∷ l) h =
-      by-cases (standsAt d a x) (λ e. absurd (not-suc-le-zero (rw e at h))) (λ e. rw e (no-gate-found l (le-of-suc-le-suc (rw e at h))))
+      by-cases (standsAt d a x) (λ e. absurd (not-suc-le-zero (rw e at h)))
+      (λ e. rw e (no-gate-found l (le-of-suc-le-suc (rw e at h))))
 
   -- A gate that stands there is found in the place of the first, and after gates that do not.
   pub gate-set : (g : GateAt) → standsAt d a g ≡ true → (l : List GateAt) → before (standsAt d a) l < length l
@@ -62,10 +64,12 @@ module _ (d a : ℕ) where
   unfolding before gateIn
   gate-last g p [] h = rw p
   gate-last g p (x ∷ l) h =
-      by-cases (standsAt d a x) (λ e. absurd (not-suc-le-zero (rw e at h))) (λ e. rw e (gate-last g p l (le-of-suc-le-suc (rw e at h))))
+      by-cases (standsAt d a x) (λ e. absurd (not-suc-le-zero (rw e at h)))
+      (λ e. rw e (gate-last g p l (le-of-suc-le-suc (rw e at h))))
 
   -- Without the first, the next one at the same place is found, or none.
-  pub gate-takeOut : (l : List GateAt) → gateIn d a (takeOut (before (standsAt d a) l) l) ≡ gateIn d a (drop (suc (before (standsAt d a) l)) l)
+  pub gate-takeOut : (l : List GateAt) → gateIn d a (takeOut (before (standsAt d a) l) l)
+      ≡ gateIn d a (drop (suc (before (standsAt d a) l)) l)
   unfolding before gateIn
   gate-takeOut [] = refl
   gate-takeOut (x ∷ l) = by-cases (standsAt d a x) (λ e. rw e) (λ e. rw (e, e) (gate-takeOut l))
@@ -75,7 +79,8 @@ module _ (d a : ℕ) where
     not-both : (x : GateAt) → standsAt d a x ≡ true → standsAt d′ a′ x ≡ false
     not-both x e =
         let (p, q) = stands x d a e in
-        by-cases (standsAt d′ a′ x) (λ f. let (u, v) = stands x d′ a′ f in absurd (elsewhere (sym u ∙ p, sym v ∙ q))) (λ f. f)
+        by-cases (standsAt d′ a′ x) (λ f. let (u, v) = stands x d′ a′ f in absurd (elsewhere (sym u ∙ p, sym v ∙ q)))
+        (λ f. f)
 
     pub gate-others : (l : List GateAt) → gateIn d′ a′ (others (standsAt d a) l) ≡ gateIn d′ a′ l
     unfolding others gateIn
@@ -89,7 +94,8 @@ module _ (G : Gates) (d a : ℕ) (long : G .count ≤ length (G .places)) where
   pub held-long : length (held G) ≡ G .count
   held-long = length-take-le (G .count) (G .places) long
 
-  pub gate-at : (g : GateAt) → placeOf G d a < G .count → gateOf G d a ≡ Stands (getD (G .places) (placeOf G d a) g .gate)
+  pub gate-at : (g : GateAt) → placeOf G d a < G .count → gateOf G d a
+      ≡ Stands (getD (G .places) (placeOf G d a) g .gate)
   gate-at g h =
       let e = held-long in
       gate-found d a g (held G) (omega arith) ∙ rw (getD-take (G .count) (G .places) (placeOf G d a) g h)
@@ -116,11 +122,13 @@ module _ (D : ℕ) (G : Gates) (d : ℕ) (a : ByteAddr) (x : Gate) where
   unfolding setOf setAtPlace
   set-own h o = rw (eq-eqb refusal 0 h, o)
 
-  pub set-replaces : refusal ≡ 0 → leadsTo d x ≡ false → place < G .count → setOf D G d a x ≡ setDone (stored G place new (G .count))
+  pub set-replaces : refusal ≡ 0 → leadsTo d x ≡ false → place < G .count → setOf D G d a x
+      ≡ setDone (stored G place new (G .count))
   unfolding setOf setAtPlace
   set-replaces h o l = rw (eq-eqb refusal 0 h, o, lt-ltb place (G .count) l)
 
-  pub set-full : refusal ≡ 0 → leadsTo d x ≡ false → G .count ≤ place → G .count ≡ maxGates → setOf D G d a x ≡ setRefused 12 G
+  pub set-full : refusal ≡ 0 → leadsTo d x ≡ false → G .count ≤ place → G .count ≡ maxGates → setOf D G d a x
+      ≡ setRefused 12 G
   unfolding setOf setAtPlace
   set-full h o l f = rw (eq-eqb refusal 0 h, o, le-ltb place (G .count) l, eq-eqb (G .count) maxGates f)
 

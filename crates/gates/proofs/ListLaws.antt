@@ -1,4 +1,5 @@
--- Laws of lists of gates and frames: the searches of the first `n` elements, one element at a time, and an element taken out by moving the later ones down.
+-- Laws of lists of gates and frames: the searches of the first `n` elements, one element at a time, and an element
+-- taken out by moving the later ones down.
 use Prim.Native.Nat.{ℕ, zero, suc, _+_, _-_, _≤_, _<_}
 use mathlib.Core.Path.{_≡_, refl, sym, ap, _∙_}
 use mathlib.Core.Bool.{Bool, true, false, cond, _&&_, _||_, true≢false}
@@ -11,7 +12,8 @@ use lib.Seq.{drop-cons, getD-take, length-take-le, take-take, take-at, drop-at, 
 use Rattle.gates.specs.Lists.{before, every, others, takeOut}
 use Rattle.theory.proofs.Logic.{by-cases}
 
--- What a field that is an array of structs tells of its list: `search (needs, unmapped)` finds that it has the array's length.
+-- What a field that is an array of structs tells of its list: `search (needs, unmapped)` finds that it has the
+-- array's length.
 pub unmapped : {X Y : Type 0} (f : X → Y) (l : List X) (n : ℕ) → length (map f l) ≡ n → length l ≡ n
 unmapped f l n p = sym (length-map l f) ∙ p
 
@@ -40,12 +42,14 @@ module _ {A : Type 0} (t : A → Bool) (l : List A) (n : ℕ) (d : A) (long : n 
       rw (add-one, ← getD-take n l i d h) (drop-cons (take n l) i d (omega arith))
 
   rest-none : (i : ℕ) → n ≤ i → drop i (take n l) ≡ []
-  rest-none i h = let e : length (take n l) ≡ n = length-take-le n l long in drop-of-length-le (take n l) {i = i} (omega arith)
+  rest-none i h = let e : length (take n l) ≡ n = length-take-le n l long in drop-of-length-le (take n l) {i = i}
+      (omega arith)
 
   pub passed-more : (i : ℕ) → i < n → t (getD l i d) ≡ false → Passed t l n i → Passed t l n (i + 1)
   unfolding before
   passed-more i h e p =
-      let q : before t (drop i (take n l)) ≡ suc (before t (drop (i + 1) (take n l))) = rw (rest-cons i h, e) in omega arith
+      let q : before t (drop i (take n l)) ≡ suc (before t (drop (i + 1) (take n l))) = rw (rest-cons i h, e) in
+      omega arith
 
   pub passed-hit : (i : ℕ) → i < n → t (getD l i d) ≡ true → Passed t l n i → before t (take n l) ≡ i
   unfolding before
@@ -77,7 +81,8 @@ module _ {A : Type 0} (t : A → Bool) where
   pub others-last : (v : A) → t v ≡ true → (l : List A) → others t (l ++ v ∷ []) ≡ others t l
   unfolding others
   others-last v p [] = rw p
-  others-last v p (x ∷ l) = by-cases (t x) (λ e. rw e (others-last v p l)) (λ e. rw e (ap (λ r. x ∷ r) (others-last v p l)))
+  others-last v p (x ∷ l) = by-cases (t x) (λ e. rw e (others-last v p l))
+      (λ e. rw e (ap (λ r. x ∷ r) (others-last v p l)))
 
   pub others-takeOut : (l : List A) → others t (takeOut (before t l) l) ≡ others t l
   unfolding before others
@@ -85,11 +90,13 @@ module _ {A : Type 0} (t : A → Bool) where
   others-takeOut (x ∷ l) = by-cases (t x) (λ e. rw e) (λ e. rw (e, e) (ap (λ r. x ∷ r) (others-takeOut l)))
 
 module _ {A : Type 0} where
-  -- The first `n` elements without element `k`, and then what follows them from element `n - 1` on: so a list looks after the later ones moved down.
+  -- The first `n` elements without element `k`, and then what follows them from element `n - 1` on: so a list looks
+  -- after the later ones moved down.
   abbrev pub closed : ℕ → ℕ → List A → List A
   closed n k l = takeOut k (take n l) ++ drop (n - 1) l
 
-  takeOut-moved : (d : A) (i : ℕ) (l : List A) → suc i < length l → takeOut (suc i) (set l i (getD l (suc i) d)) ≡ takeOut i l
+  takeOut-moved : (d : A) (i : ℕ) (l : List A) → suc i < length l → takeOut (suc i) (set l i (getD l (suc i) d))
+      ≡ takeOut i l
   takeOut-moved d i [] h = absurd (not-suc-le-zero h)
   takeOut-moved d zero (x ∷ []) h = absurd (not-suc-le-zero (le-of-suc-le-suc h))
   takeOut-moved d zero (x ∷ y ∷ l) h = refl
@@ -112,7 +119,11 @@ module _ {A : Type 0} where
   pub closed-last : (n : ℕ) (l : List A) → n ≤ length l → 0 < n → closed n (n - 1) l ≡ l
   closed-last n l long h =
       let e : length (take n l) ≡ n = length-take-le n l long in
-      rw (drop-of-length-le (take n l) {i = suc (n - 1)} (omega arith), take-take (n - 1) n l (omega arith), append-nil) (take-append-drop (n - 1) l)
+      rw (
+        drop-of-length-le (take n l) {i = suc (n - 1)} (omega arith),
+        take-take (n - 1) n l (omega arith),
+        append-nil,
+      ) (take-append-drop (n - 1) l)
 
   length-takeOut : (k : ℕ) (l : List A) → k < length l → suc (length (takeOut k l)) ≡ length l
   length-takeOut k [] h = absurd (not-suc-le-zero h)

@@ -1,4 +1,5 @@
--- What setting and removing a gate mean: which gate is found there and elsewhere afterwards, the order of the others, the count, and what a refusal leaves.
+-- What setting and removing a gate mean: which gate is found there and elsewhere afterwards, the order of the others,
+-- the count, and what a refusal leaves.
 use Prim.Native.Nat.{ℕ, suc, _+_, _≤_, _<_}
 use mathlib.Core.Path.{_≡_, refl, sym, ap, _∙_}
 use mathlib.Core.Logic.{_⊎_, inl, inr, ⊎-elim}
@@ -18,10 +19,13 @@ use Rattle.gates.specs.declared.Gates.{Gates}
 use Rattle.gates.specs.declared.GatesSet.{GatesSet}
 use Rattle.gates.specs.declared.Here.the-variants.{Stands}
 use Rattle.gates.specs.Lists.{others, takeOut}
-use Rattle.gates.specs.Gates.{maxGates, held, standsAt, placeOf, gateIn, gateOf, leadsTo, setRefused, setDone, stored, setOf, without, removeOf}
+use Rattle.gates.specs.Gates.{maxGates, held, standsAt, placeOf, gateIn, gateOf, leadsTo, setRefused, setDone}
+use Rattle.gates.specs.Gates.{stored, setOf, without, removeOf}
 use Rattle.theory.proofs.Logic.{by-cases}
 use Rattle.gates.proofs.ListLaws.{others-set, others-last, others-takeOut, take-closed, drop-closed}
-use Rattle.gates.proofs.GateLaws.{refusal, new, place-in-order, held-long, gate-set, gate-last, gate-takeOut, gate-others, set-refused, set-own, set-replaces, set-full, set-adds, remove-refused, remove-missing, remove-takes-out}
+use Rattle.gates.proofs.GateLaws.{refusal, new, place-in-order, held-long, gate-set, gate-last, gate-takeOut}
+use Rattle.gates.proofs.GateLaws.{gate-others, set-refused, set-own, set-replaces, set-full, set-adds}
+use Rattle.gates.proofs.GateLaws.{remove-refused, remove-missing, remove-takes-out}
 
 -- Setting a gate.
 module _ (D : ℕ) (G : Gates) (d : ℕ) (a : ByteAddr) (x : Gate) where
@@ -53,10 +57,12 @@ module _ (D : ℕ) (G : Gates) (d : ℕ) (a : ByteAddr) (x : Gate) where
       (λ o. by-cases (ltb k (G .count))
       (λ l. replaces few (ltb-true k (G .count) l) (set-replaces D G d a x z o (ltb-true k (G .count) l)))
       (λ l. by-cases (eqb (G .count) maxGates)
-      (λ f. refuses 12 (omega arith) (set-full D G d a x z o (ltb-false k (G .count) l) (eqb-true (G .count) maxGates f)))
+      (λ f. refuses 12 (omega arith) (set-full D G d a x z o (ltb-false k (G .count) l)
+      (eqb-true (G .count) maxGates f)))
       (λ f. let m = eqb-false (G .count) maxGates f in
       adds (omega arith) (ltb-false k (G .count) l) (set-adds D G d a x z o (ltb-false k (G .count) l) m)))))
-      (λ y. let m = eqb-false (refusal D G d a x) 0 y in refuses (refusal D G d a x) (omega arith) (set-refused D G d a x m))
+      (λ y. let m = eqb-false (refusal D G d a x) 0 y in refuses (refusal D G d a x) (omega arith)
+      (set-refused D G d a x m))
 
   -- A refusal leaves the set as it came.
   pub set-refusal-keeps : 0 < set-result .refusal → set-result .gates ≡ G
@@ -73,34 +79,43 @@ module _ (D : ℕ) (G : Gates) (d : ℕ) (a : ByteAddr) (x : Gate) where
     after = set-result .gates
 
     -- The gates held are those from before with the new one in the place of the first that stood there, or last.
-    held-set : ((k < length (held G)) × (held after ≡ set (held G) k g)) ⊎ ((length (held G) ≤ k) × (held after ≡ held G ++ g ∷ []))
+    held-set : ((k < length (held G)) × (held after ≡ set (held G) k g))
+        ⊎ ((length (held G) ≤ k) × (held after ≡ held G ++ g ∷ []))
     held-set = by sets
       where
-        by : Sets → ((k < length (held G)) × (held after ≡ set (held G) k g)) ⊎ ((length (held G) ≤ k) × (held after ≡ held G ++ g ∷ []))
+        by : Sets → ((k < length (held G)) × (held after ≡ set (held G) k g))
+            ⊎ ((length (held G) ≤ k) × (held after ≡ held G ++ g ∷ []))
         by (refuses n h e) = let q = ap (λ r. r .refusal) e in absurd (omega arith)
         by (replaces f l e) =
             let m = held-long G d (a .0) (omega arith) in
             inl (omega arith, ap (λ r. held (r .gates)) e ∙ take-set-lt (G .count) (G .places) k g l)
         by (adds f l e) =
             let m = held-long G d (a .0) (omega arith) in
-            inr (omega arith, ap (λ r. held (r .gates)) e ∙ rw add-one (take-suc-set (G .places) (G .count) g (omega arith)))
+            inr (
+              omega arith,
+              ap (λ r. held (r .gates)) e
+                  ∙ rw add-one (take-suc-set (G .places) (G .count) g (omega arith)),
+            )
 
     here : standsAt d (a .0) g ≡ true
     here = rw (eq-eqb d d refl, eq-eqb (a .0) (a .0) refl)
 
     -- The gate found there is the new one.
     pub set-here : gateOf after d (a .0) ≡ Stands x
-    set-here = ⊎-elim (λ (l, e). rw e (gate-set d (a .0) g here (held G) l)) (λ (l, e). rw e (gate-last d (a .0) g here (held G) l)) held-set
+    set-here = ⊎-elim (λ (l, e). rw e (gate-set d (a .0) g here (held G) l))
+        (λ (l, e). rw e (gate-last d (a .0) g here (held G) l)) held-set
 
     -- The others are as before, in their order.
     pub set-others : others (standsAt d (a .0)) (held after) ≡ others (standsAt d (a .0)) (held G)
     set-others =
-        ⊎-elim (λ (l, e). rw e (others-set (standsAt d (a .0)) g here (held G))) (λ (l, e). rw e (others-last (standsAt d (a .0)) g here (held G))) held-set
+        ⊎-elim (λ (l, e). rw e (others-set (standsAt d (a .0)) g here (held G)))
+        (λ (l, e). rw e (others-last (standsAt d (a .0)) g here (held G))) held-set
 
     -- The gate found elsewhere is as before.
     pub set-elsewhere : (d′ a′ : ℕ) → ((d′ ≡ d) × (a′ ≡ a .0) → ⊥) → gateOf after d′ a′ ≡ gateOf G d′ a′
     set-elsewhere d′ a′ h =
-        sym (gate-others d (a .0) d′ a′ h (held after)) ∙ ap (gateIn d′ a′) set-others ∙ gate-others d (a .0) d′ a′ h (held G)
+        sym (gate-others d (a .0) d′ a′ h (held after)) ∙ ap (gateIn d′ a′) set-others ∙ gate-others d (a .0) d′ a′ h
+        (held G)
 
     -- The count is as before where a gate stood there, and else one more.
     pub set-count : after .count ≡ cond (ltb k (G .count)) (G .count) (G .count + 1)
@@ -121,7 +136,8 @@ module _ (D : ℕ) (G : Gates) (d : ℕ) (a : ByteAddr) (x : Gate) where
             ap (λ r. drop (r .gates .count) (r .gates .places)) e ∙ drop-set-lt (G .count) (G .places) k g l
             ∙ sym (ap (λ r. drop (r .gates .count) (G .places)) e)
         by (adds f l e) =
-            ap (λ r. drop (r .gates .count) (r .gates .places)) e ∙ drop-set-lt (G .count + 1) (G .places) (G .count) g (omega arith)
+            ap (λ r. drop (r .gates .count) (r .gates .places)) e ∙ drop-set-lt (G .count + 1) (G .places)
+            (G .count) g (omega arith)
             ∙ sym (ap (λ r. drop (r .gates .count) (G .places)) e)
 
 -- Removing a gate.
@@ -149,7 +165,8 @@ module _ (D : ℕ) (G : Gates) (d : ℕ) (a : ByteAddr) where
       (λ l. takes-out (place-in-order D (G .count) d Return (a .0) z) (ltb-true gone (G .count) l)
       (remove-takes-out D G d a z (ltb-true gone (G .count) l)))
       (λ l. refuses 13 (omega arith) (remove-missing D G d a z (ltb-false gone (G .count) l))))
-      (λ y. let m = eqb-false (refusal D G d a Return) 0 y in refuses (refusal D G d a Return) (omega arith) (remove-refused D G d a m))
+      (λ y. let m = eqb-false (refusal D G d a Return) 0 y in refuses (refusal D G d a Return) (omega arith)
+      (remove-refused D G d a m))
 
   -- A refusal leaves the set as it came.
   pub remove-refusal-keeps : 0 < remove-result .refusal → remove-result .gates ≡ G
@@ -188,7 +205,8 @@ module _ (D : ℕ) (G : Gates) (d : ℕ) (a : ByteAddr) where
     -- The gate found elsewhere is as before.
     pub remove-elsewhere : (d′ a′ : ℕ) → ((d′ ≡ d) × (a′ ≡ a .0) → ⊥) → gateOf left d′ a′ ≡ gateOf G d′ a′
     remove-elsewhere d′ a′ h =
-        sym (gate-others d (a .0) d′ a′ h (held left)) ∙ ap (gateIn d′ a′) remove-others ∙ gate-others d (a .0) d′ a′ h (held G)
+        sym (gate-others d (a .0) d′ a′ h (held left)) ∙ ap (gateIn d′ a′) remove-others
+        ∙ gate-others d (a .0) d′ a′ h (held G)
 
     -- The count is one less.
     pub remove-count : left .count + 1 ≡ G .count

@@ -1,4 +1,5 @@
--- Laws of steps: the cases, the domain of the check, and what a step does to the depth, the frames in use and the current domain.
+-- Laws of steps: the cases, the domain of the check, and what a step does to the depth, the frames in use and the
+-- current domain.
 use Prim.Native.Nat.{ℕ, _+_, _≤_, _<_}
 use mathlib.Core.Path.{_≡_, refl, sym, ap, _∙_}
 use mathlib.Core.Bool.{Bool, true, false, cond, not, _||_}
@@ -25,7 +26,8 @@ use Rattle.gates.specs.declared.Stepped.{Stepped}
 use Rattle.gates.specs.declared.Stepped.the-variants.{Pass, Deny, Refused}
 use Rattle.gates.specs.declared.Step.{Step}
 use Rattle.gates.specs.Gates.{maxGates, gateOf}
-use Rattle.gates.specs.Steps.{maxDepth, noFrame, inUse, top, pushed, popped, stepRefusal, stepRefused, verdict, fetchOf, onPass, switchStep, givenBack, gateStep, stepOf}
+use Rattle.gates.specs.Steps.{maxDepth, noFrame, inUse, top, pushed, popped, stepRefusal, stepRefused, verdict}
+use Rattle.gates.specs.Steps.{fetchOf, onPass, switchStep, givenBack, gateStep, stepOf}
 use Rattle.gates.specs.Moves.{Moves, stays, calls, returns}
 use Rattle.theory.proofs.Logic.{by-cases}
 use Rattle.gates.proofs.ListLaws.{neither, none-refuses}
@@ -48,7 +50,8 @@ module _ (p : List ℕ) (s : Shape) (G : Gates) (k : CallStack) (a t : ByteAddr)
   unfolding stepOf
   step-refused h = rw (ne-eqb refusal 0 h)
 
-  pub step-by-gate : refusal ≡ 0 → {g : Here} → gateOf G (k .current) (a .0) ≡ g → stepOf p s G k a t ≡ gateStep (fetchOf p s (a .0)) k t g
+  pub step-by-gate : refusal ≡ 0 → {g : Here} → gateOf G (k .current) (a .0) ≡ g → stepOf p s G k a t
+      ≡ gateStep (fetchOf p s (a .0)) k t g
   unfolding stepOf
   step-by-gate h e = rw (eq-eqb refusal 0 h, e)
 
@@ -64,14 +67,16 @@ module _ (t : ByteAddr) (k : CallStack) where
   switch-moves : (v : ℕ → Stepped) (e : ℕ) → Moves t k (switchStep v k e t)
   unfolding switchStep
   switch-moves v e =
-      by-cases (ltb (k .depth) maxDepth) (λ l. rw l (on-pass (v e) (calls e (ltb-true (k .depth) maxDepth l)))) (λ l. rw l (stays (Refused 15)))
+      by-cases (ltb (k .depth) maxDepth) (λ l. rw l (on-pass (v e) (calls e (ltb-true (k .depth) maxDepth l))))
+      (λ l. rw l (stays (Refused 15)))
 
   give-back-moves : Moves t k (givenBack k t)
   unfolding givenBack
   give-back-moves =
       by-cases (eqb (k .depth) 0) (λ z. rw z (stays (Refused 16)))
       (λ z. let n = eqb-false (k .depth) 0 z in
-      by-cases (eqb (top k .back .0) (t .0)) (λ b. rw (z, b) (returns (omega arith) (eqb-true (top k .back .0) (t .0) b)))
+      by-cases (eqb (top k .back .0) (t .0)) (λ b. rw (z, b)
+      (returns (omega arith) (eqb-true (top k .back .0) (t .0) b)))
       (λ b. rw (z, b) (stays (Refused 17))))
 
   gate-moves : (v : ℕ → Stepped) (h : Here) → Moves t k (gateStep v k t h)
@@ -83,7 +88,8 @@ module _ (t : ByteAddr) (k : CallStack) where
 pub step-moves : (p : List ℕ) (s : Shape) (G : Gates) (k : CallStack) (a t : ByteAddr) → Moves t k (stepOf p s G k a t)
 step-moves p s G k a t =
     by-cases (eqb (refusal p s G k a t) 0)
-    (λ y. rw (step-by-gate p s G k a t (eqb-true (refusal p s G k a t) 0 y) refl) (gate-moves t k (fetchOf p s (a .0)) (gateOf G (k .current) (a .0))))
+    (λ y. rw (step-by-gate p s G k a t (eqb-true (refusal p s G k a t) 0 y) refl)
+    (gate-moves t k (fetchOf p s (a .0)) (gateOf G (k .current) (a .0))))
     (λ y. rw (step-refused p s G k a t (eqb-false (refusal p s G k a t) 0 y)) (stays (Refused (refusal p s G k a t))))
 
 -- The domain in which a step checks the fetch.
@@ -96,23 +102,27 @@ abbrev Unrefused : Stepped → Type 0
 Unrefused w = (n : ℕ) → w ≡ Refused n → ⊥
 
 module _ (t : ByteAddr) (k : CallStack) where
-  verdict-on : (w : Stepped) (r : Step) → (Unrefused (r .answer) → r .answer ≡ Pass) → Unrefused (onPass w k r .answer) → w ≡ onPass w k r .answer
+  verdict-on : (w : Stepped) (r : Step) → (Unrefused (r .answer) → r .answer ≡ Pass)
+      → Unrefused (onPass w k r .answer) → w ≡ onPass w k r .answer
   verdict-on Pass r f h = sym (f h)
   verdict-on Deny r f h = refl
   verdict-on (Refused n) r f h = refl
 
-  switch-verdict : (b : Bool) (w : Stepped) (e : ℕ) → let r = cond b (onPass w k (record { answer = Pass; stack = pushed k e t })) (stepRefused 15 k) in
+  switch-verdict : (b : Bool) (w : Stepped) (e : ℕ)
+      → let r = cond b (onPass w k (record { answer = Pass; stack = pushed k e t })) (stepRefused 15 k) in
       Unrefused (r .answer) → w ≡ r .answer
   switch-verdict true w e h = verdict-on w (record { answer = Pass; stack = pushed k e t }) (λ _. refl) h
   switch-verdict false w e h = absurd (h 15 refl)
 
-  give-back-passes : (b c : Bool) → let r = cond b (stepRefused 16 k) (cond c (record { answer = Pass; stack = popped k }) (stepRefused 17 k)) in
+  give-back-passes : (b c : Bool) → let r = cond b (stepRefused 16 k)
+      (cond c (record { answer = Pass; stack = popped k }) (stepRefused 17 k)) in
       Unrefused (r .answer) → r .answer ≡ Pass
   give-back-passes true c h = absurd (h 16 refl)
   give-back-passes false true h = refl
   give-back-passes false false h = absurd (h 17 refl)
 
-  gate-verdict : (v : ℕ → Stepped) (g : Here) → Unrefused (gateStep v k t g .answer) → v (checkedIn k g) ≡ gateStep v k t g .answer
+  gate-verdict : (v : ℕ → Stepped) (g : Here) → Unrefused (gateStep v k t g .answer) → v (checkedIn k g)
+      ≡ gateStep v k t g .answer
   unfolding switchStep givenBack
   gate-verdict v Nothing h = refl
   gate-verdict v (Stands (Switch e)) h = switch-verdict (ltb (k .depth) maxDepth) (v e) e h
@@ -120,16 +130,19 @@ module _ (t : ByteAddr) (k : CallStack) where
       verdict-on (v (k .current)) (givenBack k t) (give-back-passes (eqb (k .depth) 0) (eqb (top k .back .0) (t .0))) h
 
 -- A step that is not refused answers what the fetch answers in the domain in which it is checked.
-pub step-verdict : (p : List ℕ) (s : Shape) (G : Gates) (k : CallStack) (a t : ByteAddr) → ((n : ℕ) → stepOf p s G k a t .answer ≡ Refused n → ⊥)
+pub step-verdict : (p : List ℕ) (s : Shape) (G : Gates) (k : CallStack) (a t : ByteAddr)
+    → ((n : ℕ) → stepOf p s G k a t .answer ≡ Refused n → ⊥)
     → fetchOf p s (a .0) (checkedIn k (gateOf G (k .current) (a .0))) ≡ stepOf p s G k a t .answer
 step-verdict p s G k a t h =
     by-cases (eqb (refusal p s G k a t) 0)
     (λ y. let e = ap (λ r. r .answer) (step-by-gate p s G k a t (eqb-true (refusal p s G k a t) 0 y) refl) in
     gate-verdict t k (fetchOf p s (a .0)) (gateOf G (k .current) (a .0)) (λ n q. h n (e ∙ q)) ∙ sym e)
-    (λ y. absurd (h (refusal p s G k a t) (ap (λ r. r .answer) (step-refused p s G k a t (eqb-false (refusal p s G k a t) 0 y)))))
+    (λ y. absurd (h (refusal p s G k a t) (ap (λ r. r .answer)
+    (step-refused p s G k a t (eqb-false (refusal p s G k a t) 0 y)))))
 
 -- A fetch passes exactly where the lookup finds the right 3.
-pub fetch-passes : (p : List ℕ) (s : Shape) (a d : ℕ) → fetchOf p s a d ≡ Pass → (w : ℕ) × (n : ℕ) × (lookupOf p s d a ≡ Right 3 w n)
+pub fetch-passes : (p : List ℕ) (s : Shape) (a d : ℕ) → fetchOf p s a d ≡ Pass → (w : ℕ) × (n : ℕ)
+    × (lookupOf p s d a ≡ Right 3 w n)
 unfolding fetchOf
 fetch-passes p s a d = by (lookupOf p s d a)
   where
@@ -179,7 +192,8 @@ module _ {t : ByteAddr} {k : CallStack} where
   moves-frames (returns l b) n h = refl
 
   -- Frames past the depth keep theirs.
-  pub moves-idle : {r : Step} → Moves t k r → drop (r .stack .depth) (r .stack .frames) ≡ drop (r .stack .depth) (k .frames)
+  pub moves-idle : {r : Step} → Moves t k r → drop (r .stack .depth) (r .stack .frames) ≡ drop (r .stack .depth)
+      (k .frames)
   moves-idle (stays r) = refl
   moves-idle (calls e l) = drop-set-lt (k .depth + 1) (k .frames) (k .depth) _ (omega arith)
   moves-idle (returns l b) = refl
@@ -193,13 +207,14 @@ module _ {t : ByteAddr} {k : CallStack} where
 
   -- A return goes to the address and the domain of the frame that it frees.
   pub moves-back : {r : Step} → Moves t k r → r .stack .depth < k .depth
-      → (r .stack .current ≡ getD (k .frames) (r .stack .depth) noFrame .domain) × (getD (k .frames) (r .stack .depth) noFrame .back .0 ≡ t .0)
+      → (r .stack .current ≡ getD (k .frames) (r .stack .depth) noFrame .domain)
+      × (getD (k .frames) (r .stack .depth) noFrame .back .0 ≡ t .0)
   moves-back (stays r) h = absurd (omega arith)
   moves-back (calls e l) h = absurd (omega arith)
   moves-back (returns l b) h = (refl, b)
 
--- The stack `k` comes from the stack `start` by steps that never go below its depth: the frames then in use are still there, and at that depth the
--- current domain is the one first current, as the first frame above it says.
+-- The stack `k` comes from the stack `start` by steps that never go below its depth: the frames then in use are still
+-- there, and at that depth the current domain is the one first current, as the first frame above it says.
 pub record Inside (start k : CallStack) : Type 0 where
   pub above : start .depth ≤ k .depth
   pub frames : take (start .depth) (k .frames) ≡ inUse start
@@ -209,7 +224,8 @@ pub record Inside (start k : CallStack) : Type 0 where
 pub inside-start : (k : CallStack) → Inside k k
 inside-start k = record { above = omega arith; frames = refl; level = λ e. refl; deeper = λ l. absurd (omega arith) }
 
-pub inside-step : {start k : CallStack} {t : ByteAddr} {r : Step} → length (k .frames) ≡ maxDepth → Inside start k → Moves t k r
+pub inside-step : {start k : CallStack} {t : ByteAddr} {r : Step} → length (k .frames) ≡ maxDepth → Inside start k
+    → Moves t k r
     → start .depth ≤ r .stack .depth → Inside start (r .stack)
 inside-step n i (stays r) h = i
 inside-step {start} {k} {t} n i (calls e l) h = record {
@@ -218,8 +234,10 @@ inside-step {start} {k} {t} n i (calls e l) h = record {
   level = λ q. let m = i .above in absurd (omega arith);
   deeper = λ m. ⊎-elim
       (λ q. ap (λ j. getD (pushed k e t .frames) j noFrame .domain) q
-      ∙ ap (λ f. f .domain) (getD-set-same (k .frames) (k .depth) (record { domain = k .current; back = t }) noFrame (omega arith)) ∙ i .level (sym q))
-      (λ q. ap (λ f. f .domain) (getD-set-other (k .frames) (k .depth) (start .depth) _ noFrame (λ z. omega arith)) ∙ i .deeper q)
+      ∙ ap (λ f. f .domain) (getD-set-same (k .frames) (k .depth) (record { domain = k .current; back = t }) noFrame
+      (omega arith)) ∙ i .level (sym q))
+      (λ q. ap (λ f. f .domain) (getD-set-other (k .frames) (k .depth) (start .depth) _ noFrame (λ z. omega arith))
+      ∙ i .deeper q)
       (eq-or-lt-of-le (i .above));
 }
 inside-step {start} {k} n i (returns l b) h = record {
@@ -230,5 +248,6 @@ inside-step {start} {k} n i (returns l b) h = record {
 }
 
 -- At the depth of the start, the frames in use and the current domain are those of the start.
-pub inside-home : {start k : CallStack} → Inside start k → k .depth ≡ start .depth → (inUse k ≡ inUse start) × (k .current ≡ start .current)
+pub inside-home : {start k : CallStack} → Inside start k → k .depth ≡ start .depth → (inUse k ≡ inUse start)
+    × (k .current ≡ start .current)
 inside-home {start} {k} i e = (ap (λ n. take n (k .frames)) e ∙ i .frames, i .level e)

@@ -77,8 +77,8 @@ setDone G = record { refusal = 0; gates = G }
 abbrev pub stored : Gates → ℕ → GateAt → ℕ → Gates
 stored G k g n = record { places = set (G .places) k g; count = n }
 
--- Setting the gate `g` once its place is in order: 14 for a switch to its own domain; else in the place of the gate that stands there, else last,
--- and 12 where 64 are present.
+-- Setting the gate `g` once its place is in order: 14 for a switch to its own domain; else in the place of the gate
+-- that stands there, else last, and 12 where 64 are present.
 unfoldable pub setAtPlace : Gates → GateAt → GatesSet
 setAtPlace G g =
     let k = placeOf G (g .domain) (g .address .0) in

@@ -8,7 +8,8 @@ use Rattle.gates.specs.declared.Stepped.the-variants.{Pass}
 use Rattle.gates.specs.declared.Step.{Step}
 use Rattle.gates.specs.Steps.{maxDepth, top, pushed, popped}
 
--- A step with the target `t` leaves the stack `k` as it came, whatever it answers; or passes and pushes a frame; or passes and pops the top one.
+-- A step with the target `t` leaves the stack `k` as it came, whatever it answers; or passes and pushes a frame; or
+-- passes and pops the top one.
 pub data Moves (t : ByteAddr) (k : CallStack) : Step → Type 0 where
   stays : (r : Stepped) → Moves t k (record { answer = r; stack = k })
   calls : (e : ℕ) → k .depth < maxDepth → Moves t k (record { answer = Pass; stack = pushed k e t })

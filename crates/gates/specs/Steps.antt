@@ -58,7 +58,11 @@ top k = getD (k .frames) (k .depth - 1) noFrame
 -- The stack with the current domain and the address `b` pushed, in the domain `e`.
 abbrev pub pushed : CallStack → ℕ → ByteAddr → CallStack
 pushed k e b =
-    record { frames = set (k .frames) (k .depth) (record { domain = k .current; back = b }); depth = k .depth + 1; current = e }
+    record {
+      frames = set (k .frames) (k .depth) (record { domain = k .current; back = b });
+      depth = k .depth + 1;
+      current = e;
+    }
 
 -- The stack with its top frame popped, in that frame's domain; the frame keeps its words.
 abbrev pub popped : CallStack → CallStack
@@ -107,17 +111,19 @@ isPass (Refused n) = false
 abbrev pub onPass : Stepped → CallStack → Step → Step
 onPass w k r = cond (isPass w) r (record { answer = w; stack = k })
 
--- In the three cases of a step, `v` says of each domain how the fetch is checked in it. No gate: it is checked in the current domain.
+-- In the three cases of a step, `v` says of each domain how the fetch is checked in it. No gate: it is checked in the
+-- current domain.
 abbrev pub plainStep : (ℕ → Stepped) → CallStack → Step
 plainStep v k = record { answer = v (k .current); stack = k }
 
--- Switch gate: with room on the stack it is checked in the destination `e`; on pass the current domain and the target are pushed. A destination that is
--- the current domain, which a set handed in can hold, is taken as any other.
+-- Switch gate: with room on the stack it is checked in the destination `e`; on pass the current domain and the target
+-- are pushed. A destination that is the current domain, which a set handed in can hold, is taken as any other.
 unfoldable pub switchStep : (ℕ → Stepped) → CallStack → ℕ → ByteAddr → Step
 switchStep v k e t =
     cond (ltb (k .depth) maxDepth) (onPass (v e) k (record { answer = Pass; stack = pushed k e t })) (stepRefused 15 k)
 
--- A return that may be fetched: 16 on an empty stack, 17 where the top frame's return address is not the target; else it is popped.
+-- A return that may be fetched: 16 on an empty stack, 17 where the top frame's return address is not the target; else
+-- it is popped.
 unfoldable pub givenBack : CallStack → ByteAddr → Step
 givenBack k t =
     cond (eqb (k .depth) 0) (stepRefused 16 k)

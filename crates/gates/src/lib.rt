@@ -50,7 +50,8 @@ pub struct Frame {
     pub back: ByteAddr,
 }
 
-// A call stack with the current domain. The frames in use are the first `depth`; a popped one keeps its words and is never looked at.
+// A call stack with the current domain. The frames in use are the first `depth`; a popped one keeps its words and is
+// never looked at.
 pub struct CallStack {
     pub frames: [Frame; 16],
     pub depth: u32,
@@ -159,7 +160,8 @@ pub fn remove_gate(domains: u32, gates: Gates, domain: u32, address: ByteAddr) -
     GatesSet { refusal: 13, gates }
 }
 
-// One fetch step: by a switch gate into its destination, by a return gate back to the caller, else within the current domain.
+// One fetch step: by a switch gate into its destination, by a return gate back to the caller, else within the current
+// domain.
 pub fn fetch_step(
     pool: &[u32],
     shape: Shape,

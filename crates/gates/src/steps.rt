@@ -4,7 +4,8 @@ ghost use Prim.Native.Nat.{_+_, _<_, _≤_};
 ghost use lib.ListN.{set};
 ghost use Rattle.gates.specs.Lists.{every};
 ghost use Rattle.gates.specs.Gates.{held};
-ghost use Rattle.gates.specs.Steps.{inUse, frameBelow, gateBelow, domainsKnown, stepRefusal, fetchOf, isPass, plainStep, switchStep, givenBack, returnStep};
+ghost use Rattle.gates.specs.Steps.{inUse, frameBelow, gateBelow, domainsKnown, stepRefusal, fetchOf, isPass};
+ghost use Rattle.gates.specs.Steps.{plainStep, switchStep, givenBack, returnStep};
 use crate::CallStack;
 use crate::Frame;
 use crate::GateAt;
@@ -154,7 +155,12 @@ fn is_pass(answer: Stepped) -> bool
 // A frame goes on the stack, and the destination becomes current.
 fn push(stack: CallStack, f: Frame, to: u32) -> CallStack
     requires { ⌜ stack .depth < 16 ⌝ }
-    ensures { λ r. ⌜ r ≡ record { frames = set (stack .frames) (stack .depth) f; depth = stack .depth + 1; current = to } ⌝ }
+    ensures { λ r. ⌜ r ≡ record {
+      frames = set (stack .frames) (stack .depth) f;
+      depth = stack .depth + 1;
+      current =
+          to;
+    } ⌝ }
 {
     let depth = stack.depth;
     let at = depth as usize;

@@ -17,27 +17,35 @@ use Rattle.gates.specs.declared.GatesSet.{GatesSet}
 use Rattle.gates.specs.declared.Step.{Step}
 use Rattle.gates.specs.Steps.{stepOf, numbers as stepNumbers}
 use Rattle.goleuthan.specs.Out.{outWith, wrongLength}
-use Rattle.goleuthan.specs.States.{bufferLong, bufferOf, bufferWords, gatesLong, gatesOf, gatesWords, stackLong, stackOf, stackWords}
-use Rattle.goleuthan.specs.StateCalls.{stateAfter, back, verdictResults, checkCall, flushCall, gatesCall, stepResults, stepCall}
+use Rattle.goleuthan.specs.States.{bufferLong, bufferOf, bufferWords, gatesLong, gatesOf, gatesWords}
+use Rattle.goleuthan.specs.States.{stackLong, stackOf, stackWords}
+use Rattle.goleuthan.specs.StateCalls.{stateAfter, back, verdictResults, checkCall, flushCall, gatesCall}
+use Rattle.goleuthan.specs.StateCalls.{stepResults, stepCall}
 
 module _ (p : List ℕ) (s : Shape) (ws : List ℕ) (d kind size a : ℕ) (out res : List ℕ) where
-  pub check-wrong : (length ws ≡ bufferLong → ⊥) → res ≡ outWith (0 ∷ 0 ∷ []) out → back wrongLength ws res ≡ checkCall p s ws d kind size a out
+  pub check-wrong : (length ws ≡ bufferLong → ⊥) → res ≡ outWith (0 ∷ 0 ∷ []) out → back wrongLength ws res
+      ≡ checkCall p s ws d kind size a out
   unfolding checkCall
   check-wrong h e = rw (e, ne-eqb (length ws) bufferLong h)
 
   -- By the check that was made and what was written of it.
-  pub check-made : length ws ≡ bufferLong → (c : Checked) → c ≡ checkOf p s (bufferOf ws) d kind size a → (n : ℕ) (new : List ℕ)
-      → n ≡ verdictNumbers (c .verdict) .refusal → new ≡ bufferWords (c .buffer) → res ≡ outWith (verdictResults (c .verdict)) out
+  pub check-made : length ws ≡ bufferLong → (c : Checked) → c ≡ checkOf p s (bufferOf ws) d kind size a
+      → (n : ℕ) (new : List ℕ)
+      → n ≡ verdictNumbers (c .verdict) .refusal → new ≡ bufferWords (c .buffer) → res
+      ≡ outWith (verdictResults (c .verdict)) out
       → back n new res ≡ checkCall p s ws d kind size a out
   unfolding checkCall
   check-made h c e n new en ew er = rw (en, ew, er, e, eq-eqb (length ws) bufferLong h)
 
   -- The same by what the check decided of the words.
-  pub check-by : length ws ≡ bufferLong → (x : Decided) → x ≡ decideOf p s (getD ws 256 0) (firstMatch (bufferOf ws .slots) d a) d kind size a → (n : ℕ) (new : List ℕ)
-      → n ≡ verdictNumbers (x .verdict) .refusal → new ≡ bufferWords (filledBy (bufferOf ws) (x .fill)) → res ≡ outWith (verdictResults (x .verdict)) out
+  pub check-by : length ws ≡ bufferLong → (x : Decided) → x ≡ decideOf p s (getD ws 256 0)
+      (firstMatch (bufferOf ws .slots) d a) d kind size a → (n : ℕ) (new : List ℕ)
+      → n ≡ verdictNumbers (x .verdict) .refusal → new ≡ bufferWords (filledBy (bufferOf ws) (x .fill)) → res
+      ≡ outWith (verdictResults (x .verdict)) out
       → back n new res ≡ checkCall p s ws d kind size a out
   check-by h x e n new en ew er =
-      check-made h (record { verdict = x .verdict; buffer = filledBy (bufferOf ws) (x .fill) }) (rw e (sym (check-decided p s (bufferOf ws) d kind size a))) n new en ew er
+      check-made h (record { verdict = x .verdict; buffer = filledBy (bufferOf ws) (x .fill) })
+      (rw e (sym (check-decided p s (bufferOf ws) d kind size a))) n new en ew er
 
 module _ (f : Buffer → Flushed) (ws : List ℕ) where
   pub flush-wrong : (length ws ≡ bufferLong → ⊥) → stateAfter wrongLength ws ≡ flushCall f ws
@@ -45,7 +53,8 @@ module _ (f : Buffer → Flushed) (ws : List ℕ) where
   flush-wrong h = rw (ne-eqb (length ws) bufferLong h)
 
   -- By the flush that was made.
-  pub flush-made : length ws ≡ bufferLong → (r : Flushed) → r ≡ f (bufferOf ws) → (new : List ℕ) → new ≡ bufferWords (r .buffer)
+  pub flush-made : length ws ≡ bufferLong → (r : Flushed) → r ≡ f (bufferOf ws) → (new : List ℕ) → new
+      ≡ bufferWords (r .buffer)
       → stateAfter (r .refusal) new ≡ flushCall f ws
   unfolding flushCall
   flush-made h r e new ew = rw (ew, e, eq-eqb (length ws) bufferLong h)
@@ -56,13 +65,15 @@ module _ (f : Gates → GatesSet) (ws : List ℕ) where
   gates-wrong h = rw (ne-eqb (length ws) gatesLong h)
 
   -- By the setting or removal that was made.
-  pub gates-made : length ws ≡ gatesLong → (r : GatesSet) → r ≡ f (gatesOf ws) → (new : List ℕ) → new ≡ gatesWords (r .gates)
+  pub gates-made : length ws ≡ gatesLong → (r : GatesSet) → r ≡ f (gatesOf ws) → (new : List ℕ) → new
+      ≡ gatesWords (r .gates)
       → stateAfter (r .refusal) new ≡ gatesCall f ws
   unfolding gatesCall
   gates-made h r e new ew = rw (ew, e, eq-eqb (length ws) gatesLong h)
 
 module _ (p : List ℕ) (s : Shape) (gs ws : List ℕ) (a t : ℕ) (out res : List ℕ) where
-  pub step-no-gates : (length gs ≡ gatesLong → ⊥) → res ≡ outWith (0 ∷ []) out → back wrongLength ws res ≡ stepCall p s gs ws a t out
+  pub step-no-gates : (length gs ≡ gatesLong → ⊥) → res ≡ outWith (0 ∷ []) out → back wrongLength ws res
+      ≡ stepCall p s gs ws a t out
   unfolding stepCall
   step-no-gates h e = rw (e, ne-eqb (length gs) gatesLong h)
 
@@ -73,7 +84,8 @@ module _ (p : List ℕ) (s : Shape) (gs ws : List ℕ) (a t : ℕ) (out res : Li
 
   -- By the step that was made and what was written of it.
   pub step-made : length gs ≡ gatesLong → length ws ≡ stackLong
-      → (r : Step) → r ≡ stepOf p s (gatesOf gs) (stackOf ws) (record { 0 = a }) (record { 0 = t }) → (n : ℕ) (new : List ℕ)
+      → (r : Step) → r ≡ stepOf p s (gatesOf gs) (stackOf ws) (record { 0 = a }) (record { 0 = t })
+      → (n : ℕ) (new : List ℕ)
       → n ≡ stepNumbers (r .answer) .refusal → new ≡ stackWords (r .stack) → res ≡ outWith (stepResults (r .answer)) out
       → back n new res ≡ stepCall p s gs ws a t out
   unfolding stepCall

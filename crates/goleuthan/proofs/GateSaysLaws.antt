@@ -1,5 +1,5 @@
--- The words of a gate set that a call leaves say the library's set: no gate of a set that words say, or that a call makes of one, is a switch to
--- 0xFFFFFFFF, which is the one gate without a word. Assumes nothing.
+-- The words of a gate set that a call leaves say the library's set: no gate of a set that words say, or that a call
+-- makes of one, is a switch to 0xFFFFFFFF, which is the one gate without a word. Assumes nothing.
 use Prim.Native.Nat.{ℕ, zero, suc, _+_, _-_, _*_, _≤_, _<_}
 use mathlib.Core.Path.{_≡_, refl, sym, ap, _∙_}
 use mathlib.Core.Logic.{_≢_}
@@ -16,7 +16,8 @@ use Rattle.gates.specs.declared.Gate.{Gate}
 use Rattle.gates.specs.declared.Gate.the-variants.{Switch, Return}
 use Rattle.gates.specs.declared.GateAt.{GateAt}
 use Rattle.gates.specs.declared.Gates.{Gates}
-use Rattle.gates.specs.Gates.{maxGates, noGate, placeOf, leadsBelow, leadsTo, placeRefusal, setRefused, setDone, stored, setAtPlace, setOf, without, removeOf}
+use Rattle.gates.specs.Gates.{maxGates, noGate, placeOf, leadsBelow, leadsTo, placeRefusal, setRefused, setDone}
+use Rattle.gates.specs.Gates.{stored, setAtPlace, setOf, without, removeOf}
 use Rattle.theory.proofs.Logic.{and-both}
 use Rattle.gates.proofs.ListLaws.{none-refuses}
 use Rattle.goleuthan.specs.Rows.{rowsOf}
@@ -97,14 +98,16 @@ stored-words G k g n h r =
 placed-words : (G : Gates) (g : GateAt) → HasWords G → Real (g .gate) → HasWords (setAtPlace G g .gates)
 unfolding setAtPlace
 placed-words G g h r =
-    go (leadsTo (g .domain) (g .gate)) (ltb (placeOf G (g .domain) (g .address .0)) (G .count)) (eqb (G .count) maxGates)
+    go (leadsTo (g .domain) (g .gate)) (ltb (placeOf G (g .domain) (g .address .0)) (G .count))
+    (eqb (G .count) maxGates)
   where
     k : ℕ
     k = placeOf G (g .domain) (g .address .0)
 
     go : (t u v : Bool) → HasWords
         (cond t (setRefused 14 G)
-        (cond u (setDone (stored G k g (G .count))) (cond v (setRefused 12 G) (setDone (stored G (G .count) g (G .count + 1))))) .gates)
+        (cond u (setDone (stored G k g (G .count)))
+        (cond v (setRefused 12 G) (setDone (stored G (G .count) g (G .count + 1))))) .gates)
     go true u v = h
     go false true v = stored-words G k g (G .count) h r
     go false false true = h
@@ -129,8 +132,10 @@ set-words D G d a x h = go (eqb n 0) refl
     n : ℕ
     n = placeRefusal D (G .count) d x (a .0)
 
-    go : (t : Bool) → eqb n 0 ≡ t → HasWords (cond t (setAtPlace G (record { domain = d; address = a; gate = x })) (setRefused n G) .gates)
-    go true e = placed-words G (record { domain = d; address = a; gate = x }) h (in-order D (G .count) d x (a .0) (eqb-true n 0 e) .1)
+    go : (t : Bool) → eqb n 0 ≡ t → HasWords
+        (cond t (setAtPlace G (record { domain = d; address = a; gate = x })) (setRefused n G) .gates)
+    go true e = placed-words G (record { domain = d; address = a; gate = x }) h
+        (in-order D (G .count) d x (a .0) (eqb-true n 0 e) .1)
     go false e = h
 
 without-words : (G : Gates) (k : ℕ) → G .count ≤ 64 → k < G .count → HasWords G → HasWords (without G k)
@@ -143,9 +148,11 @@ without-words G k few l h =
     let j = length-drop (suc k) xs in
     let o = length-drop (G .count - 1) (G .places) in
     record {
-      long = length-append (take k xs ++ drop (suc k) xs) (drop (G .count - 1) (G .places)) ∙ rw (length-append (take k xs) (drop (suc k) xs)) (omega arith);
+      long = length-append (take k xs ++ drop (suc k) xs) (drop (G .count - 1) (G .places))
+          ∙ rw (length-append (take k xs) (drop (suc k) xs)) (omega arith);
       real = all-append RealAt (take k xs ++ drop (suc k) xs) (drop (G .count - 1) (G .places))
-          (all-append RealAt (take k xs) (drop (suc k) xs) (all-take RealAt k xs z) (all-drop RealAt (suc k) xs z)) (all-drop RealAt (G .count - 1) (G .places) (h .real));
+          (all-append RealAt (take k xs) (drop (suc k) xs) (all-take RealAt k xs z) (all-drop RealAt (suc k) xs z))
+          (all-drop RealAt (G .count - 1) (G .places) (h .real));
     }
 
 remove-words : (D : ℕ) (G : Gates) (d : ℕ) (a : ByteAddr) → HasWords G → HasWords (removeOf D G d a .gates)
@@ -160,7 +167,8 @@ remove-words D G d a h = go (eqb n 0) (ltb k (G .count)) refl refl
 
     go : (t u : Bool) → eqb n 0 ≡ t → ltb k (G .count) ≡ u
         → HasWords (cond t (cond u (setDone (without G k)) (setRefused 13 G)) (setRefused n G) .gates)
-    go true true e l = without-words G k (in-order D (G .count) d Return (a .0) (eqb-true n 0 e) .0) (ltb-true k (G .count) l) h
+    go true true e l = without-words G k (in-order D (G .count) d Return (a .0) (eqb-true n 0 e) .0)
+        (ltb-true k (G .count) l) h
     go true false e l = h
     go false u e l = h
 
@@ -168,5 +176,6 @@ pub set-says : (D : ℕ) (ws : List ℕ) (d : ℕ) (a : ByteAddr) (x : Gate)
     → let G = setOf D (gatesOf ws) d a x .gates in gatesOf (gatesWords G) ≡ G
 set-says D ws d a x = words-say (setOf D (gatesOf ws) d a x .gates) (set-words D (gatesOf ws) d a x (read-words ws))
 
-pub remove-says : (D : ℕ) (ws : List ℕ) (d : ℕ) (a : ByteAddr) → let G = removeOf D (gatesOf ws) d a .gates in gatesOf (gatesWords G) ≡ G
+pub remove-says : (D : ℕ) (ws : List ℕ) (d : ℕ) (a : ByteAddr) → let G = removeOf D (gatesOf ws) d a .gates in gatesOf
+    (gatesWords G) ≡ G
 remove-says D ws d a = words-say (removeOf D (gatesOf ws) d a .gates) (remove-words D (gatesOf ws) d a (read-words ws))

@@ -1,4 +1,5 @@
--- Laws of result words: storing them one by one, each where it has a place, leaves what `outWith` says. Assumes nothing.
+-- Laws of result words: storing them one by one, each where it has a place, leaves what `outWith` says. Assumes
+-- nothing.
 use Prim.Native.Nat.{ℕ}
 use mathlib.Core.Path.{_≡_, refl}
 use mathlib.Core.List.{List, [], _∷_}

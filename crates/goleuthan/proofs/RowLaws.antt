@@ -1,4 +1,5 @@
--- Laws of rows in words: reading rows and writing them are inverse to each other, and one turn of each loop. Assumes nothing.
+-- Laws of rows in words: reading rows and writing them are inverse to each other, and one turn of each loop. Assumes
+-- nothing.
 use Prim.Native.Nat.{ℕ, zero, suc, _+_, _*_, _≤_, _<_}
 use mathlib.Core.Path.{_≡_, refl, sym, ap, _∙_}
 use mathlib.Core.Logic.{⊎-elim}
@@ -7,7 +8,8 @@ use native.Mathlib.Nat.{not-suc-le-zero, le-of-suc-le-suc, mul-zero, mul-suc, mu
 use native.Mathlib.Numerals.{add-one}
 use native.Mathlib.Omega.{arith}
 use lib.ListN.{length, getD, take, drop, set, length-append, length-drop, List·getD-append, take-append-drop}
-use lib.Seq.{sets, sets-eq, take-suc, take-suc-set, take-add, take-all, take-at, drop-at, drop-drop, drop-append-add, getD-at, split-at, ext-getD, length-take-le, set-split}
+use lib.Seq.{sets, sets-eq, take-suc, take-suc-set, take-add, take-all, take-at, drop-at, drop-drop, drop-append-add}
+use lib.Seq.{getD-at, split-at, ext-getD, length-take-le, set-split}
 use Rattle.goleuthan.specs.Rows.{rowsOf, wordsOf}
 
 module _ {A : Type 0} where
@@ -22,7 +24,8 @@ module _ {A : Type 0} where
   rows-at (suc n) f i d h =
       ⊎-elim
       (λ (e : i ≡ n). rw e (getD-at (rowsOf n f) (f n) [] d n (length-rows n f)))
-      (λ (l : i < n). let m = length-rows n f in List·getD-append (rowsOf n f) (f n ∷ []) d i (omega arith) ∙ rows-at n f i d l)
+      (λ (l : i < n). let m = length-rows n f in List·getD-append (rowsOf n f) (f n ∷ []) d i (omega arith)
+      ∙ rows-at n f i d l)
       (eq-or-lt-of-le (le-of-suc-le-suc h))
 
   -- One turn of a loop that reads rows: the first `i` are read, and row `i` is stored.
@@ -36,11 +39,13 @@ module _ {A : Type 0} where
   rows-all l f i n h e q = sym (take-all n l (omega arith)) ∙ (rw e at q)
 
 -- As many words as `vs` has, stored over those that follow `b`.
-sets-seam : (b c t vs : List ℕ) (n : ℕ) → length b ≡ n → length c ≡ length vs → sets (b ++ (c ++ t)) n vs ≡ b ++ (vs ++ t)
+sets-seam : (b c t vs : List ℕ) (n : ℕ) → length b ≡ n → length c ≡ length vs → sets (b ++ (c ++ t)) n vs
+    ≡ b ++ (vs ++ t)
 sets-seam b c t vs n eb ec =
     let e : length (b ++ (c ++ t)) ≡ n + (length vs + length t) = simp length-append (omega arith) in
     sets-eq vs (b ++ (c ++ t)) n (omega arith)
-    ∙ rw (take-at b (c ++ t) n eb, ← eb, drop-append-add b (c ++ t) (length vs), drop-at c t (length vs) ec) (append-assoc b vs t)
+    ∙ rw (take-at b (c ++ t) n eb, ← eb, drop-append-add b (c ++ t) (length vs), drop-at c t (length vs) ec)
+    (append-assoc b vs t)
 
 -- The last words stored: those that follow the rows.
 pub sets-end : (w l vs : List ℕ) (n : ℕ) → length w ≡ n → length l ≡ n + length vs → sets (w ++ drop n l) n vs ≡ w ++ vs
@@ -55,14 +60,16 @@ module _ {A : Type 0} (row : A → List ℕ) where
   unfolding wordsOf
   words-append [] ys = refl
   words-append (x ∷ xs) ys =
-      ap (λ (l : List ℕ). row x ++ l) (words-append xs ys) ∙ sym (append-assoc (row x) (wordsOf row xs) (wordsOf row ys))
+      ap (λ (l : List ℕ). row x ++ l) (words-append xs ys)
+      ∙ sym (append-assoc (row x) (wordsOf row xs) (wordsOf row ys))
 
   pub words-last : (xs : List A) (x : A) → wordsOf row (xs ++ x ∷ []) ≡ wordsOf row xs ++ row x
   unfolding wordsOf
   words-last xs x = words-append xs (x ∷ []) ∙ ap (λ (l : List ℕ). wordsOf row xs ++ l) (append-nil (row x))
 
   -- The words of one row among others.
-  words-split : (xs ys : List A) (x : A) (t : List ℕ) → wordsOf row (xs ++ x ∷ ys) ++ t ≡ wordsOf row xs ++ (row x ++ (wordsOf row ys ++ t))
+  words-split : (xs ys : List A) (x : A) (t : List ℕ) → wordsOf row (xs ++ x ∷ ys) ++ t
+      ≡ wordsOf row xs ++ (row x ++ (wordsOf row ys ++ t))
   unfolding wordsOf
   words-split xs ys x t = rw (words-append xs (x ∷ ys)) (simp append-assoc)
 
@@ -71,7 +78,8 @@ module _ {A : Type 0} (row : A → List ℕ) where
     pub length-words : (xs : List A) → length (wordsOf row xs) ≡ k * length xs
     unfolding wordsOf
     length-words [] = sym (mul-zero k)
-    length-words (x ∷ xs) = let m = mul-suc k (length xs) in let e = length-words xs in let n = long x in length-append (row x) (wordsOf row xs) ∙ omega arith
+    length-words (x ∷ xs) = let m = mul-suc k (length xs) in let e = length-words xs in let n = long x in
+        length-append (row x) (wordsOf row xs) ∙ omega arith
 
     length-first : (xs : List A) (i : ℕ) → i ≤ length xs → length (wordsOf row (take i xs)) ≡ k * i
     length-first xs i h = length-words (take i xs) ∙ ap (λ (n : ℕ). k * n) (length-take-le i xs h)
@@ -80,7 +88,8 @@ module _ {A : Type 0} (row : A → List ℕ) where
     words-around : (xs : List A) (t : List ℕ) (i : ℕ) (d : A) → i < length xs
         → wordsOf row xs ++ t ≡ wordsOf row (take i xs) ++ (row (getD xs i d) ++ (wordsOf row (drop (suc i) xs) ++ t))
     words-around xs t i d h =
-        ap (λ (l : List A). wordsOf row l ++ t) (split-at xs i d h) ∙ words-split (take i xs) (drop (suc i) xs) (getD xs i d) t
+        ap (λ (l : List A). wordsOf row l ++ t) (split-at xs i d h) ∙ words-split (take i xs) (drop (suc i) xs)
+        (getD xs i d) t
 
     -- One turn of a loop that writes rows: the first `i` are written, and row `i` is stored.
     pub words-turn : (xs : List A) (ws old new : List ℕ) (i : ℕ) (d : A) → i < length xs → k * length xs ≤ length ws
@@ -93,8 +102,10 @@ module _ {A : Type 0} (row : A → List ℕ) where
         let u = drop (k * i) ws in
         e
         ∙ ap (λ (r : List ℕ). sets r (k * i) (row (getD xs i d))) first
-        ∙ ap (λ (r : List ℕ). sets (wordsOf row (take i xs) ++ r) (k * i) (row (getD xs i d))) (sym (take-append-drop k u))
-        ∙ sets-seam (wordsOf row (take i xs)) (take k u) (drop k u) (row (getD xs i d)) (k * i) (length-first xs i (le-of-lt h))
+        ∙ ap (λ (r : List ℕ). sets (wordsOf row (take i xs) ++ r) (k * i) (row (getD xs i d)))
+        (sym (take-append-drop k u))
+        ∙ sets-seam (wordsOf row (take i xs)) (take k u) (drop k u) (row (getD xs i d)) (k * i)
+        (length-first xs i (le-of-lt h))
         (length-take-le k u (omega arith) ∙ sym (long (getD xs i d)))
         ∙ rw (add-one i, take-suc xs i d h, words-last (take i xs) (getD xs i d), m, drop-drop k (k * i) ws)
         (sym (append-assoc (wordsOf row (take i xs)) (row (getD xs i d)) (drop (k * i + k) ws)))
@@ -130,4 +141,5 @@ module _ {A : Type 0} (row : A → List ℕ) where
         (λ i h.
         rows-at (length xs) (λ j. at (wordsOf row xs ++ t) (k * j)) i d (omega arith)
         ∙ ap (λ (l : List ℕ). at l (k * i)) (words-around xs t i d (omega arith))
-        ∙ rw (← length-first xs i (omega arith)) (same i (omega arith) (wordsOf row (take i xs)) (wordsOf row (drop (suc i) xs) ++ t)))
+        ∙ rw (← length-first xs i (omega arith))
+        (same i (omega arith) (wordsOf row (take i xs)) (wordsOf row (drop (suc i) xs) ++ t)))

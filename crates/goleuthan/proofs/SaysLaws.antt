@@ -1,4 +1,5 @@
--- A series of calls on one state is the library's series: the words that a call leaves say the state that the library's call leaves. Assumes nothing.
+-- A series of calls on one state is the library's series: the words that a call leaves say the state that the
+-- library's call leaves. Assumes nothing.
 use Prim.Native.Nat.{ℕ, _*_}
 use mathlib.Core.Path.{_≡_, refl, _∙_, ap}
 use mathlib.Core.Bool.{Bool, true, false, cond}
@@ -14,7 +15,8 @@ use Rattle.lookaside.specs.declared.Buffer.{Buffer}
 use Rattle.lookaside.specs.declared.Flushed.{Flushed}
 use Rattle.lookaside.specs.declared.Flushing.{Flushing}
 use Rattle.lookaside.specs.Check.{checkOf, filledBy, decideOf}
-use Rattle.lookaside.specs.Flushes.{flushedSlot, flushedBuffer, done, refused, pointed, flushedRounded, flushedWhole, flushedDomain, flushedRegion}
+use Rattle.lookaside.specs.Flushes.{flushedSlot, flushedBuffer, done, refused, pointed, flushedRounded, flushedWhole}
+use Rattle.lookaside.specs.Flushes.{flushedDomain, flushedRegion}
 use Rattle.gates.specs.declared.CallStack.{CallStack}
 use Rattle.gates.specs.declared.Gates.{Gates}
 use Rattle.gates.specs.declared.Step.{Step}
@@ -45,7 +47,8 @@ pub check-says : (p : List ℕ) (s : Shape) (ws : List ℕ) (d kind size a : ℕ
     → let b = checkOf p s (bufferOf ws) d kind size a .buffer in bufferOf (bufferWords b) ≡ b
 check-says p s ws d kind size a =
     buffer-again (checkOf p s (bufferOf ws) d kind size a .buffer)
-    (ap (λ c. length (c .buffer .slots)) (check-decided p s (bufferOf ws) d kind size a) ∙ after-slots (bufferOf ws) (decideOf p s (bufferOf ws .next) (firstMatch (bufferOf ws .slots) d a) d kind size a .fill) ∙ slots-said ws)
+    (ap (λ c. length (c .buffer .slots)) (check-decided p s (bufferOf ws) d kind size a) ∙ after-slots (bufferOf ws)
+    (decideOf p s (bufferOf ws .next) (firstMatch (bufferOf ws .slots) d a) d kind size a .fill) ∙ slots-said ws)
 
 -- A flush is refused and keeps the buffer, or empties some slots of it.
 pub data Flushes (b : Buffer) : Flushed → Type 0 where
@@ -89,4 +92,5 @@ moved-frames (returns l b) = refl
 
 pub step-says : (p : List ℕ) (s : Shape) (G : Gates) (ws : List ℕ) (a t : ByteAddr)
     → let k = stepOf p s G (stackOf ws) a t .stack in stackOf (stackWords k) ≡ k
-step-says p s G ws a t = stack-again (stepOf p s G (stackOf ws) a t .stack) (moved-frames (step-moves p s G (stackOf ws) a t) ∙ frames-said ws)
+step-says p s G ws a t = stack-again (stepOf p s G (stackOf ws) a t .stack)
+    (moved-frames (step-moves p s G (stackOf ws) a t) ∙ frames-said ws)

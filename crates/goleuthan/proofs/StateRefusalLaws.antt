@@ -37,8 +37,11 @@ use Rattle.theory.proofs.Logic.{and-both}
 use Rattle.gates.proofs.SetLaws.{set-refusal-keeps, remove-refusal-keeps}
 use Rattle.gates.proofs.StepLaws.{step-moves, moves-unless-pass}
 use Rattle.goleuthan.specs.Out.{outWith, wrongLength}
-use Rattle.goleuthan.specs.States.{bufferLong, bufferOf, bufferWords, gatesLong, gatesOf, gatesWords, stackLong, stackOf, stackWords}
-use Rattle.goleuthan.specs.StateCalls.{stateAfter, Back, back, verdictResults, checkedBack, checkCall, flushedKept, flushCall, gatesKept, gatesCall, stepResults, steppedBack, stepCall}
+use Rattle.goleuthan.specs.States.{bufferLong, bufferOf, bufferWords, gatesLong, gatesOf, gatesWords}
+use Rattle.goleuthan.specs.States.{stackLong, stackOf, stackWords}
+use Rattle.goleuthan.specs.StateCalls.{stateAfter, Back, back, verdictResults, checkedBack, checkCall}
+use Rattle.goleuthan.specs.StateCalls.{flushedKept, flushCall, gatesKept, gatesCall, stepResults, steppedBack}
+use Rattle.goleuthan.specs.StateCalls.{stepCall}
 use Rattle.goleuthan.proofs.StateLaws.{buffer-words, gates-words, stack-words}
 use Rattle.goleuthan.proofs.SaysLaws.{Flushes, refuses, empties}
 
@@ -79,9 +82,11 @@ module _ (p : List ℕ) (s : Shape) (ws : List ℕ) (d kind size a : ℕ) (out :
   check-call-refused = go (eqb (length ws) bufferLong) refl
     where
       go : (t : Bool) → eqb (length ws) bufferLong ≡ t
-          → CheckLeaves (cond t (checkedBack (checkOf p s (bufferOf ws) d kind size a) out) (back wrongLength ws (outWith (0 ∷ 0 ∷ []) out)))
+          → CheckLeaves (cond t (checkedBack (checkOf p s (bufferOf ws) d kind size a) out)
+          (back wrongLength ws (outWith (0 ∷ 0 ∷ []) out)))
       go true e h = (
-        ap bufferWords (check-keeps p s (bufferOf ws) d kind size a h) ∙ buffer-words ws (eqb-true (length ws) bufferLong e),
+        ap bufferWords (check-keeps p s (bufferOf ws) d kind size a h)
+            ∙ buffer-words ws (eqb-true (length ws) bufferLong e),
         ap (λ l. outWith l out) (verdict-zeros (checkOf p s (bufferOf ws) d kind size a .verdict) h),
       )
       go false e h = (refl, refl)
@@ -91,28 +96,34 @@ flush-keeps : {b : Buffer} {r : Flushed} → Flushes b r → r .refusal ≢ 0 �
 flush-keeps (refuses n) h = refl
 flush-keeps (empties f) h = absurd (h refl)
 
-pub flush-call-refused : (f : Buffer → Flushed) → ((b : Buffer) → Flushes b (f b)) → (ws : List ℕ) → flushCall f ws .number ≢ 0 → flushCall f ws .state ≡ ws
+pub flush-call-refused : (f : Buffer → Flushed) → ((b : Buffer) → Flushes b (f b)) → (ws : List ℕ)
+    → flushCall f ws .number ≢ 0 → flushCall f ws .state ≡ ws
 unfolding flushCall
 flush-call-refused f x ws = go (eqb (length ws) bufferLong) refl
   where
-    go : (t : Bool) → eqb (length ws) bufferLong ≡ t → let r = cond t (flushedKept (f (bufferOf ws))) (stateAfter wrongLength ws) in r .number ≢ 0 → r .state ≡ ws
+    go : (t : Bool) → eqb (length ws) bufferLong ≡ t → let r = cond t (flushedKept (f (bufferOf ws)))
+        (stateAfter wrongLength ws) in r .number ≢ 0 → r .state ≡ ws
     go true e h = ap bufferWords (flush-keeps (x (bufferOf ws)) h) ∙ buffer-words ws (eqb-true (length ws) bufferLong e)
     go false e h = refl
 
 -- Setting and removing, where a refusal keeps the set.
-pub gates-call-refused : (f : Gates → GatesSet) → ((G : Gates) → 0 < f G .refusal → f G .gates ≡ G) → (ws : List ℕ) → gatesCall f ws .number ≢ 0
+pub gates-call-refused : (f : Gates → GatesSet) → ((G : Gates) → 0 < f G .refusal → f G .gates ≡ G) → (ws : List ℕ)
+    → gatesCall f ws .number ≢ 0
     → gatesCall f ws .state ≡ ws
 unfolding gatesCall
 gates-call-refused f x ws = go (eqb (length ws) gatesLong) refl
   where
-    go : (t : Bool) → eqb (length ws) gatesLong ≡ t → let r = cond t (gatesKept (f (gatesOf ws))) (stateAfter wrongLength ws) in r .number ≢ 0 → r .state ≡ ws
+    go : (t : Bool) → eqb (length ws) gatesLong ≡ t → let r = cond t (gatesKept (f (gatesOf ws)))
+        (stateAfter wrongLength ws) in r .number ≢ 0 → r .state ≡ ws
     go true e h = ap gatesWords (x (gatesOf ws) (omega arith)) ∙ gates-words ws (eqb-true (length ws) gatesLong e)
     go false e h = refl
 
-pub set-call-refused : (D : ℕ) (ws : List ℕ) (d : ℕ) (a : ByteAddr) (x : Gate) → let r = gatesCall (λ G. setOf D G d a x) ws in r .number ≢ 0 → r .state ≡ ws
+pub set-call-refused : (D : ℕ) (ws : List ℕ) (d : ℕ) (a : ByteAddr) (x : Gate)
+    → let r = gatesCall (λ G. setOf D G d a x) ws in r .number ≢ 0 → r .state ≡ ws
 set-call-refused D ws d a x = gates-call-refused (λ G. setOf D G d a x) (λ G. set-refusal-keeps D G d a x) ws
 
-pub remove-call-refused : (D : ℕ) (ws : List ℕ) (d : ℕ) (a : ByteAddr) → let r = gatesCall (λ G. removeOf D G d a) ws in r .number ≢ 0 → r .state ≡ ws
+pub remove-call-refused : (D : ℕ) (ws : List ℕ) (d : ℕ) (a : ByteAddr) → let r = gatesCall (λ G. removeOf D G d a)
+    ws in r .number ≢ 0 → r .state ≡ ws
 remove-call-refused D ws d a = gates-call-refused (λ G. removeOf D G d a) (λ G. remove-refusal-keeps D G d a) ws
 
 -- A step.
@@ -137,7 +148,8 @@ module _ (p : List ℕ) (s : Shape) (gs ws : List ℕ) (a t : ℕ) (out : List �
       go true e h =
           let z = step-zeros (step .answer) h in
           let l = and-both (eqb (length gs) gatesLong) (eqb (length ws) stackLong) e in (
-            ap stackWords (moves-unless-pass (step-moves p s (gatesOf gs) (stackOf ws) (record { 0 = a }) (record { 0 = t })) (z .0))
+            ap stackWords (moves-unless-pass (step-moves p s (gatesOf gs) (stackOf ws) (record { 0 = a })
+                (record { 0 = t })) (z .0))
                 ∙ stack-words ws (eqb-true (length ws) stackLong (l .1)),
             ap (λ r. outWith r out) (z .1),
           )

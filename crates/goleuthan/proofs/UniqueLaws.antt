@@ -15,7 +15,8 @@ use Rattle.listing.specs.declared.Listed.{Listed}
 use Rattle.listing.specs.Listing.{numbers as listedNumbers}
 use Rattle.listing.proofs.ListingLaws.{one-listing}
 use Rattle.goleuthan.specs.Out.{outWith}
-use Rattle.goleuthan.specs.Calls.{answerNumber, foundResults, answerResults, listedResults, FreshCall, LookupCall, ChangeCall, TidyCall, ListCall}
+use Rattle.goleuthan.specs.Calls.{answerNumber, foundResults, answerResults, listedResults, FreshCall}
+use Rattle.goleuthan.specs.Calls.{LookupCall, ChangeCall, TidyCall, ListCall}
 use Rattle.goleuthan.specs.StateCalls.{Back, StateAfter, back, stateAfter}
 
 module _ {p : List ℕ} {s : Shape} where
@@ -23,14 +24,16 @@ module _ {p : List ℕ} {s : Shape} where
   one-fresh-call x y =
       let e = one-fresh (x .promise) (y .promise) in (x .number ∙ ap madeNumber (e .0) ∙ sym (y .number), e .1)
 
-  pub one-lookup-call : {d a m n : ℕ} {out t u : List ℕ} → LookupCall p s d a out m t → LookupCall p s d a out n u → (m ≡ n) × (t ≡ u)
+  pub one-lookup-call : {d a m n : ℕ} {out t u : List ℕ} → LookupCall p s d a out m t → LookupCall p s d a out n u
+      → (m ≡ n) × (t ≡ u)
   one-lookup-call {out = out} x y =
       let e = one-lookup (x .promise) (y .promise) in (
         x .number ∙ ap (λ (f : Found). foundNumbers f .refusal) e ∙ sym (y .number),
         x .results ∙ ap (λ (f : Found). outWith (foundResults f) out) e ∙ sym (y .results),
       )
 
-  pub one-change-call : {d start len right allowance m n : ℕ} {out q r t u : List ℕ} → ChangeCall p s d start len right allowance out m q t
+  pub one-change-call : {d start len right allowance m n : ℕ} {out q r t u : List ℕ}
+      → ChangeCall p s d start len right allowance out m q t
       → ChangeCall p s d start len right allowance out n r u → (m ≡ n) × (q ≡ r) × (t ≡ u)
   one-change-call {out = out} x y =
       let e = one-change (x .promise) (y .promise) in (
@@ -39,7 +42,8 @@ module _ {p : List ℕ} {s : Shape} where
         x .results ∙ ap (λ (a : Answer). outWith (answerResults a) out) (e .0) ∙ sym (y .results),
       )
 
-  pub one-tidy-call : {allowance m n : ℕ} {out q r t u : List ℕ} → TidyCall p s allowance out m q t → TidyCall p s allowance out n r u
+  pub one-tidy-call : {allowance m n : ℕ} {out q r t u : List ℕ} → TidyCall p s allowance out m q t
+      → TidyCall p s allowance out n r u
       → (m ≡ n) × (q ≡ r) × (t ≡ u)
   one-tidy-call {out = out} x y =
       let e = one-tidy (x .promise) (y .promise) in (
@@ -48,7 +52,8 @@ module _ {p : List ℕ} {s : Shape} where
         x .results ∙ ap (λ (a : Answer). outWith (answerResults a) out) (e .0) ∙ sym (y .results),
       )
 
-  pub one-list-call : {from m n : ℕ} {runs out q r t u : List ℕ} → ListCall p s from runs out m q t → ListCall p s from runs out n r u
+  pub one-list-call : {from m n : ℕ} {runs out q r t u : List ℕ} → ListCall p s from runs out m q t
+      → ListCall p s from runs out n r u
       → (m ≡ n) × (q ≡ r) × (t ≡ u)
   one-list-call {from = from} {runs = runs} {out = out} x y =
       let e = one-listing p s from runs (x .promise) (y .promise) in (

@@ -1,14 +1,16 @@
--- What each call on a pool gives back: the library's promise holds of some answer, and the number and the result words are that answer's.
+-- What each call on a pool gives back: the library's promise holds of some answer, and the number and the result
+-- words are that answer's.
 use Prim.Native.Nat.{ℕ}
 use mathlib.Core.Path.{_≡_}
+use mathlib.Core.Bool.{cond}
 use mathlib.Core.List.{List, [], _∷_}
+use lib.Dec.{eqb}
 use Rattle.table.specs.declared.Shape.{Shape}
 use Rattle.table.specs.declared.Made.{Made}
 use Rattle.table.specs.declared.Found.{Found}
 use Rattle.table.specs.Fresh.{MakesFresh, madeNumber}
 use Rattle.table.specs.Lookup.{LooksUp, numbers as foundNumbers}
 use Rattle.change.specs.declared.Answer.{Answer}
-use Rattle.change.specs.declared.Answer.the-variants.{Done, Cut, Refused}
 use Rattle.change.specs.Answers.{Changes, Tidies, numbers as answerNumbers}
 use Rattle.listing.specs.declared.Listed.{Listed}
 use Rattle.listing.specs.Listing.{Lists, numbers as listedNumbers}
@@ -20,9 +22,7 @@ shapeOf d m l = record { domains = d; middles = m; leaves = l }
 
 -- The number of a change or a tidying: 0 done, 100 cut, else the paper's.
 abbrev pub answerNumber : Answer → ℕ
-answerNumber (Done n) = 0
-answerNumber Cut = wasCut
-answerNumber (Refused n) = n
+answerNumber a = cond (eqb (answerNumbers a .cuts) 1) wasCut (answerNumbers a .refusal)
 
 -- The result words of a lookup: right, entry, loads.
 abbrev pub foundResults : Found → List ℕ
@@ -50,7 +50,8 @@ pub record LookupCall (p : List ℕ) (s : Shape) (d a : ℕ) (out : List ℕ) (n
   pub results : res ≡ outWith (foundResults found) out
 
 -- gol_change on the pool `p` returns `n` and leaves `q` and `res`.
-pub record ChangeCall (p : List ℕ) (s : Shape) (d start len r allowance : ℕ) (out : List ℕ) (n : ℕ) (q res : List ℕ) : Type 0 where
+pub record ChangeCall (p : List ℕ) (s : Shape) (d start len r allowance : ℕ) (out : List ℕ) (n : ℕ) (q res : List ℕ) :
+    Type 0 where
   pub answer : Answer
   pub promise : Changes p s d start len r allowance answer q
   pub number : n ≡ answerNumber answer

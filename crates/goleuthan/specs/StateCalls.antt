@@ -1,5 +1,5 @@
--- What each call on a lent state gives back: the library's answer for the state that the words say, as words; 101 before all else where the words are
--- not as many as the layout has.
+-- What each call on a lent state gives back: the library's answer for the state that the words say, as words; 101
+-- before all else where the words are not as many as the layout has.
 use Prim.Native.Nat.{ℕ}
 use mathlib.Core.Bool.{cond, _&&_}
 use mathlib.Core.List.{List, [], _∷_}
@@ -20,7 +20,8 @@ use Rattle.gates.specs.declared.Stepped.{Stepped}
 use Rattle.gates.specs.Gates.{setOf, removeOf}
 use Rattle.gates.specs.Steps.{stepOf, numbers as stepNumbers}
 use Rattle.goleuthan.specs.Out.{outWith, wrongLength}
-use Rattle.goleuthan.specs.States.{bufferLong, gatesLong, stackLong, bufferOf, bufferWords, gatesOf, gatesWords, stackOf, stackWords}
+use Rattle.goleuthan.specs.States.{bufferLong, gatesLong, stackLong, bufferOf, bufferWords, gatesOf}
+use Rattle.goleuthan.specs.States.{gatesWords, stackOf, stackWords}
 
 -- What a call on a state leaves: the number, and the words of the state.
 pub record StateAfter : Type 0 where
@@ -45,7 +46,8 @@ verdictResults v = verdictNumbers v .verdict ∷ verdictNumbers v .loads ∷ []
 
 -- A check that was made, as words.
 abbrev pub checkedBack : Checked → List ℕ → Back
-checkedBack c out = back (verdictNumbers (c .verdict) .refusal) (bufferWords (c .buffer)) (outWith (verdictResults (c .verdict)) out)
+checkedBack c out = back (verdictNumbers (c .verdict) .refusal) (bufferWords (c .buffer))
+    (outWith (verdictResults (c .verdict)) out)
 
 -- What gol_check gives back, of the buffer's words `ws`.
 unfoldable pub checkCall : List ℕ → Shape → List ℕ → ℕ → ℕ → ℕ → ℕ → List ℕ → Back
@@ -99,9 +101,11 @@ stepResults r = stepNumbers r .pass ∷ []
 
 -- A step that was made, as words.
 abbrev pub steppedBack : Step → List ℕ → Back
-steppedBack r out = back (stepNumbers (r .answer) .refusal) (stackWords (r .stack)) (outWith (stepResults (r .answer)) out)
+steppedBack r out = back (stepNumbers (r .answer) .refusal) (stackWords (r .stack))
+    (outWith (stepResults (r .answer)) out)
 
--- What gol_step gives back, of the gate set's words `gs` and the stack's `ws`, either of which may be of the wrong length.
+-- What gol_step gives back, of the gate set's words `gs` and the stack's `ws`, either of which may be of the wrong
+-- length.
 unfoldable pub stepCall : List ℕ → Shape → List ℕ → List ℕ → ℕ → ℕ → List ℕ → Back
 stepCall p s gs ws a t out =
     cond (eqb (length gs) gatesLong && eqb (length ws) stackLong)

@@ -1,4 +1,5 @@
--- The layouts of the lent states: what their words say, and the words of a state. The two are inverse to each other (proofs/StateLaws).
+-- The layouts of the lent states: what their words say, and the words of a state. The two are inverse to each other
+-- (proofs/StateLaws).
 use Prim.Native.Nat.{ℕ, _+_, _*_}
 use mathlib.Core.Bool.{cond}
 use mathlib.Core.List.{List, [], _∷_, _++_}
@@ -29,7 +30,13 @@ stackLong = 34
 -- The slot in the words from `at` on: domain, level, block, entry.
 abbrev pub slotAt : List ℕ → ℕ → Slot
 slotAt ws at =
-    record { domain = getD ws at 0; level = getD ws (at + 1) 0; block = record { 0 = getD ws (at + 2) 0 }; entry = getD ws (at + 3) 0 }
+    record {
+      domain = getD ws at 0;
+      level = getD ws (at + 1) 0;
+      block = record { 0 = getD ws (at + 2) 0 };
+      entry =
+          getD ws (at + 3) 0;
+    }
 
 -- The words of a slot.
 abbrev pub slotWords : Slot → List ℕ
@@ -58,7 +65,12 @@ gateWord Return = returnWord
 
 -- The gate in the words from `at` on, with its place: domain, address, gate.
 abbrev pub gateAt : List ℕ → ℕ → GateAt
-gateAt ws at = record { domain = getD ws at 0; address = record { 0 = getD ws (at + 1) 0 }; gate = gateIn (getD ws (at + 2) 0) }
+gateAt ws at = record {
+  domain = getD ws at 0;
+  address = record { 0 = getD ws (at + 1) 0 };
+  gate = gateIn
+      (getD ws (at + 2) 0);
+}
 
 -- The words of a gate with its place.
 abbrev pub gateWords : GateAt → List ℕ

@@ -1,10 +1,12 @@
-// The C face: the library's calls on numbers and slices, under plain names. A slice is a pointer and a length in words. Results go into the lent words
-// `out`, as many as fit; include/goleuthan.h says what a caller owes and gets.
+// The C face: the library's calls on numbers and slices, under plain names. A slice is a pointer and a length in
+// words. Results go into the lent words `out`, as many as fit; include/goleuthan.h says what a caller owes and gets.
 mod results;
 mod states;
 
 ghost use mathlib.Core.Path.{_≡_};
-ghost use Rattle.goleuthan.specs.StateCalls.{back, stateAfter, checkCall, flushAllCall, flushDomainCall, flushRegionCall, setSwitchCall, setReturnCall, removeCall, stepCall};
+ghost use Rattle.goleuthan.specs.StateCalls.{back, stateAfter, checkCall, flushAllCall, flushDomainCall};
+ghost use Rattle.goleuthan.specs.StateCalls.{flushRegionCall, setSwitchCall, setReturnCall, removeCall};
+ghost use Rattle.goleuthan.specs.StateCalls.{stepCall};
 ghost use Rattle.goleuthan.specs.Calls.{shapeOf, FreshCall, LookupCall, ChangeCall, TidyCall, ListCall};
 use gates::Gate;
 use table::Shape;
@@ -37,7 +39,8 @@ pub extern "C" fn gol_lookup(
     address: u32,
     out: &mut [u32],
 ) -> u32
-    ensures { λ r. ⌜ LookupCall (now (pool .entry)) (shapeOf d m l) domain address (now (out .entry)) r (now (out .exit)) ⌝ }
+    ensures { λ r. ⌜ LookupCall (now (pool .entry)) (shapeOf d m l) domain address (now (out .entry)) r
+        (now (out .exit)) ⌝ }
 {
     let shape = Shape {
         domains: d,
@@ -63,7 +66,8 @@ pub extern "C" fn gol_change(
     allowance: u32,
     out: &mut [u32],
 ) -> u32
-    ensures { λ r. ⌜ ChangeCall (now (pool .entry)) (shapeOf d m l) domain start length right allowance (now (out .entry)) r (now (pool .exit)) (now (out .exit)) ⌝ }
+    ensures { λ r. ⌜ ChangeCall (now (pool .entry)) (shapeOf d m l) domain start length right allowance
+        (now (out .entry)) r (now (pool .exit)) (now (out .exit)) ⌝ }
 {
     let shape = Shape {
         domains: d,
@@ -85,7 +89,8 @@ pub extern "C" fn gol_tidy(
     allowance: u32,
     out: &mut [u32],
 ) -> u32
-    ensures { λ r. ⌜ TidyCall (now (pool .entry)) (shapeOf d m l) allowance (now (out .entry)) r (now (pool .exit)) (now (out .exit)) ⌝ }
+    ensures { λ r. ⌜ TidyCall (now (pool .entry)) (shapeOf d m l) allowance (now (out .entry)) r (now (pool .exit))
+        (now (out .exit)) ⌝ }
 {
     let shape = Shape {
         domains: d,
@@ -107,7 +112,8 @@ pub extern "C" fn gol_list(
     runs: &mut [u32],
     out: &mut [u32],
 ) -> u32
-    ensures { λ r. ⌜ ListCall (now (pool .entry)) (shapeOf d m l) from (now (runs .entry)) (now (out .entry)) r (now (runs .exit)) (now (out .exit)) ⌝ }
+    ensures { λ r. ⌜ ListCall (now (pool .entry)) (shapeOf d m l) from (now (runs .entry)) (now (out .entry)) r
+        (now (runs .exit)) (now (out .exit)) ⌝ }
 {
     let shape = Shape {
         domains: d,
@@ -119,7 +125,8 @@ pub extern "C" fn gol_list(
     results::give_listed(listed, out)
 }
 
-// The check of an access, through a lookaside buffer. A hit writes nothing to the buffer, and a miss one slot and the pointer.
+// The check of an access, through a lookaside buffer. A hit writes nothing to the buffer, and a miss one slot and the
+// pointer.
 #[no_mangle]
 pub extern "C" fn gol_check(
     pool: &[u32],
@@ -133,7 +140,8 @@ pub extern "C" fn gol_check(
     address: u32,
     out: &mut [u32],
 ) -> u32
-    ensures { λ r. ⌜ back r (now (buffer .exit)) (now (out .exit)) ≡ checkCall (now (pool .entry)) (shapeOf d m l) (now (buffer .entry)) domain kind size address (now (out .entry)) ⌝ }
+    ensures { λ r. ⌜ back r (now (buffer .exit)) (now (out .exit)) ≡ checkCall (now (pool .entry)) (shapeOf d m l)
+        (now (buffer .entry)) domain kind size address (now (out .entry)) ⌝ }
 {
     if buffer.len() != states::BUFFER_WORDS {
         results::two(out, 0, 0);
@@ -209,7 +217,8 @@ pub extern "C" fn gol_set_switch_gate(
     address: u32,
     destination: u32,
 ) -> u32
-    ensures { λ r. ⌜ stateAfter r (now (gates .exit)) ≡ setSwitchCall d (now (gates .entry)) domain address destination ⌝ }
+    ensures { λ r. ⌜ stateAfter r (now (gates .exit)) ≡ setSwitchCall d (now (gates .entry)) domain address
+        destination ⌝ }
 {
     if gates.len() != states::GATES_WORDS {
         return WRONG_LENGTH;
@@ -269,7 +278,8 @@ pub extern "C" fn gol_step(
     target: u32,
     out: &mut [u32],
 ) -> u32
-    ensures { λ r. ⌜ back r (now (stack .exit)) (now (out .exit)) ≡ stepCall (now (pool .entry)) (shapeOf d m l) (now (gates .entry)) (now (stack .entry)) address target (now (out .entry)) ⌝ }
+    ensures { λ r. ⌜ back r (now (stack .exit)) (now (out .exit)) ≡ stepCall (now (pool .entry)) (shapeOf d m l)
+        (now (gates .entry)) (now (stack .entry)) address target (now (out .entry)) ⌝ }
 {
     if gates.len() != states::GATES_WORDS {
         results::one(out, 0);

@@ -72,7 +72,8 @@ pub fn made_number(made: Made) -> u32
 
 // Each of these writes the results of an answer and returns its number.
 pub fn give_found(found: Found, out: &mut [u32]) -> u32
-    ensures { λ r. ⌜ (r ≡ foundNumbers found .refusal) × (now (out .exit) ≡ outWith (foundResults found) (now (out .entry))) ⌝ }
+    ensures { λ r. ⌜ (r ≡ foundNumbers found .refusal)
+        × (now (out .exit) ≡ outWith (foundResults found) (now (out .entry))) ⌝ }
 {
     match found {
         Found::Right {
@@ -91,7 +92,8 @@ pub fn give_found(found: Found, out: &mut [u32]) -> u32
 }
 
 pub fn give_answer(answer: Answer, out: &mut [u32]) -> u32
-    ensures { λ r. ⌜ (r ≡ answerNumber answer) × (now (out .exit) ≡ outWith (answerResults answer) (now (out .entry))) ⌝ }
+    ensures { λ r. ⌜ (r ≡ answerNumber answer)
+        × (now (out .exit) ≡ outWith (answerResults answer) (now (out .entry))) ⌝ }
 {
     match answer {
         Answer::Done(n) => {
@@ -110,7 +112,8 @@ pub fn give_answer(answer: Answer, out: &mut [u32]) -> u32
 }
 
 pub fn give_listed(listed: Listed, out: &mut [u32]) -> u32
-    ensures { λ r. ⌜ (r ≡ listedNumbers listed .refusal) × (now (out .exit) ≡ outWith (listedResults listed) (now (out .entry))) ⌝ }
+    ensures { λ r. ⌜ (r ≡ listedNumbers listed .refusal)
+        × (now (out .exit) ≡ outWith (listedResults listed) (now (out .entry))) ⌝ }
 {
     match listed {
         Listed::Runs(n) => {
@@ -126,7 +129,8 @@ pub fn give_listed(listed: Listed, out: &mut [u32]) -> u32
 }
 
 pub fn give_verdict(verdict: Verdict, out: &mut [u32]) -> u32
-    ensures { λ r. ⌜ (r ≡ verdictNumbers verdict .refusal) × (now (out .exit) ≡ outWith (verdictResults verdict) (now (out .entry))) ⌝ }
+    ensures { λ r. ⌜ (r ≡ verdictNumbers verdict .refusal)
+        × (now (out .exit) ≡ outWith (verdictResults verdict) (now (out .entry))) ⌝ }
 {
     match verdict {
         Verdict::Pass(loads) => {
@@ -145,7 +149,8 @@ pub fn give_verdict(verdict: Verdict, out: &mut [u32]) -> u32
 }
 
 pub fn give_step(answer: Stepped, out: &mut [u32]) -> u32
-    ensures { λ r. ⌜ (r ≡ stepNumbers answer .refusal) × (now (out .exit) ≡ outWith (stepResults answer) (now (out .entry))) ⌝ }
+    ensures { λ r. ⌜ (r ≡ stepNumbers answer .refusal)
+        × (now (out .exit) ≡ outWith (stepResults answer) (now (out .entry))) ⌝ }
 {
     match answer {
         Stepped::Pass => {

@@ -20,12 +20,18 @@ use Rattle.lines.proofs.HeldLaws.{Held, held-push, held-said}
 
 -- Up to a newline: the whole line, of which ds came in earlier chunks, and the place behind the newline.
 pub feed-finds : (ds p rest : List ℕ) (i : ℕ) (t : LineSoFar) → NoMark 10 p → Held ds t
-    → feedOf i t (p ++ (10 ∷ rest)) ≡ record { found = Line (parseOf (ds ++ p)); next = i + length p + 1; line = blankLine }
+    → feedOf i t (p ++ (10 ∷ rest)) ≡ record {
+      found = Line (parseOf (ds ++ p));
+      next = i + length p + 1;
+      line =
+          blankLine;
+    }
 unfolding feedOf NoMark
 feed-finds ds [] rest i t m h = rw (held-said ds t h, append-nil, add-zero)
 feed-finds ds (b ∷ p) rest i t m h =
     let e : i + length (b ∷ p) + 1 ≡ i + 1 + length p + 1 = omega arith in
-    rw (ne-eqb b 10 (m .0), e) (rw append-assoc at (feed-finds (ds ++ (b ∷ [])) p rest (i + 1) (pushed t b) (m .1) (held-push ds t b h)))
+    rw (ne-eqb b 10 (m .0), e) (rw append-assoc
+    at (feed-finds (ds ++ (b ∷ [])) p rest (i + 1) (pushed t b) (m .1) (held-push ds t b h)))
 
 -- With no newline: nothing yet, and the line so far holds what came.
 pub record Spent (ds p : List ℕ) (i : ℕ) (x : Fed) : Type 0 where
@@ -38,18 +44,26 @@ unfolding feedOf NoMark
 feed-spends ds [] i t m h = record { found = refl; next = sym (add-zero i); held = rw append-nil h }
 feed-spends ds (b ∷ p) i t m h =
     let s = feed-spends (ds ++ (b ∷ [])) p (i + 1) (pushed t b) (m .1) (held-push ds t b h) in
-    rw (ne-eqb b 10 (m .0)) (record { found = s .found; next = omega (arith, s .next); held = rw append-assoc at (s .held) })
+    rw (ne-eqb b 10 (m .0)) (record {
+      found = s .found;
+      next = omega (arith, s .next);
+      held = rw append-assoc
+          at (s .held);
+    })
 
 -- A call that finds a line goes on in the chunk, which bounds how often it can be called there.
-moves : (bs : List ℕ) (i : ℕ) (t : LineSoFar) {p : Parsed} → feedOf i t bs .found ≡ Line p → (i < feedOf i t bs .next) × (feedOf i t bs .next ≤ i + length bs)
+moves : (bs : List ℕ) (i : ℕ) (t : LineSoFar) {p : Parsed} → feedOf i t bs .found ≡ Line p → (i < feedOf i t bs .next)
+    × (feedOf i t bs .next ≤ i + length bs)
 unfolding feedOf
 moves [] i t f = let z : _≡_ {A = ℕ} 0 1 = cc in absurd (omega arith)
 moves (b ∷ bs) i t {p} f = go (λ g. moves bs (i + 1) (pushed t b) g) (eqb b 10) f
   where
     step : Bool → Fed
-    step q = cond q (record { found = Line (saidOf t); next = i + 1; line = blankLine }) (feedOf (i + 1) (pushed t b) bs)
+    step q = cond q (record { found = Line (saidOf t); next = i + 1; line = blankLine })
+        (feedOf (i + 1) (pushed t b) bs)
 
-    go : (feedOf (i + 1) (pushed t b) bs .found ≡ Line p → (i + 1 < feedOf (i + 1) (pushed t b) bs .next) × (feedOf (i + 1) (pushed t b) bs .next ≤ i + 1 + length bs))
+    go : (feedOf (i + 1) (pushed t b) bs .found ≡ Line p → (i + 1 < feedOf (i + 1) (pushed t b) bs .next)
+        × (feedOf (i + 1) (pushed t b) bs .next ≤ i + 1 + length bs))
         → (q : Bool) → step q .found ≡ Line p → (i < step q .next) × (step q .next ≤ i + length (b ∷ bs))
     go ih true g = (omega arith, omega arith)
     go ih false g = (omega (arith, ih g .0), omega (arith, ih g .1))

@@ -52,11 +52,13 @@ together [] = refl
 together (s ∷ []) = sym (neither (isS s) refl)
 together (s ∷ d ∷ []) = sym (neither (isS s) (neither (isNumber d) refl))
 together (s ∷ d ∷ a ∷ []) = sym (neither (isS s) (neither (isNumber d) (neither (isNumber a) refl)))
-together (s ∷ d ∷ a ∷ l ∷ []) = sym (neither (isS s) (neither (isNumber d) (neither (isNumber a) (neither (isNumber l) refl))))
+together (s ∷ d ∷ a ∷ l ∷ []) = sym (neither (isS s)
+    (neither (isNumber d) (neither (isNumber a) (neither (isNumber l) refl))))
 together (s ∷ d ∷ a ∷ l ∷ r ∷ []) = simp cond-and
 together (s ∷ d ∷ a ∷ l ∷ r ∷ x ∷ ws) =
     rw (ne-eqb (length (s ∷ d ∷ a ∷ l ∷ r ∷ x ∷ ws)) 5 (λ e. omega arith))
-    (sym (neither (isS s) (neither (isNumber d) (neither (isNumber a) (neither (isNumber l) (neither (isNumber r) refl))))))
+    (sym (neither (isS s) (neither (isNumber d)
+    (neither (isNumber a) (neither (isNumber l) (neither (isNumber r) refl))))))
 
 pub parse-chain : (line : List ℕ) → parseOf line ≡ cond (leb (length line) 60) (sThen (wordsOf line)) NotOfForm
 unfolding parseOf

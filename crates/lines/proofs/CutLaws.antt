@@ -21,7 +21,8 @@ no-mark-append m [] ys h k = k
 no-mark-append m (x ∷ xs) ys h k = (h .0, no-mark-append m xs ys (h .1) k)
 
 module _ (m : ℕ) where
-  pub cut-piece : (end : List (List ℕ)) (p rest : List ℕ) → NoMark m p → cutAt m end (p ++ (m ∷ rest)) ≡ p ∷ cutAt m end rest
+  pub cut-piece : (end : List (List ℕ)) (p rest : List ℕ) → NoMark m p → cutAt m end (p ++ (m ∷ rest))
+      ≡ p ∷ cutAt m end rest
   unfolding cutAt onto NoMark
   cut-piece end [] rest h = rw (eq-eqb m m refl)
   cut-piece end (b ∷ p) rest h = rw (ne-eqb b m (h .0), cut-piece end p rest (h .1))

@@ -60,7 +60,11 @@ digits-all (b ∷ ds) h = and-true (bounds-digit b (h .0 .0) (h .0 .1)) (digits-
 pub all-digits : (ds : List ℕ) → allDigits ds ≡ true → Digits ds
 unfolding Digits allDigits
 all-digits [] e = tt
-all-digits (b ∷ ds) e = (digit-bounds b (and-left (isDigit b) (allDigits ds) e), all-digits ds (and-right (isDigit b) (allDigits ds) e))
+all-digits (b ∷ ds) e = (
+  digit-bounds b (and-left (isDigit b) (allDigits ds) e),
+  all-digits ds
+      (and-right (isDigit b) (allDigits ds) e),
+)
 
 pub number-is : (ds : List ℕ) (v : ℕ) → Number ds v → isNumber ds ≡ true
 unfolding isNumber
@@ -77,5 +81,6 @@ is-number (b ∷ ds) e =
       some = omega arith;
       digits = all-digits (b ∷ ds) (and-left (allDigits (b ∷ ds)) (leb (valueOf (b ∷ ds)) 4294967295) e);
       value = refl;
-      most = leb-true (valueOf (b ∷ ds)) 4294967295 (and-right (allDigits (b ∷ ds)) (leb (valueOf (b ∷ ds)) 4294967295) e);
+      most = leb-true (valueOf (b ∷ ds)) 4294967295
+          (and-right (allDigits (b ∷ ds)) (leb (valueOf (b ∷ ds)) 4294967295) e);
     }

@@ -10,7 +10,8 @@ use Rattle.lines.specs.declared.Parsed.the-variants.{Request, NotOfForm}
 use Rattle.lines.specs.declared.Found.the-variants.{Line, Nothing}
 use Rattle.lines.specs.declared.Fed.{Fed}
 use Rattle.lines.specs.Cuts.{onto, cutAt, linesOf}
-use Rattle.lines.specs.Forms.{valueOn, isDigit, allDigits, isNumber, allNumbers, isS, isRequest, requestOf, parseOf}
+use Rattle.lines.specs.Forms.{valueOn, isDigit, allDigits, isNumber, allNumbers, isS, isRequest, requestOf}
+use Rattle.lines.specs.Forms.{parseOf}
 use Rattle.lines.specs.Feeds.{blankLine, pushed, saidOf, feedOf, lastOf}
 
 -- A text's bytes: all of these are of ASCII, where a character is one byte.
@@ -70,7 +71,8 @@ rows =
     ∷ []
 
 each-row : map (λ (x : Row). parseOf (x .bytes)) rows ≡ map (λ (x : Row). x .says) rows
-unfolding bytesOf row padded rows onto cutAt valueOn isDigit allDigits isNumber allNumbers isS isRequest requestOf parseOf
+unfolding bytesOf row padded rows onto cutAt valueOn isDigit allDigits isNumber allNumbers isS isRequest requestOf
+    parseOf
 each-row = refl
 
 -- ---- Lines of an input
@@ -100,8 +102,10 @@ part-spent : part .found ≡ Nothing
 unfolding part bytesOf feedOf pushed
 part-spent = refl
 
-part-found : feedOf 0 (part .line) (bytesOf "96 64 2\nS") ≡ record { found = Line (Request 1 4096 64 2); next = 8; line = blankLine }
-unfolding part bytesOf feedOf pushed saidOf onto cutAt valueOn isDigit allDigits isNumber allNumbers isS isRequest requestOf parseOf
+part-found : feedOf 0 (part .line) (bytesOf "96 64 2\nS")
+    ≡ record { found = Line (Request 1 4096 64 2); next = 8; line = blankLine }
+unfolding part bytesOf feedOf pushed saidOf onto cutAt valueOn isDigit allDigits isNumber allNumbers isS isRequest
+    requestOf parseOf
 part-found = refl
 
 part-last : lastOf (feedOf 8 blankLine (bytesOf "S") .line) ≡ Line NotOfForm

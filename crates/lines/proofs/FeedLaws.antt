@@ -39,10 +39,13 @@ told-lines [] [] t m h = rw (held-none t h)
 told-lines (d ∷ ds) [] t m h =
     rw (held-last d ds t h)
     (sym (ap (λ (bs : List ℕ). map parseOf (linesOf bs)) (append-nil (d ∷ ds)) ∙ ap (map parseOf) (cut-open 10 d ds m)))
-told-lines ds (b ∷ bs) t m h = go (told-lines [] bs blankLine tt held-blank) (λ k. told-lines (ds ++ (b ∷ [])) bs (pushed t b) k (held-push ds t b h)) (eqb b 10) refl
+told-lines ds (b ∷ bs) t m h = go (told-lines [] bs blankLine tt held-blank)
+    (λ k. told-lines (ds ++ (b ∷ [])) bs (pushed t b) k (held-push ds t b h)) (eqb b 10) refl
   where
-    go : told blankLine bs ≡ map parseOf (linesOf bs) → (NoMark 10 (ds ++ (b ∷ [])) → told (pushed t b) bs ≡ map parseOf (linesOf (ds ++ (b ∷ []) ++ bs)))
-        → (q : Bool) → eqb b 10 ≡ q → cond q (saidOf t ∷ told blankLine bs) (told (pushed t b) bs) ≡ map parseOf (linesOf (ds ++ (b ∷ bs)))
+    go : told blankLine bs ≡ map parseOf (linesOf bs)
+        → (NoMark 10 (ds ++ (b ∷ [])) → told (pushed t b) bs ≡ map parseOf (linesOf (ds ++ (b ∷ []) ++ bs)))
+        → (q : Bool) → eqb b 10 ≡ q → cond q (saidOf t ∷ told blankLine bs) (told (pushed t b) bs)
+        ≡ map parseOf (linesOf (ds ++ (b ∷ bs)))
     go line byte true e = rw (eqb-true b 10 e, cut-piece 10 [] ds bs m, held-said ds t h, line)
     go line byte false e = rw append-assoc at (byte (no-mark-append 10 ds (b ∷ []) m (eqb-false b 10 e, tt)))
 
@@ -60,14 +63,16 @@ onFound Nothing more none = none
 unfoldable answersFrom : List ℕ → List ℕ → Fed → List Parsed
 answersFrom c rest x = onFound (x .found) (told (x .line) (drop (x .next) c ++ rest)) (told (x .line) rest)
 
-call-told : (c rest bs : List ℕ) (i : ℕ) (t : LineSoFar) → drop i c ≡ bs → told t (bs ++ rest) ≡ answersFrom c rest (feedOf i t bs)
+call-told : (c rest bs : List ℕ) (i : ℕ) (t : LineSoFar) → drop i c ≡ bs → told t (bs ++ rest)
+    ≡ answersFrom c rest (feedOf i t bs)
 unfolding feedOf told answersFrom onFound
 call-told c rest [] i t e = refl
 call-told c rest (b ∷ bs) i t e = go (call-told c rest bs (i + 1) (pushed t b) (drop-tail i c e)) (eqb b 10)
   where
     go : told (pushed t b) (bs ++ rest) ≡ answersFrom c rest (feedOf (i + 1) (pushed t b) bs) → (q : Bool)
         → cond q (saidOf t ∷ told blankLine (bs ++ rest)) (told (pushed t b) (bs ++ rest))
-        ≡ answersFrom c rest (cond q (record { found = Line (saidOf t); next = i + 1; line = blankLine }) (feedOf (i + 1) (pushed t b) bs))
+        ≡ answersFrom c rest (cond q (record { found = Line (saidOf t); next = i + 1; line = blankLine })
+        (feedOf (i + 1) (pushed t b) bs))
     go ih true = rw (drop-tail i c e)
     go ih false = ih
 
@@ -81,17 +86,21 @@ unfolding leftOf flatten
 left-next [] = refl
 left-next (c ∷ cs) = refl
 
-feeding-told : {cs : List (List ℕ)} {at : ℕ} {t : LineSoFar} {ps : List Parsed} → Feeding cs at t ps → ps ≡ told t (leftOf cs at)
+feeding-told : {cs : List (List ℕ)} {at : ℕ} {t : LineSoFar} {ps : List Parsed} → Feeding cs at t ps → ps
+    ≡ told t (leftOf cs at)
 unfolding leftOf told toldLast answersFrom onFound
 feeding-told (found {c = c} {cs = cs} {at = at} {t = t} {p = p} f g) =
-    ap (λ (x : List Parsed). p ∷ x) (feeding-told g) ∙ (sym (ap (answersFrom c (flatten cs)) f) ∙ sym (call-told c (flatten cs) (drop at c) at t refl))
+    ap (λ (x : List Parsed). p ∷ x) (feeding-told g)
+    ∙ (sym (ap (answersFrom c (flatten cs)) f) ∙ sym (call-told c (flatten cs) (drop at c) at t refl))
 feeding-told (spent {c = c} {cs = cs} {at = at} {t = t} {u = u} f g) =
-    (feeding-told g ∙ ap (told u) (left-next cs)) ∙ (sym (ap (answersFrom c (flatten cs)) f) ∙ sym (call-told c (flatten cs) (drop at c) at t refl))
+    (feeding-told g ∙ ap (told u) (left-next cs))
+    ∙ (sym (ap (answersFrom c (flatten cs)) f) ∙ sym (call-told c (flatten cs) (drop at c) at t refl))
 feeding-told (last e) = rw e
 feeding-told (ended e) = rw e
 
 -- The answers that a caller gets are those of the input's lines, however it is cut into chunks.
-pub feeding-lines : {chunks : List (List ℕ)} {ps : List Parsed} → Feeding chunks 0 blankLine ps → ps ≡ map parseOf (linesOf (flatten chunks))
+pub feeding-lines : {chunks : List (List ℕ)} {ps : List Parsed} → Feeding chunks 0 blankLine ps → ps
+    ≡ map parseOf (linesOf (flatten chunks))
 unfolding NoMark
 feeding-lines {chunks} g =
     feeding-told g ∙ (ap (told blankLine) (left-next chunks) ∙ told-lines [] (flatten chunks) blankLine tt held-blank)
@@ -112,17 +121,26 @@ feed-chunk (suc k) c cs others at t h = go (λ n u g. feed-chunk k c cs others n
     with-found f = record { found = f; next = x .next; line = x .line }
 
     answers : {f : Found} → x .found ≡ f → answersFrom c (flatten cs) (with-found f) ≡ told t (drop at c ++ flatten cs)
-    answers e = sym (call-told c (flatten cs) (drop at c) at t refl ∙ ap (λ (f : Found). answersFrom c (flatten cs) (with-found f)) e)
+    answers e = sym (call-told c (flatten cs) (drop at c) at t refl
+        ∙ ap (λ (f : Found). answersFrom c (flatten cs) (with-found f)) e)
 
     nearer : (p : Parsed) → x .found ≡ Line p → length (drop (x .next) c) < k
-    nearer p e = omega (arith, feed-moves c at t e .0, feed-moves c at t e .1, length-drop at c, length-drop (x .next) c)
+    nearer p e = omega (
+      arith,
+      feed-moves c at t e .0,
+      feed-moves c at t e .1,
+      length-drop at c,
+      length-drop
+          (x .next) c,
+    )
 
     go : ((n : ℕ) (u : LineSoFar) → length (drop n c) < k → Feeding (c ∷ cs) n u (told u (drop n c ++ flatten cs)))
         → (f : Found) → x .found ≡ f → Feeding (c ∷ cs) at t (told t (drop at c ++ flatten cs))
     go ih (Line p) e =
         subst (λ (ps : List Parsed). Feeding (c ∷ cs) at t ps) (answers e)
         (found (ap with-found e) (ih (x .next) (x .line) (nearer p e)))
-    go ih Nothing e = subst (λ (ps : List Parsed). Feeding (c ∷ cs) at t ps) (answers e) (spent (ap with-found e) (others (x .line)))
+    go ih Nothing e = subst (λ (ps : List Parsed). Feeding (c ∷ cs) at t ps) (answers e)
+        (spent (ap with-found e) (others (x .line)))
 
 feed-chunks : (cs : List (List ℕ)) (t : LineSoFar) → Feeding cs 0 t (told t (flatten cs))
 unfolding told toldLast flatten

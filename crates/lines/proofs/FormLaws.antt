@@ -11,7 +11,8 @@ use borrow.Author.Tests.{le-leb, leb-true}
 use Rattle.lines.specs.declared.Parsed.{Parsed}
 use Rattle.lines.specs.declared.Parsed.the-variants.{Request, NotOfForm}
 use Rattle.lines.specs.Cuts.{onto, cutAt, wordsOf}
-use Rattle.lines.specs.Forms.{Digits, valueOf, Number, OfForm, isNumber, isS, allNumbers, isRequest, requestOf, parseOf, numbersOf}
+use Rattle.lines.specs.Forms.{Digits, valueOf, Number, OfForm, isNumber, isS, allNumbers, isRequest, requestOf}
+use Rattle.lines.specs.Forms.{parseOf, numbersOf}
 use Rattle.lines.specs.Inner.{numberThen, noMore, numbersThen, fourNumbers}
 use Rattle.lines.proofs.DigitLaws.{number-is, is-number}
 use Rattle.lines.proofs.ChainLaws.{sThen, s-word, parse-chain}
@@ -24,13 +25,16 @@ unfolding Digits NoMark
 digits-no-space [] h = tt
 digits-no-space (b ∷ ds) h = ((λ e. omega (arith, h .0 .0, e)), digits-no-space ds (h .1))
 
-form-words : {line : List ℕ} {d s l r : ℕ} (f : OfForm line d s l r) → wordsOf line ≡ (83 ∷ []) ∷ f .domain ∷ f .start ∷ f .extent ∷ f .right ∷ []
+form-words : {line : List ℕ} {d s l r : ℕ} (f : OfForm line d s l r) → wordsOf line
+    ≡ (83 ∷ []) ∷ f .domain ∷ f .start ∷ f .extent ∷ f .right ∷ []
 unfolding cutAt onto
 form-words f =
     rw (
       f .bytes,
-      cut-piece 32 ([] ∷ []) (f .domain) (f .start ++ (32 ∷ (f .extent ++ (32 ∷ f .right)))) (digits-no-space (f .domain) (f .domain-is .digits)),
-      cut-piece 32 ([] ∷ []) (f .start) (f .extent ++ (32 ∷ f .right)) (digits-no-space (f .start) (f .start-is .digits)),
+      cut-piece 32 ([] ∷ []) (f .domain) (f .start ++ (32 ∷ (f .extent ++ (32 ∷ f .right))))
+          (digits-no-space (f .domain) (f .domain-is .digits)),
+      cut-piece 32 ([] ∷ []) (f .start) (f .extent ++ (32 ∷ f .right))
+          (digits-no-space (f .start) (f .start-is .digits)),
       cut-piece 32 ([] ∷ []) (f .extent) (f .right) (digits-no-space (f .extent) (f .length-is .digits)),
       cut-last 32 (f .right) (digits-no-space (f .right) (f .right-is .digits)),
     )
@@ -57,7 +61,8 @@ not-request : {d s l r : ℕ} → NotOfForm ≡ Request d s l r → ⊥
 not-request e = let z : _≡_ {A = ℕ} 0 1 = cc in omega arith
 
 -- A test that let a request through.
-cond-request : (t : Bool) (said : Parsed) {d s l r : ℕ} → cond t said NotOfForm ≡ Request d s l r → (t ≡ true) × (said ≡ Request d s l r)
+cond-request : (t : Bool) (said : Parsed) {d s l r : ℕ} → cond t said NotOfForm ≡ Request d s l r → (t ≡ true)
+    × (said ≡ Request d s l r)
 cond-request true said e = (refl, e)
 cond-request false said e = absurd (not-request e)
 
@@ -69,19 +74,22 @@ record Read (ws : List (List ℕ)) (next : ℕ → List (List ℕ) → Parsed) (
   number : Number word (valueOf word)
   went : next (valueOf word) rest ≡ said
 
-then-reads : (ws : List (List ℕ)) (next : ℕ → List (List ℕ) → Parsed) {d s l r : ℕ} → numberThen ws next ≡ Request d s l r → Read ws next (Request d s l r)
+then-reads : (ws : List (List ℕ)) (next : ℕ → List (List ℕ) → Parsed) {d s l r : ℕ} → numberThen ws next
+    ≡ Request d s l r → Read ws next (Request d s l r)
 unfolding numberThen
 then-reads [] next e = absurd (not-request e)
 then-reads (w ∷ ws) next e =
     let g = cond-request (isNumber w) (next (valueOf w) ws) e in
     record { word = w; rest = ws; split = refl; number = is-number w (g .0); went = g .1 }
 
-more-ends : (ws : List (List ℕ)) (said : Parsed) {d s l r : ℕ} → noMore ws said ≡ Request d s l r → (ws ≡ []) × (said ≡ Request d s l r)
+more-ends : (ws : List (List ℕ)) (said : Parsed) {d s l r : ℕ} → noMore ws said ≡ Request d s l r → (ws ≡ [])
+    × (said ≡ Request d s l r)
 unfolding noMore
 more-ends [] said e = (refl, e)
 more-ends (w ∷ ws) said e = absurd (not-request e)
 
-s-reads : (ws : List (List ℕ)) {d s l r : ℕ} → sThen ws ≡ Request d s l r → (rest : List (List ℕ)) × (ws ≡ (83 ∷ []) ∷ rest) × (fourNumbers rest ≡ Request d s l r)
+s-reads : (ws : List (List ℕ)) {d s l r : ℕ} → sThen ws ≡ Request d s l r → (rest : List (List ℕ))
+    × (ws ≡ (83 ∷ []) ∷ rest) × (fourNumbers rest ≡ Request d s l r)
 unfolding sThen
 s-reads [] e = absurd (not-request e)
 s-reads (w ∷ ws) e =
@@ -101,8 +109,10 @@ parse-form line {d} {s} {l} {r} e =
     let g₃ = then-reads (g₂ .rest) _ (g₂ .went) in
     let g₄ = then-reads (g₃ .rest) _ (g₃ .went) in
     let g₅ = more-ends (g₄ .rest) _ (g₄ .went) in
-    let same : Request (valueOf (g₁ .word)) (valueOf (g₂ .word)) (valueOf (g₃ .word)) (valueOf (g₄ .word)) ≡ Request d s l r = g₅ .1 in
-    let words : wordsOf line ≡ (83 ∷ []) ∷ g₁ .word ∷ g₂ .word ∷ g₃ .word ∷ g₄ .word ∷ [] = cc (g₀ .1, g₁ .split, g₂ .split, g₃ .split, g₄ .split, g₅ .0) in
+    let same : Request (valueOf (g₁ .word)) (valueOf (g₂ .word)) (valueOf (g₃ .word)) (valueOf (g₄ .word))
+    ≡ Request d s l r = g₅ .1 in
+    let words : wordsOf line ≡ (83 ∷ []) ∷ g₁ .word ∷ g₂ .word ∷ g₃ .word ∷ g₄ .word ∷ [] =
+    cc (g₀ .1, g₁ .split, g₂ .split, g₃ .split, g₄ .split, g₅ .0) in
     record {
       domain = g₁ .word;
       start = g₂ .word;
@@ -144,9 +154,16 @@ numbers-refused : (said : Parsed) → numbersOf said ≡ 99 ∷ 0 ∷ 0 ∷ 0 �
 numbers-refused (Request d s l r) e = let z : _≡_ {A = ℕ} 0 99 = cc in absurd (omega arith)
 numbers-refused NotOfForm e = refl
 
-pub request-numbers : (line : List ℕ) (d s l r : ℕ) → (numbersOf (parseOf line) ≡ 0 ∷ d ∷ s ∷ l ∷ r ∷ []) ↔ OfForm line d s l r
-request-numbers line d s l r = ((λ e. parse-form line (numbers-request (parseOf line) e)), (λ f. ap numbersOf (form-parses f)))
+pub request-numbers : (line : List ℕ) (d s l r : ℕ) → (numbersOf (parseOf line) ≡ 0 ∷ d ∷ s ∷ l ∷ r ∷ []) ↔ OfForm
+    line d s l r
+request-numbers line d s l r = (
+  (λ e. parse-form line (numbers-request (parseOf line) e)),
+  (λ f. ap numbersOf (form-parses f)),
+)
 
-pub refused-numbers : (line : List ℕ) → (numbersOf (parseOf line) ≡ 99 ∷ 0 ∷ 0 ∷ 0 ∷ 0 ∷ []) ↔ ((d s l r : ℕ) → OfForm line d s l r → ⊥)
-refused-numbers line =
-    ((λ e. refused-exactly line .0 (numbers-refused (parseOf line) e)), (λ none. ap numbersOf (refused-exactly line .1 none)))
+pub refused-numbers : (line : List ℕ) → (numbersOf (parseOf line) ≡ 99 ∷ 0 ∷ 0 ∷ 0 ∷ 0 ∷ []) ↔
+    ((d s l r : ℕ) → OfForm line d s l r → ⊥)
+refused-numbers line = (
+  (λ e. refused-exactly line .0 (numbers-refused (parseOf line) e)),
+  (λ none. ap numbersOf (refused-exactly line .1 none)),
+)

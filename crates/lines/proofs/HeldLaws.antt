@@ -44,7 +44,8 @@ held-push ds t b h = go (ltb (t .len) 60) refl
     n = snoc-length ds b
 
     go : (q : Bool) → ltb (t .len) 60 ≡ q
-        → Held (ds ++ (b ∷ [])) (cond q (record { bytes = set (t .bytes) (t .len) b; len = t .len + 1 }) (record { bytes = t .bytes; len = 61 }))
+        → Held (ds ++ (b ∷ [])) (cond q (record { bytes = set (t .bytes) (t .len) b; len = t .len + 1 })
+        (record { bytes = t .bytes; len = 61 }))
     go true e =
         record {
           room = length-set (t .bytes) (t .len) b ∙ h .room;
@@ -52,7 +53,8 @@ held-push ds t b h = go (ltb (t .len) 60) refl
               (λ (s : Short ds t). inl (record {
                 fits = omega (arith, n, s .len, ltb-true (t .len) 60 e);
                 len = omega (arith, n, s .len);
-                kept = rw (n, add-one, s .len) (take-suc-set (t .bytes) (length ds) b (omega (arith, h .room, s .len, ltb-true (t .len) 60 e)) ∙ rw (s .kept));
+                kept = rw (n, add-one, s .len) (take-suc-set (t .bytes) (length ds) b
+                    (omega (arith, h .room, s .len, ltb-true (t .len) 60 e)) ∙ rw (s .kept));
               }))
               (λ (l : Long ds t). absurd (omega (arith, l .len, ltb-true (t .len) 60 e)))
               (h .what);
@@ -61,7 +63,11 @@ held-push ds t b h = go (ltb (t .len) 60) refl
         record {
           room = h .room;
           what = ⊎-elim
-              (λ (s : Short ds t). inr (record { over = omega (arith, n, s .len, ltb-false (t .len) 60 e); len = refl }))
+              (λ (s : Short ds t). inr (record {
+                over = omega (arith, n, s .len, ltb-false (t .len) 60 e);
+                len =
+                    refl;
+              }))
               (λ (l : Long ds t). inr (record { over = omega (arith, n, l .over); len = refl }))
               (h .what);
         }

@@ -1,4 +1,5 @@
--- Why the functions of `lines` keep their contracts, and what those give: FormLaws of one line, FeedLaws of a whole input.
+-- Why the functions of `lines` keep their contracts, and what those give: FormLaws of one line, FeedLaws of a whole
+-- input.
 pub mod DigitLaws
 pub mod ReadLaws
 pub mod ChainLaws

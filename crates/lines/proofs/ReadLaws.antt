@@ -19,7 +19,8 @@ use Rattle.lines.proofs.DigitLaws.{digit-not-space, value-at-least}
 -- A number v so far, and the rest of its word from place i on.
 unfoldable pub readOn : ℕ → ℕ → List ℕ → Word
 readOn v i bs =
-    cond (allDigits (wordAt bs) && leb (valueOn v (wordAt bs)) 4294967295) (Value (valueOn v (wordAt bs)) (i + length (wordAt bs) + 1)) NoNumber
+    cond (allDigits (wordAt bs) && leb (valueOn v (wordAt bs)) 4294967295)
+    (Value (valueOn v (wordAt bs)) (i + length (wordAt bs) + 1)) NoNumber
 
 -- ---- The word at a place
 
@@ -48,17 +49,20 @@ module _ (v i : ℕ) where
   unfolding readOn allDigits
   read-other b bs cs e k = rw (e, k)
 
-  pub read-over : (b : ℕ) (bs cs : List ℕ) → wordAt bs ≡ b ∷ wordAt cs → 4294967295 < v * 10 + (b - 48) → readOn v i bs ≡ NoNumber
+  pub read-over : (b : ℕ) (bs cs : List ℕ) → wordAt bs ≡ b ∷ wordAt cs → 4294967295 < v * 10 + (b - 48)
+      → readOn v i bs ≡ NoNumber
   unfolding readOn valueOn
   read-over b bs cs e o =
-      let x : 4294967295 < valueOn (v * 10 + (b - 48)) (wordAt cs) = omega (arith, value-at-least (v * 10 + (b - 48)) (wordAt cs)) in
+      let x : 4294967295 < valueOn (v * 10 + (b - 48)) (wordAt cs) =
+      omega (arith, value-at-least (v * 10 + (b - 48)) (wordAt cs)) in
       rw (e, lt-leb _ _ x) (never (allDigits (b ∷ wordAt cs)) _)
     where
       never : (t : Bool) (w : Word) → cond (t && false) w NoNumber ≡ NoNumber
       never true w = refl
       never false w = refl
 
-  pub read-more : (b : ℕ) (bs cs : List ℕ) → wordAt bs ≡ b ∷ wordAt cs → isDigit b ≡ true → readOn v i bs ≡ readOn (v * 10 + (b - 48)) (i + 1) cs
+  pub read-more : (b : ℕ) (bs cs : List ℕ) → wordAt bs ≡ b ∷ wordAt cs → isDigit b ≡ true → readOn v i bs
+      ≡ readOn (v * 10 + (b - 48)) (i + 1) cs
   unfolding readOn allDigits valueOn
   read-more b bs cs e k =
       let n : i + length (b ∷ wordAt cs) + 1 ≡ i + 1 + length (wordAt cs) + 1 = omega arith in

@@ -25,11 +25,13 @@ module _ (chunk : List ℕ) (t : LineSoFar) (i : ℕ) where
 
     module _ (n : getD chunk i 0 ≡ 10 → ⊥) where
       pub feed-room : t .len < 60
-          → feedOf i t (drop i chunk) ≡ feedOf (i + 1) (record { bytes = set (t .bytes) (t .len) (getD chunk i 0); len = t .len + 1 }) (drop (i + 1) chunk)
+          → feedOf i t (drop i chunk) ≡ feedOf (i + 1)
+          (record { bytes = set (t .bytes) (t .len) (getD chunk i 0); len = t .len + 1 }) (drop (i + 1) chunk)
       unfolding feedOf pushed
       feed-room k = rw (drop-cons chunk i 0 h, ne-eqb _ _ n, lt-ltb _ _ k, add-one i)
 
-      pub feed-full : 60 ≤ t .len → feedOf i t (drop i chunk) ≡ feedOf (i + 1) (record { bytes = t .bytes; len = 61 }) (drop (i + 1) chunk)
+      pub feed-full : 60 ≤ t .len → feedOf i t (drop i chunk) ≡ feedOf (i + 1) (record { bytes = t .bytes; len = 61 })
+          (drop (i + 1) chunk)
       unfolding feedOf pushed
       feed-full k = rw (drop-cons chunk i 0 h, ne-eqb _ _ n, le-ltb _ _ k, add-one i)
 

@@ -26,13 +26,15 @@ words-cut [] = refl
 words-cut (b ∷ bs) = go (words-cut bs) (eqb b 32)
   where
     go : wordsOf bs ≡ wordAt bs ∷ wordsFrom (length (wordAt bs) + 1) bs → (t : Bool)
-        → cond t ([] ∷ wordsOf bs) (onto b (wordsOf bs)) ≡ cond t [] (b ∷ wordAt bs) ∷ wordsFrom (length (cond t [] (b ∷ wordAt bs)) + 1) (b ∷ bs)
+        → cond t ([] ∷ wordsOf bs) (onto b (wordsOf bs)) ≡ cond t [] (b ∷ wordAt bs) ∷ wordsFrom
+        (length (cond t [] (b ∷ wordAt bs)) + 1) (b ∷ bs)
     go ih true = refl
     go ih false =
         let e : length (b ∷ wordAt bs) + 1 ≡ suc (length (wordAt bs) + 1) = omega arith in
         rw (ih, e)
 
-pub words-step : (at : ℕ) (s : List ℕ) → at ≤ length s → wordsFrom at s ≡ wordAt (drop at s) ∷ wordsFrom (at + length (wordAt (drop at s)) + 1) s
+pub words-step : (at : ℕ) (s : List ℕ) → at ≤ length s → wordsFrom at s ≡ wordAt (drop at s) ∷ wordsFrom
+    (at + length (wordAt (drop at s)) + 1) s
 unfolding wordsFrom
 words-step zero s h = words-cut s ∙ rw zero-add
 words-step (suc at) [] h = absurd (omega arith)
@@ -84,7 +86,8 @@ module _ (s : List ℕ) (at k : ℕ) (vs : List ℕ) where
   left-of : k < 4 → 4 - k ≡ suc (4 - (k + 1))
   left-of h = omega arith
 
-  pub numbers-value : {v n : ℕ} → k < 4 → numberAt s at ≡ Value v n → numbersThen (4 - k) k vs (wordsFrom at s) ≡ numbersThen (4 - (k + 1)) (k + 1) (set vs k v) (wordsFrom n s)
+  pub numbers-value : {v n : ℕ} → k < 4 → numberAt s at ≡ Value v n → numbersThen (4 - k) k vs (wordsFrom at s)
+      ≡ numbersThen (4 - (k + 1)) (k + 1) (set vs k v) (wordsFrom n s)
   unfolding numbersThen
   numbers-value h e = rw (left-of h) (then-value s at _ e)
 
@@ -137,7 +140,8 @@ parse-glued [] h e n = absurd (omega arith)
 parse-glued (a ∷ []) h e n = absurd (omega arith)
 parse-glued (a ∷ b ∷ s) h e n = parse-not-s (a ∷ b ∷ s) (rw (e, ne-eqb _ _ n) (s-not-long 83 b (wordAt s)))
 
-pub parse-begun : (s : List ℕ) → length s ≤ 60 → 1 < length s → getD s 0 0 ≡ 83 → getD s 1 0 ≡ 32 → parseOf s ≡ fourNumbers (wordsFrom 2 s)
+pub parse-begun : (s : List ℕ) → length s ≤ 60 → 1 < length s → getD s 0 0 ≡ 83 → getD s 1 0 ≡ 32 → parseOf s
+    ≡ fourNumbers (wordsFrom 2 s)
 unfolding sThen cutAt onto isS wordsFrom
 parse-begun [] m h e f = absurd (omega arith)
 parse-begun (a ∷ []) m h e f = absurd (omega arith)

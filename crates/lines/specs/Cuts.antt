@@ -18,6 +18,7 @@ cutAt m end (b ∷ bs) = cond (eqb b m) ([] ∷ cutAt m end bs) (onto b (cutAt m
 abbrev pub wordsOf : List ℕ → List (List ℕ)
 wordsOf line = cutAt 32 ([] ∷ []) line
 
--- The lines of an input, without their newlines: a last one without a newline counts, and after a last newline there is none.
+-- The lines of an input, without their newlines: a last one without a newline counts, and after a last newline there
+-- is none.
 abbrev pub linesOf : List ℕ → List (List ℕ)
 linesOf input = cutAt 10 [] input

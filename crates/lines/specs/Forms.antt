@@ -1,4 +1,5 @@
--- What a line says: `S domain start length right`, single spaces, decimal digits, numbers at most 4294967295, at most 60 bytes.
+-- What a line says: `S domain start length right`, single spaces, decimal digits, numbers at most 4294967295, at most
+-- 60 bytes.
 use Prim.Native.Nat.{ℕ, _+_, _*_, _-_, _<_, _≤_}
 use mathlib.Core.Bool.{Bool, true, false, cond, _&&_}
 use mathlib.Core.Path.{_≡_}
@@ -76,7 +77,8 @@ isRequest ws = eqb (length ws) 5 && (isS (getD ws 0 []) && allNumbers (drop 1 ws
 
 -- What five such words ask for.
 unfoldable pub requestOf : List (List ℕ) → Parsed
-requestOf ws = Request (valueOf (getD ws 1 [])) (valueOf (getD ws 2 [])) (valueOf (getD ws 3 [])) (valueOf (getD ws 4 []))
+requestOf ws = Request (valueOf (getD ws 1 [])) (valueOf (getD ws 2 [])) (valueOf (getD ws 3 []))
+    (valueOf (getD ws 4 []))
 
 -- What a line says, given its bytes without the newline.
 unfoldable pub parseOf : List ℕ → Parsed

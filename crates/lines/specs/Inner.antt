@@ -19,7 +19,8 @@ wordAt (b ∷ bs) = cond (eqb b 32) [] (b ∷ wordAt bs)
 -- A word at a place that is a number: its value, and the place after the space or the end that follows it.
 unfoldable pub numberAt : List ℕ → ℕ → Word
 numberAt line at =
-    cond (isNumber (wordAt (drop at line))) (Value (valueOf (wordAt (drop at line))) (at + length (wordAt (drop at line)) + 1)) NoNumber
+    cond (isNumber (wordAt (drop at line))) (Value (valueOf (wordAt (drop at line)))
+    (at + length (wordAt (drop at line)) + 1)) NoNumber
 
 -- The words from a place on; past the end there are none.
 unfoldable pub wordsFrom : ℕ → List ℕ → List (List ℕ)

@@ -1,7 +1,7 @@
 // The input of the listing program: what one line says, and lines out of the chunks in which standard input comes.
 //
-// Bytes go through `feed` once, into a line of at most 60, and a whole line is read by `parse`. Both take any bytes, and a
-// line so far is any value of its type, so that a caller has nothing to show.
+// Bytes go through `feed` once, into a line of at most 60, and a whole line is read by `parse`. Both take any bytes,
+// and a line so far is any value of its type, so that a caller has nothing to show.
 ghost use mathlib.Core.Path.{_≡_};
 ghost use lib.ListN.{drop};
 ghost use Rattle.lines.specs.Forms.{isDigit, parseOf};
@@ -63,8 +63,8 @@ fn wide(b: u8) -> u64
     b as u64
 }
 
-// The number at `at`, up to a space or the line's end. It is bounded at each digit, so that leading zeros cost nothing and
-// no sum wraps.
+// The number at `at`, up to a space or the line's end. It is bounded at each digit, so that leading zeros cost
+// nothing and no sum wraps.
 fn number(line: &[u8], at: usize) -> Word
     ensures { λ r. ⌜ r ≡ numberAt (now (line .entry)) at ⌝ }
 {

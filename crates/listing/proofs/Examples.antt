@@ -1,4 +1,5 @@
--- The paper's listing: the runs that its three changes leave, over the first 1,050 words of the memory, past which all is none.
+-- The paper's listing: the runs that its three changes leave, over the first 1,050 words of the memory, past which
+-- all is none.
 use Prim.Native.Nat.{ℕ}
 use mathlib.Core.Path.{_≡_, refl}
 use mathlib.Core.Bool.{cond, _&&_}

@@ -1,4 +1,5 @@
--- Laws of tables and entries by memory words: which entry and which right a word goes by, and what a walker meets in a sound pool.
+-- Laws of tables and entries by memory words: which entry and which right a word goes by, and what a walker meets in
+-- a sound pool.
 use Prim.Native.Nat.{ℕ, zero, suc, _+_, _*_, _-_, _/_, _%_, _<_, _≤_}
 use native.Mathlib.Omega.{arith}
 use mathlib.Core.Path.{_≡_, refl, sym, ap, _∙_}
@@ -21,7 +22,8 @@ use Rattle.census.proofs.ReadableLaws.{Walkable, sound-readable, reached-not-ba
 use Rattle.listing.specs.declared.Level.{Level}
 use Rattle.listing.specs.Runs.{memoryWords}
 use Rattle.listing.specs.Sheets.{Sheet, feed, fed}
-use Rattle.listing.specs.Levels.{blockWords, tableWords, levelOf, sameOf, entrySays, entryRight, tableRight, EntryAt, TableAt}
+use Rattle.listing.specs.Levels.{blockWords, tableWords, levelOf, sameOf, entrySays, entryRight, tableRight}
+use Rattle.listing.specs.Levels.{EntryAt, TableAt}
 use Rattle.listing.proofs.SheetLaws.{fed-alike, fed-same, Along, along-next, room}
 
 -- The numbers of a height.
@@ -32,7 +34,8 @@ level-leaf h e = rw e
 pub level-middle : (h : ℕ) → h ≡ 1 → levelOf h ≡ record { entries = 1024; parts = 8; step = 128; block = 1024 }
 level-middle h e = rw e
 
-pub level-root : (h : ℕ) → h ≢ 0 → h ≢ 1 → levelOf h ≡ record { entries = 1024; parts = 8; step = 131072; block = 1048576 }
+pub level-root : (h : ℕ) → h ≢ 0 → h ≢ 1 → levelOf h
+    ≡ record { entries = 1024; parts = 8; step = 131072; block = 1048576 }
 level-root zero a b = absurd (a refl)
 level-root (suc zero) a b = absurd (b refl)
 level-root (suc (suc h)) a b = refl
@@ -93,7 +96,8 @@ part-at zero a i j e b lo hi = omega arith
 part-at (suc zero) a i j e b lo hi = omega arith
 part-at (suc (suc h)) a i j e b lo hi = omega arith
 
-index-at : (h a i j : ℕ) → a % tableWords h ≡ 0 → i < size h → a + i * blockWords h ≤ j → j < a + i * blockWords h + blockWords h
+index-at : (h a i j : ℕ) → a % tableWords h ≡ 0 → i < size h → a + i * blockWords h ≤ j
+    → j < a + i * blockWords h + blockWords h
     → index h (4 * j) ≡ i
 index-at zero a i j e b lo hi = omega arith
 index-at (suc zero) a i j e b lo hi = omega arith
@@ -101,14 +105,18 @@ index-at (suc (suc h)) a i j e b lo hi = omega arith
 
 -- An entry that says one right for its whole block.
 same-said : (h w j : ℕ) → w ≡ sameOf h (rightAt w 0) → entrySays h w j ≡ rightAt w 0
-same-said zero w j e = ap (λ v. rightAt v (4 * j / 4 % 16)) e ∙ sixteen-right (rightAt w 0) (4 * j / 4 % 16) (right-small w 0) (omega arith)
+same-said zero w j e = ap (λ v. rightAt v (4 * j / 4 % 16)) e ∙ sixteen-right (rightAt w 0) (4 * j / 4 % 16)
+    (right-small w 0) (omega arith)
 same-said (suc h) w j e =
     let f = simp (ne-eqb (suc h) 0 (λ z. omega arith)) at e in
-    ap (λ v. rightAt v (4 * j / part (suc h) % 8)) f ∙ eight-right (rightAt w 0) (4 * j / part (suc h) % 8) (right-small w 0) (omega arith)
+    ap (λ v. rightAt v (4 * j / part (suc h) % 8)) f ∙ eight-right (rightAt w 0) (4 * j / part (suc h) % 8)
+    (right-small w 0) (omega arith)
 
 -- .. is fed at once.
-pub same-fed : (h w a : ℕ) (s : Sheet) → w ≡ sameOf h (rightAt w 0) → fed (blockWords h) (entrySays h w) a s ≡ feed (rightAt w 0) a s
-same-fed h w a s e = fed-same (blockWords h) (rightAt w 0) (entrySays h w) a s (block-some h) (λ j lo hi. same-said h w j e)
+pub same-fed : (h w a : ℕ) (s : Sheet) → w ≡ sameOf h (rightAt w 0) → fed (blockWords h) (entrySays h w) a s
+    ≡ feed (rightAt w 0) a s
+same-fed h w a s e = fed-same (blockWords h) (rightAt w 0) (entrySays h w) a s (block-some h)
+    (λ j lo hi. same-said h w j e)
 
 -- One part of an entry further.
 pub part-next : (h w a : ℕ) (v : Level) (s₀ : Sheet) (i : ℕ) (s t : Sheet) → v ≡ levelOf h → a % blockWords h ≡ 0
@@ -119,11 +127,13 @@ part-next h w a v s₀ i s t e al l b k =
     let eu = level-step h v e in
     along-next (entrySays h w) (λ j. rightAt w i) (v .parts) (v .step) a s₀ i s t l b
     (λ j lo hi. ap (rightAt w) (sym (part-at h a i j al (rw en at b) (rw eu at lo) (rw eu at hi))))
-    (k ∙ sym (fed-same (v .step) (rightAt w i) (λ j. rightAt w i) (a + i * v .step) s (rw eu (first-word h)) (λ j lo hi. refl)))
+    (k ∙ sym (fed-same (v .step) (rightAt w i) (λ j. rightAt w i) (a + i * v .step) s (rw eu (first-word h))
+    (λ j lo hi. refl)))
 
 -- An entry that leads is for the words of the table below.
 sub-blocks : (h a i : ℕ) → 0 < h → h ≤ 2 → a % blockWords h ≡ 0 → a + blockWords h ≤ memoryWords → i < size (h - 1)
-    → ((a + i * blockWords (h - 1)) % blockWords (h - 1) ≡ 0) × (a + i * blockWords (h - 1) + blockWords (h - 1) ≤ memoryWords)
+    → ((a + i * blockWords (h - 1)) % blockWords (h - 1) ≡ 0)
+    × (a + i * blockWords (h - 1) + blockWords (h - 1) ≤ memoryWords)
 sub-blocks zero a i lo hi e b c = absurd (omega arith)
 sub-blocks (suc zero) a i lo hi e b c = (omega arith, omega arith)
 sub-blocks (suc (suc zero)) a i lo hi e b c = (omega arith, omega arith)
@@ -154,7 +164,8 @@ module _ (p : List ℕ) (s : Shape) where
   entry-not-bad (suc h) k a x e = reached-not-bad p s (readable x) (x .reached) (omega arith) e
 
   -- its rights are those that it says,
-  entry-said : (h k a w : ℕ) → EntryAt p s h k a → decodeOf s h (words p k) ≡ Rights w → (j : ℕ) → entryRight s p h k j ≡ entrySays h w j
+  entry-said : (h k a w : ℕ) → EntryAt p s h k a → decodeOf s h (words p k) ≡ Rights w → (j : ℕ)
+      → entryRight s p h k j ≡ entrySays h w j
   unfolding right
   entry-said zero k a w x e j = ap (λ v. entrySays zero v j) (same-rights e)
   entry-said (suc h) k a w x e j = reached-rights-right p s (readable x) (x .reached) (omega arith) (4 * j) e
@@ -183,15 +194,18 @@ module _ (p : List ℕ) (s : Shape) where
   -- So the words of an entry are fed by its rights, or by the table that it leads to.
   pub rights-fed : (h k a w : ℕ) (u : Sheet) → EntryAt p s h k a → decodeOf s h (words p k) ≡ Rights w
       → fed (blockWords h) (entrySays h w) a u ≡ fed (blockWords h) (entryRight s p h k) a u
-  rights-fed h k a w u x e = fed-alike (blockWords h) (entrySays h w) (entryRight s p h k) a u (λ j lo hi. sym (entry-said h k a w x e j))
+  rights-fed h k a w u x e = fed-alike (blockWords h) (entrySays h w) (entryRight s p h k) a u
+      (λ j lo hi. sym (entry-said h k a w x e j))
 
   pub leads-fed : (h k a n : ℕ) (t : PoolWord) (u : Sheet) → EntryAt p s h k a → decodeOf s h (words p k) ≡ Leads t n
       → fed (tableWords (h - 1)) (tableRight s p (h - 1) (t .0)) a u ≡ fed (blockWords h) (entryRight s p h k) a u
   leads-fed h k a n t u x e =
       ap (λ m. fed m (tableRight s p (h - 1) (t .0)) a u) (table-block h (entry-up h k a n t x e) (entry-low x))
-      ∙ fed-alike (blockWords h) (tableRight s p (h - 1) (t .0)) (entryRight s p h k) a u (λ j lo hi. sym (entry-leads h k a n t x e j))
+      ∙ fed-alike (blockWords h) (tableRight s p (h - 1) (t .0)) (entryRight s p h k) a u
+      (λ j lo hi. sym (entry-leads h k a n t x e j))
 
-  pub leaf-fed : (h k a n : ℕ) (t : PoolWord) (u : Sheet) → EntryAt p s h k a → decodeOf s h (words p k) ≡ Leads t n → h ≡ 1
+  pub leaf-fed : (h k a n : ℕ) (t : PoolWord) (u : Sheet) → EntryAt p s h k a → decodeOf s h (words p k) ≡ Leads t n
+      → h ≡ 1
       → fed (tableWords 0) (tableRight s p 0 (t .0)) a u ≡ fed (blockWords h) (entryRight s p h k) a u
   leaf-fed h k a n t u x e o =
       let z : 0 ≡ h - 1 = omega arith in
@@ -212,14 +226,23 @@ module _ (p : List ℕ) (s : Shape) where
         let en = level-entries h v e in
         let eu = level-block h v e in
         along-next (tableRight s p h b) (entryRight s p h (b + i)) (v .entries) (v .block) a s₀ i u t l c
-        (λ j lo hi. ap (λ m. entryRight s p h (b + m) j) (sym (index-at h a i j (x .aligned) (rw en at c) (rw eu at lo) (rw eu at hi))))
+        (λ j lo hi. ap (λ m. entryRight s p h (b + m) j)
+        (sym (index-at h a i j (x .aligned) (rw en at c) (rw eu at lo) (rw eu at hi))))
         (k ∙ ap (λ m. fed m (entryRight s p h (b + i)) (a + i * v .block) u) (sym eu))
 
   -- The root of a domain is a table for the whole memory.
-  pub root-table : (d : ℕ) → Fits s (length p) → SoundPool (formOf s) (words p) → d < s .domains → TableAt p s 2 (1024 * d) 0
+  pub root-table : (d : ℕ) → Fits s (length p) → SoundPool (formOf s) (words p) → d < s .domains
+      → TableAt p s 2 (1024 * d) 0
   root-table d f o b =
       let r = sound-readable p s f o in
       record {
-        entries = λ i c. record { fits = f; sound = o; reached = r .root d i b c; aligned = omega arith; inside = omega arith };
+        entries = λ i c. record {
+          fits = f;
+          sound = o;
+          reached = r .root d i b c;
+          aligned = omega arith;
+          inside =
+              omega arith;
+        };
         aligned = refl;
       }

@@ -1,4 +1,5 @@
--- Laws: of lists of runs, of the fold over words, of the lent words, and of tables by memory words; and what the listing may answer.
+-- Laws: of lists of runs, of the fold over words, of the lent words, and of tables by memory words; and what the
+-- listing may answer.
 pub mod RunLaws
 pub mod LongestLaws
 pub mod ScanLaws

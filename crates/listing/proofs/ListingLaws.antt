@@ -18,7 +18,8 @@ use Rattle.listing.specs.declared.Listed.{Listed}
 use Rattle.listing.specs.declared.Listed.the-variants.{Runs}
 use Rattle.listing.specs.Runs.{memoryWords, shown}
 use Rattle.listing.specs.Scan.{Scan, openRun, ended, next, scan, runsOf, listingOf}
-use Rattle.listing.specs.Sheets.{putRun, written, Sheet, sheet, counted, closed, opened, feed, fed, OpenAt, opening, Count, countOf}
+use Rattle.listing.specs.Sheets.{putRun, written, Sheet, sheet, counted, closed, opened, feed, fed, OpenAt}
+use Rattle.listing.specs.Sheets.{opening, Count, countOf}
 use Rattle.listing.specs.Listing.{wordRight, Lists, no-shape, unsound, listed}
 use Rattle.listing.proofs.RunLaws.{one-all-runs}
 use Rattle.listing.proofs.ScanLaws.{listing-all}
@@ -42,20 +43,28 @@ module _ (d from : ℕ) (rs : List Run) (l : List ℕ) where
       sheet (record { domain = d; right = s .right; first = s .first; count = length (rs ++ s .done); from = from })
       (written from 0 (rs ++ s .done) l)
 
-  more : (done : List Run) (r : Run) → written from 0 (rs ++ (done ++ r ∷ [])) l ≡ putRun from (length (rs ++ done)) r (written from 0 (rs ++ done) l)
-  more done r = rw (← append-assoc rs done (r ∷ [])) (written-more from 0 (rs ++ done) r l ∙ rw (zero-add (length (rs ++ done))))
+  more : (done : List Run) (r : Run) → written from 0 (rs ++ (done ++ r ∷ [])) l ≡ putRun from (length (rs ++ done)) r
+      (written from 0 (rs ++ done) l)
+  more done r = rw (← append-assoc rs done (r ∷ []))
+      (written-more from 0 (rs ++ done) r l ∙ rw (zero-add (length (rs ++ done))))
 
   long : (done : List Run) (r : Run) → length (rs ++ (done ++ r ∷ [])) ≡ length (rs ++ done) + 1
   long done r = rw (← append-assoc rs done (r ∷ []), length-append) refl
 
-  closed-ended : (at : ℕ) (s : Scan) → closed at (sheetAt s) ≡ sheetAt (record { right = s .right; first = s .first; done = ended d at s })
+  closed-ended : (at : ℕ) (s : Scan) → closed at (sheetAt s)
+      ≡ sheetAt (record { right = s .right; first = s .first; done = ended d at s })
   unfolding sheetAt closed ended
   closed-ended at s = go (eqb (s .right) 0)
     where
       go : (t : Bool)
           → cond t (sheetAt s) (sheet (counted (sheetAt s .run) (length (rs ++ s .done) + 1))
           (putRun from (length (rs ++ s .done)) (openRun d at s) (written from 0 (rs ++ s .done) l)))
-          ≡ sheetAt (record { right = s .right; first = s .first; done = cond t (s .done) (s .done ++ openRun d at s ∷ []) })
+          ≡ sheetAt (record {
+            right = s .right;
+            first = s .first;
+            done = cond t (s .done)
+                (s .done ++ openRun d at s ∷ []);
+          })
       go true = refl
       go false = rw (long (s .done) (openRun d at s), more (s .done) (openRun d at s))
 
@@ -64,7 +73,8 @@ module _ (d from : ℕ) (rs : List Run) (l : List ℕ) where
   feed-next q at s = go (eqb q (s .right))
     where
       go : (t : Bool)
-          → cond t (sheetAt s) (opened q at (closed at (sheetAt s))) ≡ sheetAt (cond t s (record { right = q; first = at; done = ended d at s }))
+          → cond t (sheetAt s) (opened q at (closed at (sheetAt s)))
+          ≡ sheetAt (cond t s (record { right = q; first = at; done = ended d at s }))
       go true = refl
       go false = ap (opened q at) (closed-ended at s)
 
@@ -87,7 +97,8 @@ module _ (d from : ℕ) (rs : List Run) (l : List ℕ) where
 pub open-begin : (d n from : ℕ) → d < 4 → n ≤ (memoryWords + 1) * d → OpenAt (opening d n from) 0
 open-begin d n from b h = record { domain = b; some = λ z. absurd (z refl); few = omega arith }
 
-pub open-end : (o : Open) (f : ℕ → ℕ) (s : Sheet) → OpenAt (s .run) 0 → o ≡ fed memoryWords f 0 s .run → OpenAt o memoryWords
+pub open-end : (o : Open) (f : ℕ → ℕ) (s : Sheet) → OpenAt (s .run) 0 → o ≡ fed memoryWords f 0 s .run
+    → OpenAt o memoryWords
 open-end o f s h e = rw e (open-fed memoryWords f 0 s h)
 
 -- There are no more runs than words.
@@ -134,7 +145,8 @@ module _ (D : ℕ) (R : ℕ → ℕ → ℕ) (from : ℕ) (l : List ℕ) where
   upto-few k n out u = omega (arith, u .count, listing-few k R)
 
   pub upto-next : (k n m : ℕ) (out end : List ℕ) → Upto D R from l k n out → k < D
-      → _≡_ {A = Count} (record { count = m; out = end }) (countOf (closed memoryWords (fed memoryWords (R k) 0 (sheet (opening k n from) out))))
+      → _≡_ {A = Count} (record { count = m; out = end })
+      (countOf (closed memoryWords (fed memoryWords (R k) 0 (sheet (opening k n from) out))))
       → Upto D R from l (k + 1) m end
   unfolding listingOf
   upto-next k n m out end u h e =
@@ -152,7 +164,8 @@ module _ (p : List ℕ) (s : Shape) (from : ℕ) (old : List ℕ) where
       → new ≡ written from 0 (listingOf (s .domains) memoryWords (wordRight s p)) old → Lists p s from old (Runs n) new
   lists-found n new fits sound en ew =
       rw (en, ew, written-shown from (listingOf (s .domains) memoryWords (wordRight s p)) old)
-      (listed fits sound (listingOf (s .domains) memoryWords (wordRight s p)) (listing-all (s .domains) memoryWords (wordRight s p)))
+      (listed fits sound (listingOf (s .domains) memoryWords (wordRight s p))
+      (listing-all (s .domains) memoryWords (wordRight s p)))
 
   -- There is one answer, and one content of the lent words.
   pub one-listing : {q r : Listed} {x y : List ℕ} → Lists p s from old q x → Lists p s from old r y → (q ≡ r) × (x ≡ y)

@@ -1,4 +1,5 @@
--- All the runs, in the paper's words: each is a longest run, and a word is of a run exactly where its right is not none.
+-- All the runs, in the paper's words: each is a longest run, and a word is of a run exactly where its right is not
+-- none.
 use Prim.Native.Nat.{ℕ, _+_, _<_}
 use native.Mathlib.Omega.{arith}
 use mathlib.Core.Path.{_≡_, refl, sym, ap, _∙_}
@@ -26,7 +27,8 @@ module _ (D n : ℕ) (R : ℕ → ℕ → ℕ) where
     has : Has d w other
     apart : (other ≡ r) ⊎ (RunBefore r other ⊎ RunBefore other r)
 
-  beside : (rs : List Run) → Each (IsRun D n R) rs → Rising rs → Each (λ r. (d w : ℕ) → Some (Has d w) rs → Beside r d w) rs
+  beside : (rs : List Run) → Each (IsRun D n R) rs → Rising rs
+      → Each (λ r. (d w : ℕ) → Some (Has d w) rs → Beside r d w) rs
   unfolding Each Rising Some
   beside [] e o = tt
   beside (x ∷ rs) e o = (
@@ -36,9 +38,11 @@ module _ (D n : ℕ) (R : ℕ → ℕ → ℕ) where
         let (u, i, b, h) = pick-some (IsRun D n R) (RunBefore x) (Has d w) rs (e .1) (o .0) q in
         record { other = u; is = i; has = h; apart = inr (inl b) })
         s,
-    each-map (λ r. RunBefore x r × ((d w : ℕ) → Some (Has d w) rs → Beside r d w)) (λ r. (d w : ℕ) → Some (Has d w) (x ∷ rs) → Beside r d w) rs
+    each-map (λ r. RunBefore x r × ((d w : ℕ) → Some (Has d w) rs → Beside r d w))
+        (λ r. (d w : ℕ) → Some (Has d w) (x ∷ rs) → Beside r d w) rs
         (λ r (b, f) d w s. ⊎-elim (λ h. record { other = x; is = e .0; has = h; apart = inr (inr b) }) (λ q. f d w q) s)
-        (each-both (RunBefore x) (λ r. (d w : ℕ) → Some (Has d w) rs → Beside r d w) rs (o .0) (beside rs (e .1) (o .1))),
+        (each-both (RunBefore x) (λ r. (d w : ℕ) → Some (Has d w) rs → Beside r d w) rs (o .0)
+        (beside rs (e .1) (o .1))),
   )
 
   module _ (r : Run) (x : IsRun D n R r) where
@@ -75,10 +79,13 @@ module _ (D n : ℕ) (R : ℕ → ℕ → ℕ) where
       (λ r (x, f). record {
         before = λ w h e.
             not-before r x w h
-            (f (r .domain) w (g .whole (r .domain) w (x .domain) (omega (arith, x .some, x .inside)) (λ z. x .real (sym e ∙ z)))) e;
-        after = λ h e. not-after r x (f (r .domain) (r .past) (g .whole (r .domain) (r .past) (x .domain) h (λ z. x .real (sym e ∙ z)))) e;
+            (f (r .domain) w (g .whole (r .domain) w (x .domain) (omega (arith, x .some, x .inside))
+            (λ z. x .real (sym e ∙ z)))) e;
+        after = λ h e. not-after r x (f (r .domain) (r .past)
+            (g .whole (r .domain) (r .past) (x .domain) h (λ z. x .real (sym e ∙ z)))) e;
       })
-      (each-both (IsRun D n R) (λ r. (d w : ℕ) → Some (Has d w) rs → Beside r d w) rs (g .each) (beside rs (g .each) (g .order)))
+      (each-both (IsRun D n R) (λ r. (d w : ℕ) → Some (Has d w) rs → Beside r d w) rs (g .each)
+      (beside rs (g .each) (g .order)))
 
   -- A word of a run has the run's right, which is not none; `whole` says that no other word is left.
   pub listed-right : (d w : ℕ) (rs : List Run) → AllRuns D n R rs → Some (Has d w) rs → R d w ≢ 0

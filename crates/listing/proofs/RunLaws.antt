@@ -44,7 +44,8 @@ pub some-one : (P : Run → Type 0) (r : Run) → P r → Some P (r ∷ [])
 unfolding Some
 some-one P r p = inl p
 
-pub rising-append : (rs ts : List Run) → Rising rs → Rising ts → Each (λ r. Each (RunBefore r) ts) rs → Rising (rs ++ ts)
+pub rising-append : (rs ts : List Run) → Rising rs → Rising ts → Each (λ r. Each (RunBefore r) ts) rs
+    → Rising (rs ++ ts)
 unfolding Rising Each
 rising-append [] ts p q e = q
 rising-append (x ∷ rs) ts p q e = (each-append (RunBefore x) rs ts (p .0) (e .0), rising-append rs ts (p .1) q (e .1))
@@ -85,7 +86,8 @@ after-join x y =
     x
 
 same-run : {d e a b c f q r : ℕ} → d ≡ e → a ≡ b → c ≡ f → q ≡ r
-    → _≡_ {A = Run} (record { domain = d; first = a; past = c; right = q }) (record { domain = e; first = b; past = f; right = r })
+    → _≡_ {A = Run} (record { domain = d; first = a; past = c; right = q })
+    (record { domain = e; first = b; past = f; right = r })
 same-run x y z w = cc
 
 module _ (D n : ℕ) (R : ℕ → ℕ → ℕ) where
@@ -97,7 +99,8 @@ module _ (D n : ℕ) (R : ℕ → ℕ → ℕ) where
     whole : (d w : ℕ) → After a b d w → d < D → w < n → R d w ≢ 0 → Some (Has d w) rs
 
   -- A word of one of the runs does not come before the first run's first word.
-  head-first : (d w : ℕ) (r : Run) (rs : List Run) → Each (IsRun D n R) (r ∷ rs) → Rising (r ∷ rs) → Some (Has d w) (r ∷ rs)
+  head-first : (d w : ℕ) (r : Run) (rs : List Run) → Each (IsRun D n R) (r ∷ rs) → Rising (r ∷ rs)
+      → Some (Has d w) (r ∷ rs)
       → After (r .domain) (r .first) d w
   unfolding Each Rising Some
   head-first d w r rs e o s =
@@ -105,7 +108,8 @@ module _ (D n : ℕ) (R : ℕ → ℕ → ℕ) where
       (λ h. inr (h .domain, h .from))
       (λ q.
       let (u, x, y, h) = pick-some (IsRun D n R) (RunBefore r) (Has d w) rs (e .1) (o .0) q in
-      ⊎-elim (λ l. inl (omega (arith, h .domain))) (λ (l, m, _). inr (l ∙ h .domain, omega (arith, e .0 .some, h .from))) y)
+      ⊎-elim (λ l. inl (omega (arith, h .domain)))
+      (λ (l, m, _). inr (l ∙ h .domain, omega (arith, e .0 .some, h .from))) y)
       s
 
   -- The first word of a run has its right, which is not none.
@@ -117,26 +121,31 @@ module _ (D n : ℕ) (R : ℕ → ℕ → ℕ) where
 
   module _ (a b : ℕ) (r : Run) (rs : List Run) (g : From a b (r ∷ rs)) where
     -- The first run of one list does not come after that of another.
-    before-other : (t : Run) → IsRun D n R t → After a b (t .domain) (t .first) → After (r .domain) (r .first) (t .domain) (t .first)
+    before-other : (t : Run) → IsRun D n R t → After a b (t .domain) (t .first) → After (r .domain) (r .first)
+        (t .domain) (t .first)
     before-other t x y =
         head-first (t .domain) (t .first) r rs (g .each) (g .order)
         (g .whole (t .domain) (t .first) y (x .domain) (omega (arith, x .some, x .inside)) (first-real t x))
 
     -- .. and where both begin at one word with one right, it does not end before the other.
-    ends-other : (t : Run) → IsRun D n R t → r .domain ≡ t .domain → r .first ≡ t .first → r .right ≡ t .right → t .past ≤ r .past
+    ends-other : (t : Run) → IsRun D n R t → r .domain ≡ t .domain → r .first ≡ t .first → r .right ≡ t .right
+        → t .past ≤ r .past
     unfolding Each Rising Some
     ends-other t x ed ef er = ⊎-elim (λ h. absurd (touch h)) (λ h. h) (lt-or-ge (r .past) (t .past))
       where
         touch : r .past < t .past → ⊥
         touch h =
             let y = g .each .0 in
-            let e : R (r .domain) (r .past) ≡ r .right = ap (λ d. R d (r .past)) ed ∙ x .one (r .past) (omega (arith, y .some)) h ∙ sym er in
-            let s = g .whole (r .domain) (r .past) (after-more (g .after .0) (r .past) (omega (arith, y .some))) (y .domain)
+            let e : R (r .domain) (r .past) ≡ r .right = ap (λ d. R d (r .past)) ed
+            ∙ x .one (r .past) (omega (arith, y .some)) h ∙ sym er in
+            let s = g .whole (r .domain) (r .past) (after-more (g .after .0) (r .past) (omega (arith, y .some)))
+            (y .domain)
             (omega (arith, x .inside)) (λ z. y .real (sym e ∙ z)) in
             ⊎-elim
             (λ k. omega (arith, k .upto))
             (λ q.
-            let (u, i, j, k) = pick-some (IsRun D n R) (RunBefore r) (Has (r .domain) (r .past)) rs (g .each .1) (g .order .0) q in
+            let (u, i, j, k) = pick-some (IsRun D n R) (RunBefore r) (Has (r .domain) (r .past)) rs (g .each .1)
+            (g .order .0) q in
             ⊎-elim
             (λ l. omega (arith, k .domain))
             (λ (l, m, o). o (omega (arith, k .from))
@@ -164,15 +173,19 @@ module _ (D n : ℕ) (R : ℕ → ℕ → ℕ) where
   one-from a b [] [] g h = refl
   one-from a b (r ∷ rs) [] g h =
       let x = g .each .0 in
-      absurd (h .whole (r .domain) (r .first) (g .after .0) (x .domain) (omega (arith, x .some, x .inside)) (first-real r x))
+      absurd (h .whole (r .domain) (r .first) (g .after .0) (x .domain) (omega (arith, x .some, x .inside))
+      (first-real r x))
   one-from a b [] (t ∷ ts) g h =
       let x = h .each .0 in
-      absurd (g .whole (t .domain) (t .first) (h .after .0) (x .domain) (omega (arith, x .some, x .inside)) (first-real t x))
+      absurd (g .whole (t .domain) (t .first) (h .after .0) (x .domain) (omega (arith, x .some, x .inside))
+      (first-real t x))
   one-from a b (r ∷ rs) (t ∷ ts) g h =
       let x = g .each .0 in
       let y = h .each .0 in
-      let (ed, ef) = after-both (before-other a b r rs g t y (h .after .0)) (before-other a b t ts h r x (g .after .0)) in
-      let er : r .right ≡ t .right = sym (first-right r x) ∙ ap (λ d. R d (r .first)) ed ∙ ap (R (t .domain)) ef ∙ first-right t y in
+      let (ed, ef) = after-both (before-other a b r rs g t y (h .after .0))
+      (before-other a b t ts h r x (g .after .0)) in
+      let er : r .right ≡ t .right = sym (first-right r x) ∙ ap (λ d. R d (r .first)) ed ∙ ap (R (t .domain)) ef
+      ∙ first-right t y in
       let l = ends-other a b r rs g t y ed ef er in
       let m = ends-other a b t ts h r x (sym ed) (sym ef) (sym er) in
       let ep : r .past ≡ t .past = omega arith in
@@ -184,7 +197,8 @@ module _ (D n : ℕ) (R : ℕ → ℕ → ℕ) where
   all-from rs g = record {
     each = g .each;
     order = g .order;
-    after = each-map (IsRun D n R) (λ r. After 0 0 (r .domain) (r .first)) rs (λ r x. after-zero (r .domain) (r .first)) (g .each);
+    after = each-map (IsRun D n R) (λ r. After 0 0 (r .domain) (r .first)) rs
+        (λ r x. after-zero (r .domain) (r .first)) (g .each);
     whole = λ d w y. g .whole d w;
   }
 

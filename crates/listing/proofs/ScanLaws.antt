@@ -10,7 +10,8 @@ use borrow.Author.Tests.{eqb-true, eqb-false}
 use Rattle.listing.specs.declared.Run.{Run}
 use Rattle.listing.specs.Runs.{Each, Some, Has, IsRun, RunBefore, Rising, AllRuns}
 use Rattle.listing.specs.Scan.{Scan, openRun, ended, next, scan, runsOf, listingOf}
-use Rattle.listing.proofs.RunLaws.{lt-or-ge, each-map, each-append, each-one, some-left, some-right, some-one, rising-append, rising-one}
+use Rattle.listing.proofs.RunLaws.{lt-or-ge, each-map, each-append, each-one, some-left, some-right, some-one}
+use Rattle.listing.proofs.RunLaws.{rising-append, rising-one}
 
 -- All runs of the domains from `lo` on and below `D`.
 record Among (lo D n : ℕ) (R : ℕ → ℕ → ℕ) (rs : List Run) : Type 0 where
@@ -20,14 +21,17 @@ record Among (lo D n : ℕ) (R : ℕ → ℕ → ℕ) (rs : List Run) : Type 0 w
   whole : (d w : ℕ) → lo ≤ d → d < D → w < n → R d w ≢ 0 → Some (Has d w) rs
 
 -- The runs of some domains and then those of the next.
-among-append : (lo mid hi n : ℕ) (R : ℕ → ℕ → ℕ) (rs ts : List Run) → mid ≤ hi → lo ≤ mid → Among lo mid n R rs → Among mid hi n R ts
+among-append : (lo mid hi n : ℕ) (R : ℕ → ℕ → ℕ) (rs ts : List Run) → mid ≤ hi → lo ≤ mid → Among lo mid n R rs
+    → Among mid hi n R ts
     → Among lo hi n R (rs ++ ts)
 among-append lo mid hi n R rs ts b c g h = record {
-  low = each-append (λ r. lo ≤ r .domain) rs ts (g .low) (each-map (λ r. mid ≤ r .domain) (λ r. lo ≤ r .domain) ts (λ r x. omega arith) (h .low));
+  low = each-append (λ r. lo ≤ r .domain) rs ts (g .low)
+      (each-map (λ r. mid ≤ r .domain) (λ r. lo ≤ r .domain) ts (λ r x. omega arith) (h .low));
   each = each-append (IsRun hi n R) rs ts (each-map (IsRun mid n R) (IsRun hi n R) rs wider (g .each)) (h .each);
   order = rising-append rs ts (g .order) (h .order)
       (each-map (IsRun mid n R) (λ r. Each (RunBefore r) ts) rs
-      (λ r x. each-map (λ t. mid ≤ t .domain) (RunBefore r) ts (λ t y. inl (omega (arith, x .domain))) (h .low)) (g .each));
+      (λ r x. each-map (λ t. mid ≤ t .domain) (RunBefore r) ts (λ t y. inl (omega (arith, x .domain))) (h .low))
+      (g .each));
   whole = λ d w l u m z. ⊎-elim
       (λ q. some-left (Has d w) rs ts (g .whole d w l q m z))
       (λ q. some-right (Has d w) rs ts (h .whole d w q u m z))
@@ -35,7 +39,14 @@ among-append lo mid hi n R rs ts b c g h = record {
 }
   where
     wider : (r : Run) → IsRun mid n R r → IsRun hi n R r
-    wider r x = record { domain = omega (arith, x .domain); some = x .some; inside = x .inside; real = x .real; one = x .one }
+    wider r x = record {
+      domain = omega (arith, x .domain);
+      some = x .some;
+      inside = x .inside;
+      real = x .real;
+      one =
+          x .one;
+    }
 
 -- One domain.
 module _ (d : ℕ) (R : ℕ → ℕ → ℕ) where
@@ -47,7 +58,14 @@ module _ (d : ℕ) (R : ℕ → ℕ → ℕ) where
   wider : (m n : ℕ) → m ≤ n → (r : Run) → Shut m r → Shut n r
   wider m n h r x = record {
     domain = x .domain;
-    is = record { domain = x .is .domain; some = x .is .some; inside = omega (arith, x .is .inside); real = x .is .real; one = x .is .one };
+    is = record {
+      domain = x .is .domain;
+      some = x .is .some;
+      inside = omega (arith, x .is .inside);
+      real =
+          x .is .real;
+      one = x .is .one;
+    };
   }
 
   -- The scan after `n` words.
@@ -88,10 +106,12 @@ module _ (d : ℕ) (R : ℕ → ℕ → ℕ) where
         go true h = record {
           each = earlier;
           order = g .order;
-          whole = λ j k m. ⊎-elim (λ q. g .whole j q m) (λ q. absurd (m (g .one j q k ∙ eqb-true _ _ h))) (lt-or-ge j (s .first));
+          whole = λ j k m. ⊎-elim (λ q. g .whole j q m) (λ q. absurd (m (g .one j q k ∙ eqb-true _ _ h)))
+              (lt-or-ge j (s .first));
         }
         go false h = record {
-          each = each-append (Shut n) (s .done) (openRun d n s ∷ []) earlier (each-one (Shut n) (openRun d n s) (open-shut (eqb-false _ _ h)));
+          each = each-append (Shut n) (s .done) (openRun d n s ∷ []) earlier
+              (each-one (Shut n) (openRun d n s) (open-shut (eqb-false _ _ h)));
           order = rising-append (s .done) (openRun d n s ∷ []) (g .order) (rising-one (openRun d n s))
               (each-map (λ r. RunBefore r (openRun d n s)) (λ r. Each (RunBefore r) (openRun d n s ∷ [])) (s .done)
               (λ r x. each-one (RunBefore r) (openRun d n s) x) (g .before));
@@ -103,7 +123,8 @@ module _ (d : ℕ) (R : ℕ → ℕ → ℕ) where
         }
 
     -- What is closed comes before a run that opens at word `n` with another right.
-    ended-before : (t : Run) → t .domain ≡ d → t .first ≡ n → s .right ≢ t .right → Each (λ r. RunBefore r t) (ended d n s)
+    ended-before : (t : Run) → t .domain ≡ d → t .first ≡ n → s .right ≢ t .right → Each (λ r. RunBefore r t)
+        (ended d n s)
     unfolding ended
     ended-before t ed ef er = go (eqb (s .right) 0)
       where
@@ -112,7 +133,13 @@ module _ (d : ℕ) (R : ℕ → ℕ → ℕ) where
             inr (
               x .domain ∙ sym ed,
               omega (arith, x .is .inside, g .low),
-              λ e. absurd (omega (arith, x .is .some, x .is .inside, g .some (omega (arith, x .is .some, x .is .inside, g .low)))),
+              λ e. absurd (omega (
+                arith,
+                x .is .some,
+                x .is .inside,
+                g .some
+                    (omega (arith, x .is .some, x .is .inside, g .low)),
+              )),
             )
 
         done : Each (λ r. RunBefore r t) (s .done)
@@ -132,7 +159,8 @@ module _ (d : ℕ) (R : ℕ → ℕ → ℕ) where
         at : (j : ℕ) → n ≤ j → j < n + 1 → R d j ≡ R d n
         at j h k = let e : j ≡ n = omega arith in ap (R d) e
 
-        go : (t : Bool) → eqb (R d n) (s .right) ≡ t → Good (n + 1) (cond t s (record { right = R d n; first = n; done = ended d n s }))
+        go : (t : Bool) → eqb (R d n) (s .right) ≡ t
+            → Good (n + 1) (cond t s (record { right = R d n; first = n; done = ended d n s }))
         go true h = record {
           low = omega (arith, g .low);
           some = λ k. omega (arith, g .low);
@@ -152,7 +180,8 @@ module _ (d : ℕ) (R : ℕ → ℕ → ℕ) where
               one = at;
               each = e .each;
               order = e .order;
-              before = ended-before (record { domain = d; first = n; past = n + 1; right = R d n }) refl refl (λ z. eqb-false _ _ h (sym z));
+              before = ended-before (record { domain = d; first = n; past = n + 1; right = R d n }) refl refl
+                  (λ z. eqb-false _ _ h (sym z));
               whole = e .whole;
             }
 
@@ -188,7 +217,8 @@ listing-among : (D n : ℕ) (R : ℕ → ℕ → ℕ) → Among 0 D n R (listing
 unfolding listingOf Each Rising
 listing-among zero n R = record { low = tt; each = tt; order = tt; whole = λ d w l u. absurd (omega arith) }
 listing-among (suc D) n R =
-    among-append 0 D (suc D) n R (listingOf D n R) (runsOf D n (R D)) (omega arith) (omega arith) (listing-among D n R) (domain-among D R n)
+    among-append 0 D (suc D) n R (listingOf D n R) (runsOf D n (R D)) (omega arith) (omega arith)
+    (listing-among D n R) (domain-among D R n)
 
 -- What the fold finds is all the runs.
 pub listing-all : (D n : ℕ) (R : ℕ → ℕ → ℕ) → AllRuns D n R (listingOf D n R)

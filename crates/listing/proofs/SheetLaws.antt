@@ -29,14 +29,16 @@ fed-append m zero f a s = rw add-zero
 fed-append m (suc n) f a s = rw (add-suc, ← fed-append m n f a s, add-assoc)
 
 -- Equal rights are fed alike.
-pub fed-alike : (n : ℕ) (f g : ℕ → ℕ) (a : ℕ) (s : Sheet) → ((j : ℕ) → a ≤ j → j < a + n → f j ≡ g j) → fed n f a s ≡ fed n g a s
+pub fed-alike : (n : ℕ) (f g : ℕ → ℕ) (a : ℕ) (s : Sheet) → ((j : ℕ) → a ≤ j → j < a + n → f j ≡ g j) → fed n f a s
+    ≡ fed n g a s
 unfolding fed
 fed-alike zero f g a s h = refl
 fed-alike (suc n) f g a s h =
     rw (h (a + n) (omega arith) (omega arith), fed-alike n f g a s (λ j lo hi. h j lo (omega arith)))
 
 -- Words of one right are fed as one.
-pub fed-same : (n q : ℕ) (f : ℕ → ℕ) (a : ℕ) (s : Sheet) → 0 < n → ((j : ℕ) → a ≤ j → j < a + n → f j ≡ q) → fed n f a s ≡ feed q a s
+pub fed-same : (n q : ℕ) (f : ℕ → ℕ) (a : ℕ) (s : Sheet) → 0 < n → ((j : ℕ) → a ≤ j → j < a + n → f j ≡ q)
+    → fed n f a s ≡ feed q a s
 unfolding fed
 fed-same zero q f a s h e = absurd (omega arith)
 fed-same (suc n) q f a s h e = fed-alike (suc n) f (λ j. q) a s e ∙ same n
@@ -53,7 +55,8 @@ open-feed q a s f = go (eqb q (s .run .right)) (eqb (s .run .right) 0)
   where
     go : (t z : Bool)
         → OpenAt (cond t s (opened q a (cond z s
-        (sheet (counted (s .run) (s .run .count + 1)) (putRun (s .run .from) (s .run .count) (runTo a (s .run)) (s .out))))) .run) (a + 1)
+        (sheet (counted (s .run) (s .run .count + 1))
+        (putRun (s .run .from) (s .run .count) (runTo a (s .run)) (s .out))))) .run) (a + 1)
     go true z = record { domain = f .domain; some = λ h. omega (arith, f .some h); few = omega (arith, f .few) }
     go false true = record { domain = f .domain; some = λ h. omega arith; few = omega (arith, f .few) }
     go false false = record { domain = f .domain; some = λ h. omega arith; few = omega (arith, f .few) }
@@ -95,5 +98,6 @@ along-next f g n u a s₀ i s t l h e k =
       sum = k ∙ fed-alike u g f (a + i * u) s e ∙ rw (l .sum, m) (sym (fed-append (i * u) u f a s₀));
     }
 
-pub along-end : (f : ℕ → ℕ) (n u a : ℕ) (s₀ : Sheet) (i : ℕ) (s : Sheet) → Along f n u a s₀ i s → n ≤ i → s ≡ fed (n * u) f a s₀
+pub along-end : (f : ℕ → ℕ) (n u a : ℕ) (s₀ : Sheet) (i : ℕ) (s : Sheet) → Along f n u a s₀ i s → n ≤ i → s
+    ≡ fed (n * u) f a s₀
 along-end f n u a s₀ i s l h = let e : i ≡ n = omega (arith, l .high) in l .sum ∙ rw e refl

@@ -26,7 +26,8 @@ put-late from k r l h =
     let g : from ≤ from + k = omega arith in
     simp (le-ltb _ _ g, e, le-ltb _ _ h)
 
-put-in : (from k : ℕ) (r : Run) (l : List ℕ) → k < length l / 4 → putRun from (from + k) r l ≡ take (4 * k) l ++ fourOf r ++ drop (4 * k + 4) l
+put-in : (from k : ℕ) (r : Run) (l : List ℕ) → k < length l / 4 → putRun from (from + k) r l
+    ≡ take (4 * k) l ++ fourOf r ++ drop (4 * k + 4) l
 unfolding putRun
 put-in from k r l h =
     let e : from + k - from ≡ k = omega arith in
@@ -43,7 +44,8 @@ none-late from k (r ∷ rs) l h =
     let e : from + k + 1 ≡ from + (k + 1) = omega arith in
     rw (put-late from k r l h, e) (none-late from (k + 1) rs l (omega arith))
 
-none-early : (from n : ℕ) (rs : List Run) (l : List ℕ) → n ≤ from → written from n rs l ≡ written from from (drop (from - n) rs) l
+none-early : (from n : ℕ) (rs : List Run) (l : List ℕ) → n ≤ from → written from n rs l
+    ≡ written from from (drop (from - n) rs) l
 unfolding written
 none-early from n [] l h = rw (drop-nil (from - n))
 none-early from n (r ∷ rs) l h =
@@ -69,15 +71,23 @@ module _ (p l : List ℕ) (n : ℕ) (e : length p ≡ n) where
   long = length-append p (drop n l) ∙ rw e
 
 join : (a : List ℕ) (r : Run) (t l : List ℕ) (k : ℕ) → length (a ++ fourOf r) ≡ 4 * k + 4
-    → take (4 * (k + 1)) (a ++ fourOf r ++ drop (4 * k + 4) l) ++ t ++ drop (4 * (k + 1) + length t) (a ++ fourOf r ++ drop (4 * k + 4) l)
+    → take (4 * (k + 1)) (a ++ fourOf r ++ drop (4 * k + 4) l) ++ t ++ drop (4 * (k + 1) + length t)
+    (a ++ fourOf r ++ drop (4 * k + 4) l)
     ≡ a ++ (fourOf r ++ t) ++ drop (4 * k + length (fourOf r ++ t)) l
 join a r t l k e =
     let four : 4 * (k + 1) ≡ 4 * k + 4 = omega arith in
     let num : 4 * k + length (fourOf r ++ t) ≡ 4 * k + 4 + length t = simp length-append (omega arith) in
-    rw (four, front (a ++ fourOf r) l (4 * k + 4) e, back (a ++ fourOf r) l (4 * k + 4) e (length t), num, append-assoc a (fourOf r) t)
+    rw (
+      four,
+      front (a ++ fourOf r) l (4 * k + 4) e,
+      back (a ++ fourOf r) l (4 * k + 4) e (length t),
+      num,
+      append-assoc a (fourOf r) t,
+    )
 
 some-in : (from m k : ℕ) (rs : List Run) (l : List ℕ) → length l / 4 ≡ m → k ≤ m
-    → written from (from + k) rs l ≡ take (4 * k) l ++ flat (take (m - k) rs) ++ drop (4 * k + length (flat (take (m - k) rs))) l
+    → written from (from + k) rs l ≡ take (4 * k) l ++ flat (take (m - k) rs) ++ drop
+    (4 * k + length (flat (take (m - k) rs))) l
 unfolding written flat
 some-in from m k [] l e h = rw (take-nil (m - k)) (simp (append-nil, add-zero) (sym (take-append-drop (4 * k) l)))
 some-in from m k (r ∷ rs) l e h =
@@ -88,8 +98,10 @@ some-in from m k (r ∷ rs) l e h =
     let more : m - k ≡ suc (m - (k + 1)) = omega arith in
     let one : from + k + 1 ≡ from + (k + 1) = omega arith in
     let p = take (4 * k) l ++ fourOf r in
-    let len : length p ≡ 4 * k + 4 = length-append (take (4 * k) l) (fourOf r) ∙ rw (length-take-le (4 * k) l (omega arith)) in
-    let size : length (p ++ drop (4 * k + 4) l) ≡ length l = long p l (4 * k + 4) len ∙ rw (length-drop) (omega arith) in
+    let len : length p ≡ 4 * k + 4 = length-append (take (4 * k) l) (fourOf r)
+    ∙ rw (length-take-le (4 * k) l (omega arith)) in
+    let size : length (p ++ drop (4 * k + 4) l) ≡ length l = long p l (4 * k + 4) len
+    ∙ rw (length-drop) (omega arith) in
     let next = some-in from m (k + 1) rs (p ++ drop (4 * k + 4) l) (rw size e) (omega arith) in
     rw (put-in from k r l j, one, more) (next ∙ join (take (4 * k) l) r t l k len))
     (λ (q : m ≤ k).
@@ -102,5 +114,6 @@ some-in from m k (r ∷ rs) l e h =
 pub written-shown : (from : ℕ) (rs : List Run) (l : List ℕ) → written from 0 rs l ≡ shown from rs l
 written-shown from rs l =
     let a = simp sub-zero at (none-early from 0 rs l (omega arith)) in
-    let b = simp (add-zero, zero-add, sub-zero) at (some-in from (length l / 4) 0 (drop from rs) l refl (omega arith)) in
+    let b = simp (add-zero, zero-add, sub-zero)
+    at (some-in from (length l / 4) 0 (drop from rs) l refl (omega arith)) in
     a ∙ b

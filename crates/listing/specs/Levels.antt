@@ -1,4 +1,5 @@
--- Tables and entries by memory words: for which words they stand, and which rights they give them. Heights count from below: 0 a leaf, 2 a root.
+-- Tables and entries by memory words: for which words they stand, and which rights they give them. Heights count from
+-- below: 0 a leaf, 2 a root.
 use Prim.Native.Nat.{ℕ, _+_, _*_, _/_, _%_, _<_, _≤_}
 use mathlib.Core.Path.{_≡_}
 use mathlib.Core.Bool.{cond}

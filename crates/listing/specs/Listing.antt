@@ -25,9 +25,11 @@ numbers (Refused n) = record { refusal = n; count = 0 }
 abbrev pub wordRight : Shape → List ℕ → ℕ → ℕ → ℕ
 wordRight s p d w = rightOf (formOf s) (words p) d (4 * w)
 
--- The listing of the pool `p`, from run number `from` on, into the lent words `old`: its answer, and what the lent words are afterwards.
+-- The listing of the pool `p`, from run number `from` on, into the lent words `old`: its answer, and what the lent
+-- words are afterwards.
 pub data Lists (p : List ℕ) (s : Shape) (from : ℕ) (old : List ℕ) : Listed → List ℕ → Type 0 where
   no-shape : (Fits s (length p) → ⊥) → Lists p s from old (Refused 1) old
   unsound : Fits s (length p) → (SoundPool (formOf s) (words p) → ⊥) → Lists p s from old (Refused 6) old
-  listed : Fits s (length p) → SoundPool (formOf s) (words p) → (rs : List Run) → AllRuns (s .domains) memoryWords (wordRight s p) rs
+  listed : Fits s (length p) → SoundPool (formOf s) (words p) → (rs : List Run) → AllRuns (s .domains) memoryWords
+      (wordRight s p) rs
       → Lists p s from old (Runs (length rs)) (shown from rs old)

@@ -26,7 +26,8 @@ pub record Has (d w : ℕ) (r : Run) : Type 0 where
   pub from : r .first ≤ w
   pub upto : w < r .past
 
--- Among `D` domains of `n` memory words, of which word `w` of domain `d` has the right `R d w`, `r` is a run of one right other than none.
+-- Among `D` domains of `n` memory words, of which word `w` of domain `d` has the right `R d w`, `r` is a run of one
+-- right other than none.
 pub record IsRun (D n : ℕ) (R : ℕ → ℕ → ℕ) (r : Run) : Type 0 where
   pub domain : r .domain < D
   pub some : r .first < r .past
@@ -34,9 +35,11 @@ pub record IsRun (D n : ℕ) (R : ℕ → ℕ → ℕ) (r : Run) : Type 0 where
   pub real : r .right ≢ 0
   pub one : (w : ℕ) → r .first ≤ w → w < r .past → R (r .domain) w ≡ r .right
 
--- Run `r` comes before run `t`, by domain and then address; where they touch, they have two rights, so that neither could be longer.
+-- Run `r` comes before run `t`, by domain and then address; where they touch, they have two rights, so that neither
+-- could be longer.
 abbrev pub RunBefore : Run → Run → Type 0
-RunBefore r t = (r .domain < t .domain) ⊎ ((r .domain ≡ t .domain) × (r .past ≤ t .first) × (r .past ≡ t .first → r .right ≢ t .right))
+RunBefore r t = (r .domain < t .domain) ⊎
+    ((r .domain ≡ t .domain) × (r .past ≤ t .first) × (r .past ≡ t .first → r .right ≢ t .right))
 
 -- Each run comes before all that follow it.
 unfoldable pub Rising : List Run → Type 0

@@ -45,7 +45,8 @@ closed at s =
 -- A run of the right `q` opens at word `at`.
 abbrev pub opened : ℕ → ℕ → Sheet → Sheet
 opened q at s =
-    sheet (record { domain = s .run .domain; right = q; first = at; count = s .run .count; from = s .run .from }) (s .out)
+    sheet (record { domain = s .run .domain; right = q; first = at; count = s .run .count; from = s .run .from })
+    (s .out)
 
 -- From word `at` on the right is `q`.
 unfoldable pub feed : ℕ → ℕ → Sheet → Sheet

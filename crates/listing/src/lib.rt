@@ -1,5 +1,6 @@
-// The listing of rights: by domain and then address, each longest run of one right other than none, written into words that the caller lends.
-// It goes down one level at a time, with the open run passed and returned; at a boundary it is told which right holds from there on.
+// The listing of rights: by domain and then address, each longest run of one right other than none, written into
+// words that the caller lends. It goes down one level at a time, with the open run passed and returned; at a boundary
+// it is told which right holds from there on.
 ghost use mathlib.Core.Path.{_≡_};
 ghost use Prim.Native.Nat.{_+_, _*_, _%_, _<_, _≤_};
 ghost use lib.ListN.{length};
@@ -8,8 +9,10 @@ ghost use Rattle.table.specs.Shape.{Fits};
 ghost use Rattle.table.specs.Map.{formOf};
 ghost use Rattle.listing.specs.Runs.{memoryWords};
 ghost use Rattle.listing.specs.Scan.{listingOf};
-ghost use Rattle.listing.specs.Sheets.{putRun, sheet, counted, closed, feed, fed, OpenAt, written, opening, countOf};
-ghost use Rattle.listing.specs.Levels.{levelOf, blockWords, tableWords, sameOf, entrySays, entryRight, tableRight, EntryAt, TableAt};
+ghost use Rattle.listing.specs.Sheets.{putRun, sheet, counted, closed, feed, fed, OpenAt, written, opening};
+ghost use Rattle.listing.specs.Sheets.{countOf};
+ghost use Rattle.listing.specs.Levels.{levelOf, blockWords, tableWords, sameOf, entrySays, entryRight};
+ghost use Rattle.listing.specs.Levels.{tableRight, EntryAt, TableAt};
 ghost use Rattle.listing.specs.Listing.{wordRight, Lists};
 use table::Entry;
 use table::Shape;
@@ -88,7 +91,8 @@ fn same_entry(height: u32, right: u32) -> u32
     words::eight_of(right)
 }
 
-// Run number `n`, at its place in the lent words, where it has one. The last byte is reckoned so that no sum reaches 2^32.
+// Run number `n`, at its place in the lent words, where it has one. The last byte is reckoned so that no sum reaches
+// 2^32.
 fn put_run(run: Run, n: usize, from: usize, runs: &mut [u32])
     requires { ⌜ (run .first < run .past) × (run .past ≤ memoryWords) ⌝ }
     ensures { λ r. ⌜ now (runs .exit) ≡ putRun from n run (now (runs .entry)) ⌝ }
@@ -149,11 +153,13 @@ fn feed_right(right: u32, at: u32, run: Open, runs: &mut [u32]) -> Open
     }
 }
 
-// The rights of the entry `w`, whose block begins at word `at`. Most entries say one right for the whole block, and are told at once.
+// The rights of the entry `w`, whose block begins at word `at`. Most entries say one right for the whole block, and
+// are told at once.
 fn feed_rights(height: u32, w: u32, at: u32, run: Open, runs: &mut [u32]) -> Open
     requires { ⌜ (at % blockWords height ≡ 0) × (at + blockWords height ≤ memoryWords) ⌝ }
     requires { ⌜ OpenAt run at ⌝ }
-    ensures { λ r. ⌜ sheet r (now (runs .exit)) ≡ fed (blockWords height) (entrySays height w) at (sheet run (now (runs .entry))) ⌝ }
+    ensures { λ r. ⌜ sheet r (now (runs .exit)) ≡ fed (blockWords height) (entrySays height w)
+        at (sheet run (now (runs .entry))) ⌝ }
 {
     let first = words::right_at(w, 0);
     let same = same_entry(height, first);
@@ -174,7 +180,8 @@ fn feed_rights(height: u32, w: u32, at: u32, run: Open, runs: &mut [u32]) -> Ope
     s
 }
 
-// The leaf that begins at pool word `base`, for the memory from word `at` on. Most runs are in leaves; here the numbers of the height are known.
+// The leaf that begins at pool word `base`, for the memory from word `at` on. Most runs are in leaves; here the
+// numbers of the height are known.
 fn feed_leaf(
     pool: &[u32],
     shape: Shape,
@@ -213,7 +220,8 @@ fn feed_table(
     requires { ⌜ TableAt (now pool) shape height (base .0) at ⌝ }
     requires { ⌜ OpenAt run at ⌝ }
     ensures { λ r. ⌜ sheet r (now (runs .exit))
-        ≡ fed (tableWords height) (tableRight shape (now (pool .entry)) height (base .0)) at (sheet run (now (runs .entry))) ⌝ }
+        ≡ fed (tableWords height) (tableRight shape (now (pool .entry)) height (base .0))
+        at (sheet run (now (runs .entry))) ⌝ }
 {
     let level = level_of(height);
     let entries = level.entries;
@@ -242,7 +250,8 @@ fn feed_entry(
     requires { ⌜ EntryAt (now pool) shape height (entry .0) at ⌝ }
     requires { ⌜ OpenAt run at ⌝ }
     ensures { λ r. ⌜ sheet r (now (runs .exit))
-        ≡ fed (blockWords height) (entryRight shape (now (pool .entry)) height (entry .0)) at (sheet run (now (runs .entry))) ⌝ }
+        ≡ fed (blockWords height) (entryRight shape (now (pool .entry)) height (entry .0))
+        at (sheet run (now (runs .entry))) ⌝ }
 {
     let k = words::pool_index(entry);
     let w = pool[k];
@@ -296,7 +305,8 @@ fn list_domains(pool: &[u32], shape: Shape, from: usize, runs: &mut [u32]) -> us
     requires { ⌜ SoundPool (formOf shape) (words (now pool)) ⌝ }
     ensures count { λ r. ⌜ r ≡ length (listingOf (shape .domains) memoryWords (wordRight shape (now (pool .entry)))) ⌝ }
     ensures out { λ r. ⌜ now (runs .exit)
-        ≡ written from 0 (listingOf (shape .domains) memoryWords (wordRight shape (now (pool .entry)))) (now (runs .entry)) ⌝ }
+        ≡ written from 0 (listingOf (shape .domains) memoryWords (wordRight shape (now (pool .entry))))
+        (now (runs .entry)) ⌝ }
 {
     let domains = shape.domains;
     let mut n = 0;

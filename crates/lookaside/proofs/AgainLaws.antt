@@ -26,13 +26,15 @@ use Rattle.lookaside.proofs.CheckLaws.{Allowed, allowed, check-answered
 use Rattle.lookaside.proofs.VerdictLaws.{lookup-cases}
 
 -- A good entry that does not lead is good rights for its level.
-good-entry : (s : Shape) (h w : ℕ) → h ≤ 2 → formOf s .good h w ≡ true → formOf s .leads h w ≡ false → goodEntry (3 - h) w ≡ true
+good-entry : (s : Shape) (h w : ℕ) → h ≤ 2 → formOf s .good h w ≡ true → formOf s .leads h w ≡ false
+    → goodEntry (3 - h) w ≡ true
 good-entry s zero w l g n = refl
 good-entry s (suc zero) w l g n = rw n at g
 good-entry s (suc (suc zero)) w l g n = rw n at g
 good-entry s (suc (suc (suc h))) w l g n = absurd (omega arith)
 
-filling-matches : (p : List ℕ) (s : Shape) (d a r w n : ℕ) → lookupOf p s d a ≡ Right r w n → matches (slotFor d a w n) d a ≡ true
+filling-matches : (p : List ℕ) (s : Shape) (d a r w n : ℕ) → lookupOf p s d a ≡ Right r w n
+    → matches (slotFor d a w n) d a ≡ true
 filling-matches p s d a r w n e =
     let (h, k, z, _, q, o) = right-found p s d a r w n e in
     let hi = decides-low (formOf s) (words p) a (λ v. refl) 2 (entry (formOf s) d a) z in
@@ -42,25 +44,29 @@ filling-matches p s d a r w n e =
     ap (λ m. goodEntry m w) o ∙ ap (λ v. goodEntry (3 - h) v) q ∙ good-entry s h (words p k) hi (y .good) (y .rights) in
     rw (match-test (slotFor d a w n) d a refl (range-level n lo up), eq-eqb _ _ refl, g)
 
-first-set : (l : List Slot) (i d a : ℕ) (s : Slot) → i < length l → matches s d a ≡ true → (t : Slot) × (firstMatch (set l i s) d a ≡ At t)
+first-set : (l : List Slot) (i d a : ℕ) (s : Slot) → i < length l → matches s d a ≡ true → (t : Slot)
+    × (firstMatch (set l i s) d a ≡ At t)
 unfolding firstMatch
 first-set [] i d a s h m = absurd (not-suc-le-zero h)
 first-set (x ∷ xs) zero d a s h m = (s, rw m)
 first-set (x ∷ xs) (suc i) d a s h m = go (matches x d a) (first-set xs i d a s (le-of-suc-le-suc h) m)
   where
-    go : (b : Bool) → (t : Slot) × (firstMatch (set xs i s) d a ≡ At t) → (t : Slot) × (cond b (At x) (firstMatch (set xs i s) d a) ≡ At t)
+    go : (b : Bool) → (t : Slot) × (firstMatch (set xs i s) d a ≡ At t) → (t : Slot)
+        × (cond b (At x) (firstMatch (set xs i s) d a) ≡ At t)
     go true t = (x, refl)
     go false t = t
 
 pub check-again : (p : List ℕ) (s : Shape) (b : Buffer) (d kind size a : ℕ) → b .next < length (b .slots)
     → refusalOf s (length p) (b .next) d kind size a ≡ 0 → (lookupOf p s d a ≡ NotFound 6 → ⊥)
     → (t : Slot) × (firstMatch (checkOf p s b d kind size a .buffer .slots) d a ≡ At t)
-check-again p s b d kind size a l e sound = rw (check-answered p s b d kind size a e) (go (firstMatch (b .slots) d a) refl)
+check-again p s b d kind size a l e sound = rw (check-answered p s b d kind size a e)
+    (go (firstMatch (b .slots) d a) refl)
   where
     ok : Allowed s (length p) (b .next) d kind size a
     ok = allowed s (length p) (b .next) d kind size a e
 
-    go : (h : Hit) → firstMatch (b .slots) d a ≡ h → (t : Slot) × (firstMatch (answered h p s b d kind a .buffer .slots) d a ≡ At t)
+    go : (h : Hit) → firstMatch (b .slots) d a ≡ h → (t : Slot)
+        × (firstMatch (answered h p s b d kind a .buffer .slots) d a ≡ At t)
     go (At t) h = (t, h)
     go Miss h = ⊎-elim (λ k. absurd (sound k))
         (λ k. let (r, w, n, q) = k in

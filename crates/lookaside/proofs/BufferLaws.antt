@@ -15,11 +15,13 @@ use Rattle.lookaside.specs.Slots.{matches, firstMatch, emptySlot, emptyB
 
 -- The search in what is left of the list: at a slot that matches, at one that does not, and past the end.
 module _ (l : List Slot) (d a i : ℕ) where
-  pub first-here : i < length l → matches (getD l i emptySlot) d a ≡ true → firstMatch (drop i l) d a ≡ At (getD l i emptySlot)
+  pub first-here : i < length l → matches (getD l i emptySlot) d a ≡ true → firstMatch (drop i l) d a
+      ≡ At (getD l i emptySlot)
   unfolding firstMatch
   first-here h m = rw (drop-cons l i emptySlot h, m)
 
-  pub first-later : i < length l → matches (getD l i emptySlot) d a ≡ false → firstMatch (drop i l) d a ≡ firstMatch (drop (i + 1) l) d a
+  pub first-later : i < length l → matches (getD l i emptySlot) d a ≡ false → firstMatch (drop i l) d a
+      ≡ firstMatch (drop (i + 1) l) d a
   unfolding firstMatch
   first-later h m = rw (drop-cons l i emptySlot h, m, add-one)
 
@@ -33,7 +35,8 @@ unfolding firstMatch
 first-matches [] d a s e = let z : _≡_ {A = ℕ} 0 1 = cc in absurd (omega arith)
 first-matches (x ∷ xs) d a s e = go (matches x d a) refl (first-matches xs d a s) e
   where
-    go : (t : Bool) → matches x d a ≡ t → (firstMatch xs d a ≡ At s → matches s d a ≡ true) → cond t (At x) (firstMatch xs d a) ≡ At s
+    go : (t : Bool) → matches x d a ≡ t → (firstMatch xs d a ≡ At s → matches s d a ≡ true)
+        → cond t (At x) (firstMatch xs d a) ≡ At s
         → matches s d a ≡ true
     go true m later h = let q : x ≡ s = cc in rw (← q) m
     go false m later h = later h
@@ -70,7 +73,8 @@ module _ {A : Type 0} (f : A → A) where
   pub map-to-turn : (i : ℕ) (l g : List A) (d t : A) → g ≡ mapTo i l → t ≡ f (getD g i d) → set g i t ≡ mapTo (i + 1) l
   map-to-turn i l g d t e h = rw (h, e, map-to-at i l d, add-one) (map-to-set i l d)
 
--- What owning a struct tells of a field that is an array of structs: `search (needs, unmapped)` finds that the list has the array's length.
+-- What owning a struct tells of a field that is an array of structs: `search (needs, unmapped)` finds that the list
+-- has the array's length.
 pub unmapped : {X Y : Type 0} (f : X → Y) (l : List X) (n : ℕ) → length (map f l) ≡ n → length l ≡ n
 unmapped f l n p = sym (length-map l f) ∙ p
 

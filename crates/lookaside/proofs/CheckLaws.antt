@@ -24,7 +24,8 @@ use Rattle.lookaside.specs.declared.Verdict.the-variants.{Refused}
 use Rattle.lookaside.specs.declared.Hit.{Hit}
 use Rattle.lookaside.specs.declared.Hit.the-variants.{At, Miss}
 use Rattle.lookaside.specs.Slots.{firstMatch}
-use Rattle.lookaside.specs.Check.{isAccess, demand, refusalOf, refusing, walked, answered, checkOf, walkDecided, hitDecided, decideOf, filledBy}
+use Rattle.lookaside.specs.Check.{isAccess, demand, refusalOf, refusing, walked, answered, checkOf}
+use Rattle.lookaside.specs.Check.{walkDecided, hitDecided, decideOf, filledBy}
 
 -- Accesses.
 
@@ -32,7 +33,12 @@ pub access-fetch : (kind size : ℕ) → kind ≡ 2 → isAccess kind size ≡ e
 access-fetch kind size e = rw e
 
 pub access-other : (kind size : ℕ) → 2 < kind → isAccess kind size ≡ false
-access-other kind size h = simp (ne-eqb kind 0 (λ e. omega arith), ne-eqb kind 1 (λ e. omega arith), ne-eqb kind 2 (λ e. omega arith))
+access-other kind size h = simp (
+  ne-eqb kind 0 (λ e. omega arith),
+  ne-eqb kind 1 (λ e. omega arith),
+  ne-eqb kind 2
+      (λ e. omega arith),
+)
 
 pub access-data : (kind size : ℕ) → kind < 2 → isAccess kind size ≡ (eqb size 1 || eqb size 2 || eqb size 4)
 access-data kind size h = elim (ℕ-discrete kind 0) [
@@ -104,13 +110,15 @@ module _ (s : Shape) (long next d kind size a : ℕ) where
       met false n rest q = absurd (omega arith)
 
 -- Of the buffer it only counts that the pointer is a slot's.
-pub refusal-pointer : (s : Shape) (long d kind size a n m : ℕ) → n < 64 → m < 64 → refusalOf s long n d kind size a ≡ refusalOf s long m d kind size a
+pub refusal-pointer : (s : Shape) (long d kind size a n m : ℕ) → n < 64 → m < 64 → refusalOf s long n d kind size a
+    ≡ refusalOf s long m d kind size a
 unfolding refusalOf
 refusal-pointer s long d kind size a n m h k = rw (lt-ltb n 64 h, lt-ltb m 64 k)
 
 -- What a check answers, where it is refused before it asks the buffer and where it is not.
 module _ (p : List ℕ) (s : Shape) (b : Buffer) (d kind size a : ℕ) where
-  pub check-refused : (n : ℕ) → refusalOf s (length p) (b .next) d kind size a ≡ n → n ≢ 0 → checkOf p s b d kind size a ≡ refusing n b
+  pub check-refused : (n : ℕ) → refusalOf s (length p) (b .next) d kind size a ≡ n → n ≢ 0
+      → checkOf p s b d kind size a ≡ refusing n b
   unfolding checkOf
   check-refused n e h = rw (e, ne-eqb n 0 h)
 
@@ -146,7 +154,8 @@ module _ (p : List ℕ) (s : Shape) (next : ℕ) (h : Hit) (d kind size a : ℕ)
   unfolding decideOf
   decide-refused n e z = rw (e, ne-eqb n 0 z)
 
-  pub decide-answered : refusalOf s (length p) next d kind size a ≡ 0 → decideOf p s next h d kind size a ≡ hitDecided h p s d kind a
+  pub decide-answered : refusalOf s (length p) next d kind size a ≡ 0 → decideOf p s next h d kind size a
+      ≡ hitDecided h p s d kind a
   unfolding decideOf
   decide-answered e = rw e
 
@@ -154,7 +163,8 @@ module _ (p : List ℕ) (s : Shape) (next : ℕ) (h : Hit) (d kind size a : ℕ)
   pub decide-put : (t : Slot) → decideOf p s next h d kind size a .fill ≡ Put t → next < 64
   decide-put t e = elim (ℕ-discrete (refusalOf s (length p) next d kind size a) 0) [
     | yes z ↦ allowed s (length p) next d kind size a z .pointer
-    | no z ↦ absurd (let y = ap (λ x. x .fill) (sym (decide-refused _ refl z)) ∙ e in let w : _≡_ {A = ℕ} 0 1 = cc in omega arith)
+    | no z ↦ absurd (let y = ap (λ x. x .fill) (sym (decide-refused _ refl z)) ∙ e in let w : _≡_ {A = ℕ} 0 1 = cc in
+        omega arith)
   ]
 
 -- A check is what it decides, done to its buffer.
@@ -170,7 +180,8 @@ module _ (p : List ℕ) (s : Shape) (b : Buffer) (d kind size a : ℕ) where
   hits-joined (At t) = refl
   hits-joined Miss = walks-joined (lookupOf p s d a)
 
-  pub check-decided : checkOf p s b d kind size a ≡ joined (decideOf p s (b .next) (firstMatch (b .slots) d a) d kind size a)
+  pub check-decided : checkOf p s b d kind size a
+      ≡ joined (decideOf p s (b .next) (firstMatch (b .slots) d a) d kind size a)
   check-decided = elim (ℕ-discrete (refusalOf s (length p) (b .next) d kind size a) 0) [
     | yes e ↦ check-answered p s b d kind size a e ∙ hits-joined (firstMatch (b .slots) d a)
         ∙ ap joined (sym (decide-answered p s (b .next) (firstMatch (b .slots) d a) d kind size a e))

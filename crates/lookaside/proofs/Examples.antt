@@ -56,13 +56,15 @@ unfolding asked one-root two-slots root-slot leaf-slot checkOf refusalOf firstMa
 miss = refl
 
 -- A deny fills too: slot 0 of an emptied buffer, and the pointer moves on.
-fills : (getD (asked emptyBuffer 0 load 4 0x400004 .buffer .slots) 0 emptySlot ≡ record { domain = 0; level = 1; block = record { 0 = 0x400000 }; entry = 0x80000000 })
+fills : (getD (asked emptyBuffer 0 load 4 0x400004 .buffer .slots) 0 emptySlot
+    ≡ record { domain = 0; level = 1; block = record { 0 = 0x400000 }; entry = 0x80000000 })
     × (asked emptyBuffer 0 load 4 0x400004 .buffer .next ≡ 1)
 unfolding asked one-root emptyBuffer checkOf refusalOf firstMatch matches holdsFor holds inBlock walk
 fills = (refl, refl)
 
 -- Refusals, and their order: no size 3, no fetch of 2 bytes, a size before an address, a pointer before a domain.
-refusals : (asked two-slots 0 load 3 0x400004 .verdict ≡ Refused 9) × (asked two-slots 0 fetch 2 0x400004 .verdict ≡ Refused 9)
+refusals : (asked two-slots 0 load 3 0x400004 .verdict ≡ Refused 9)
+    × (asked two-slots 0 fetch 2 0x400004 .verdict ≡ Refused 9)
     × (asked two-slots 0 3 4 0x400004 .verdict ≡ Refused 9) × (asked two-slots 0 store 2 0x400003 .verdict ≡ Refused 10)
     × (asked two-slots 0 load 3 0x400001 .verdict ≡ Refused 9) × (asked two-slots 1 load 3 0 .verdict ≡ Refused 2)
     × (asked (record { slots = []; next = 64 }) 1 load 4 0 .verdict ≡ Refused 18)
@@ -70,7 +72,8 @@ unfolding asked one-root two-slots root-slot leaf-slot checkOf refusalOf
 refusals = (refl, refl, refl, refl, refl, refl, refl)
 
 -- A region flush in the middle of 4 MB empties the root slot and no other, and leaves the pointer.
-flush-middle : flushedRegion two-slots 0 0x600000 4 ≡ record { refusal = 0; buffer = record { slots = emptySlot ∷ leaf-slot ∷ []; next = 2 } }
+flush-middle : flushedRegion two-slots 0 0x600000 4
+    ≡ record { refusal = 0; buffer = record { slots = emptySlot ∷ leaf-slot ∷ []; next = 2 } }
 unfolding two-slots root-slot leaf-slot pointed regionOf flushedBuffer flushedSlot flushes meets holdsFor holds
 flush-middle = refl
 
@@ -80,7 +83,8 @@ unfolding two-slots root-slot leaf-slot pointed regionOf flushedBuffer flushedSl
 flush-elsewhere = refl
 
 -- Its refusals, in order.
-flush-refusals : (flushedRegion two-slots 0 0xFFFFFFFC 0 ≡ refused 4 two-slots) × (flushedRegion two-slots 0 0xFFFFFFFC 5 ≡ refused 5 two-slots)
+flush-refusals : (flushedRegion two-slots 0 0xFFFFFFFC 0 ≡ refused 4 two-slots)
+    × (flushedRegion two-slots 0 0xFFFFFFFC 5 ≡ refused 5 two-slots)
     × (flushedRegion (record { slots = []; next = 64 }) 0 0xFFFFFFFC 0 ≡ refused 18 (record { slots = []; next = 64 }))
 unfolding two-slots root-slot leaf-slot pointed regionOf
 flush-refusals = (refl, refl, refl)
@@ -97,6 +101,7 @@ pointer-slot-idle = (refl, refl)
 crooked-slot : Slot
 crooked-slot = record { domain = 0; level = 1; block = record { 0 = 64 }; entry = 0x80000000 }
 
-crooked-slot-stays : (matches crooked-slot 0 64 ≡ false) × (flushedSlot (OfDomain 0) crooked-slot ≡ crooked-slot) × (flushedSlot Whole crooked-slot ≡ emptySlot)
+crooked-slot-stays : (matches crooked-slot 0 64 ≡ false) × (flushedSlot (OfDomain 0) crooked-slot ≡ crooked-slot)
+    × (flushedSlot Whole crooked-slot ≡ emptySlot)
 unfolding crooked-slot matches holdsFor holds inBlock flushedSlot flushes
 crooked-slot-stays = (refl, refl, refl)

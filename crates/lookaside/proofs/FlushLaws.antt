@@ -14,7 +14,8 @@ use Rattle.lookaside.specs.declared.Flushed.{Flushed}
 use Rattle.lookaside.specs.declared.Flushing.{Flushing}
 use Rattle.lookaside.specs.declared.Flushing.the-variants.{Whole, OfDomain, OfRegion}
 use Rattle.lookaside.specs.Slots.{heightOf, blockBytes, holdsFor, inBlock, matches}
-use Rattle.lookaside.specs.Flushes.{meets, flushes, done, refused, pointed, flushedWhole, flushedDomain, flushedRegion}
+use Rattle.lookaside.specs.Flushes.{meets, flushes, done, refused, pointed, flushedWhole, flushedDomain}
+use Rattle.lookaside.specs.Flushes.{flushedRegion}
 use Rattle.lookaside.specs.Agree.{clears}
 use Rattle.lookaside.proofs.TestLaws.{both-true}
 use Rattle.lookaside.proofs.SlotLaws.{block-some, match-place}
@@ -31,7 +32,8 @@ module _ (b : Buffer) (r : Flushed) where
 
 -- A region that is covered, and one that is not.
 module _ (b : Buffer) (d start length : ℕ) (h : b .next < 64) where
-  pub region-done : (r : Region) → regionOf start length ≡ Covers r → flushedRegion b d start length ≡ done (OfRegion d r) b
+  pub region-done : (r : Region) → regionOf start length ≡ Covers r → flushedRegion b d start length
+      ≡ done (OfRegion d r) b
   region-done r e = pointed-goes b _ h ∙ rw e
 
   pub region-refused : (n : ℕ) → regionOf start length ≡ Refused n → flushedRegion b d start length ≡ refused n b
@@ -45,7 +47,8 @@ one-flush-all b q r x y = x ∙ sym y
 pub one-flush-domain : (b : Buffer) (d : ℕ) (q r : Flushed) → q ≡ flushedDomain b d → r ≡ flushedDomain b d → q ≡ r
 one-flush-domain b d q r x y = x ∙ sym y
 
-pub one-flush-region : (b : Buffer) (d start length : ℕ) (q r : Flushed) → q ≡ flushedRegion b d start length → r ≡ flushedRegion b d start length → q ≡ r
+pub one-flush-region : (b : Buffer) (d start length : ℕ) (q r : Flushed) → q ≡ flushedRegion b d start length → r
+    ≡ flushedRegion b d start length → q ≡ r
 one-flush-region b d start length q r x y = x ∙ sym y
 
 -- A block meets a region exactly where some covered byte lies in it.
@@ -59,9 +62,14 @@ byte-meets s r a c i =
     let hi' : a / 4 < r .hi = ltb-true _ _ hi in
     let from' : s .block .0 ≤ a = leb-true _ _ from in
     let to' : a < s .block .0 + blockBytes (s .level) = ltb-true _ _ to in
-    rw (lt-ltb (s .block .0) (4 * r .hi) (omega arith), lt-ltb (4 * r .lo) (s .block .0 + blockBytes (s .level)) (omega arith))
+    rw (
+      lt-ltb (s .block .0) (4 * r .hi) (omega arith),
+      lt-ltb (4 * r .lo) (s .block .0 + blockBytes (s .level))
+          (omega arith),
+    )
 
-pub meets-byte : (s : Slot) (r : Region) → r .lo < r .hi → meets s r ≡ true → (a : ℕ) × (covered r a ≡ true) × (inBlock s a ≡ true)
+pub meets-byte : (s : Slot) (r : Region) → r .lo < r .hi → meets s r ≡ true → (a : ℕ) × (covered r a ≡ true)
+    × (inBlock s a ≡ true)
 unfolding inBlock meets
 meets-byte s r some m =
     let (x, y) = both-true _ _ m in
@@ -79,12 +87,17 @@ meets-byte s r some m =
       | no h ↦ (
         4 * r .lo,
         rw (le-leb (r .lo) (4 * r .lo / 4) (omega arith), lt-ltb (4 * r .lo / 4) (r .hi) (omega arith)),
-        rw (le-leb (s .block .0) (4 * r .lo) (omega arith), lt-ltb (4 * r .lo) (s .block .0 + blockBytes (s .level)) above),
+        rw (
+          le-leb (s .block .0) (4 * r .lo) (omega arith),
+          lt-ltb (4 * r .lo) (s .block .0 + blockBytes (s .level))
+              above,
+        ),
       )
     ]
 
 -- A flush empties every slot that matches at a place which it clears.
-pub clears-flushes : (f : Flushing) (s : Slot) (d a : ℕ) → matches s d a ≡ true → clears f d a ≡ true → flushes f s ≡ true
+pub clears-flushes : (f : Flushing) (s : Slot) (d a : ℕ) → matches s d a ≡ true → clears f d a ≡ true → flushes f s
+    ≡ true
 unfolding flushes
 clears-flushes Whole s d a m c = refl
 clears-flushes (OfDomain e) s d a m c = let (h, _) = match-place s d a m in rw (eqb-true d e c) at h

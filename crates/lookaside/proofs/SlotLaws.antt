@@ -28,14 +28,17 @@ range-level n lo hi = rw (le-leb 1 n lo, le-leb n 3 hi)
 pub holds-test : (s : Slot) (d : ℕ) → s .domain ≡ d → isLevel (s .level) ≡ true
     → holdsFor s d ≡ eqb (s .block .0 / blockBytes (s .level) * blockBytes (s .level)) (s .block .0)
 unfolding holdsFor holds
-holds-test s d e l = rw (eq-eqb (s .domain) d e, l) (sym (round-self (blockBytes (s .level)) (block-some (heightOf (s .level))) (s .block .0)))
+holds-test s d e l = rw (eq-eqb (s .domain) d e, l)
+    (sym (round-self (blockBytes (s .level)) (block-some (heightOf (s .level))) (s .block .0)))
 
 pub match-test : (s : Slot) (d a : ℕ) → s .domain ≡ d → isLevel (s .level) ≡ true
-    → matches s d a ≡ (eqb (a / blockBytes (s .level) * blockBytes (s .level)) (s .block .0) && goodEntry (s .level) (s .entry))
+    → matches s d a ≡ (eqb (a / blockBytes (s .level) * blockBytes (s .level)) (s .block .0) && goodEntry (s .level)
+    (s .entry))
 unfolding matches holdsFor holds inBlock
 match-test s d a e l =
     rw (eq-eqb (s .domain) d e, l)
-    (ap (λ t. t && goodEntry (s .level) (s .entry)) (round-block (blockBytes (s .level)) (block-some (heightOf (s .level))) (s .block .0) a))
+    (ap (λ t. t && goodEntry (s .level) (s .entry))
+    (round-block (blockBytes (s .level)) (block-some (heightOf (s .level))) (s .block .0) a))
 
 -- What a match says.
 pub record Match (s : Slot) (d a : ℕ) : Type 0 where

@@ -1,5 +1,5 @@
--- Laws of verdicts: by a buffer that agrees with the table, a check says what the walk says, in at most 3 loads, as with an emptied buffer.
--- Assumes nothing.
+-- Laws of verdicts: by a buffer that agrees with the table, a check says what the walk says, in at most 3 loads, as
+-- with an emptied buffer. Assumes nothing.
 use Prim.Native.Nat.{ℕ, _-_, _≤_, _<_}
 use mathlib.Core.Path.{_≡_, refl, sym, ap, _∙_}
 use mathlib.Core.Logic.{_⊎_, inl, inr, ⊎-elim}
@@ -37,12 +37,15 @@ found-cases : (F : Form) (P : ℕ → ℕ) (a : ℕ) (e : End) → SixOrRight (f
 found-cases F P a bad = inl refl
 found-cases F P a (decides h k) = inr (F .says h (P k) a, P k, 3 - h, refl)
 
-pub lookup-cases : (p : List ℕ) (s : Shape) (d a : ℕ) → fitsOf s (length p) ≡ true → d < s .domains → SixOrRight (lookupOf p s d a)
+pub lookup-cases : (p : List ℕ) (s : Shape) (d a : ℕ) → fitsOf s (length p) ≡ true → d < s .domains
+    → SixOrRight (lookupOf p s d a)
 lookup-cases p s d a f h =
-    rw (lookup-walks p s d a f h) (found-cases (formOf s) (words p) a (walk (formOf s) (words p) a 2 (entry (formOf s) d a)))
+    rw (lookup-walks p s d a f h) (found-cases (formOf s) (words p) a
+    (walk (formOf s) (words p) a 2 (entry (formOf s) d a)))
 
 -- The verdict on a right, in numbers.
-pub said-verdict : (kind r n : ℕ) → withoutLoads (verdictOf kind r n) ≡ record { refusal = 0; verdict = cond (passesOf kind r) 1 0; loads = 0 }
+pub said-verdict : (kind r n : ℕ) → withoutLoads (verdictOf kind r n)
+    ≡ record { refusal = 0; verdict = cond (passesOf kind r) 1 0; loads = 0 }
 said-verdict kind r n = go (passesOf kind r)
   where
     go : (t : Bool) → withoutLoads (cond t (Pass n) (Deny n)) ≡ record { refusal = 0; verdict = cond t 1 0; loads = 0 }
@@ -58,7 +61,8 @@ never-refused kind r n m = go (passesOf kind r)
     go true e = let z : _≡_ {A = ℕ} 0 1 = cc in omega arith
     go false e = let z : _≡_ {A = ℕ} 0 1 = cc in omega arith
 
-pub only-six : (p : List ℕ) (s : Shape) (b : Buffer) (d kind size a n : ℕ) → refusalOf s (length p) (b .next) d kind size a ≡ 0
+pub only-six : (p : List ℕ) (s : Shape) (b : Buffer) (d kind size a n : ℕ) → refusalOf s (length p) (b .next) d kind
+    size a ≡ 0
     → checkOf p s b d kind size a .verdict ≡ Refused n → n ≡ 6
 only-six p s b d kind size a n e v = go (firstMatch (b .slots) d a) (rw (check-answered p s b d kind size a e) at v)
   where
@@ -67,7 +71,8 @@ only-six p s b d kind size a n e v = go (firstMatch (b .slots) d a) (rw (check-a
 
     walked-six : (f : Found) → SixOrRight f → walked f b d kind a .verdict ≡ Refused n → n ≡ 6
     walked-six (Right r w m) c q = absurd (never-refused kind r m n q)
-    walked-six (NotFound m) c q = ⊎-elim (λ h. cc) (λ t. let h = t .3 in let z : _≡_ {A = ℕ} 0 1 = cc in absurd (omega arith)) c
+    walked-six (NotFound m) c q = ⊎-elim (λ h. cc)
+        (λ t. let h = t .3 in let z : _≡_ {A = ℕ} 0 1 = cc in absurd (omega arith)) c
 
     go : (h : Hit) → answered h p s b d kind a .verdict ≡ Refused n → n ≡ 6
     go (At t) q = absurd (never-refused kind (slotRight t a) 0 n q)
@@ -77,7 +82,8 @@ only-six p s b d kind size a n e v = go (firstMatch (b .slots) d a) (rw (check-a
 module _ (p : List ℕ) (s : Shape) (x : Places) (d kind size a : ℕ) (z : x d a ≡ false) (ha : a < addresses)
     (sound : lookupOf p s d a ≡ NotFound 6 → ⊥) where
   -- It passes exactly where the table's right lets it, in at most 3 loads.
-  pub check-right : (b : Buffer) → AgreesBut (s .domains) (rightsOf s p) x b → refusalOf s (length p) (b .next) d kind size a ≡ 0
+  pub check-right : (b : Buffer) → AgreesBut (s .domains) (rightsOf s p) x b → refusalOf s (length p) (b .next) d kind
+      size a ≡ 0
       → (n : ℕ) × (n ≤ 3) × (checkOf p s b d kind size a .verdict ≡ verdictOf kind (rightsOf s p d a) n)
   check-right b g e = rw (check-answered p s b d kind size a e) (go (firstMatch (b .slots) d a) refl)
     where
@@ -86,7 +92,12 @@ module _ (p : List ℕ) (s : Shape) (x : Places) (d kind size a : ℕ) (z : x d 
 
       go : (h : Hit) → firstMatch (b .slots) d a ≡ h
           → (n : ℕ) × (n ≤ 3) × (answered h p s b d kind a .verdict ≡ verdictOf kind (rightsOf s p d a) n)
-      go (At t) h = (0, omega arith, ap (λ r. verdictOf kind r 0) (hit-right (s .domains) (rightsOf s p) x b d a t g h (ok .domain) ha z))
+      go (At t) h = (
+        0,
+        omega arith,
+        ap (λ r. verdictOf kind r 0)
+            (hit-right (s .domains) (rightsOf s p) x b d a t g h (ok .domain) ha z),
+      )
       go Miss h = ⊎-elim (λ k. absurd (sound k))
           (λ k. let (r, w, n, q) = k in (
             n,
@@ -95,15 +106,18 @@ module _ (p : List ℕ) (s : Shape) (x : Places) (d kind size a : ℕ) (z : x d 
           ))
           (lookup-cases p s d a (ok .fits) (ok .domain))
 
-  pub check-says : (b : Buffer) → AgreesBut (s .domains) (rightsOf s p) x b → refusalOf s (length p) (b .next) d kind size a ≡ 0
-      → withoutLoads (checkOf p s b d kind size a .verdict) ≡ record { refusal = 0; verdict = cond (passesOf kind (rightsOf s p d a)) 1 0; loads = 0 }
+  pub check-says : (b : Buffer) → AgreesBut (s .domains) (rightsOf s p) x b → refusalOf s (length p) (b .next) d kind
+      size a ≡ 0
+      → withoutLoads (checkOf p s b d kind size a .verdict)
+      ≡ record { refusal = 0; verdict = cond (passesOf kind (rightsOf s p d a)) 1 0; loads = 0 }
   check-says b g e =
       let (n, _, q) = check-right b g e in
       ap withoutLoads q ∙ said-verdict kind (rightsOf s p d a) n
 
   -- It says what the same check says with an emptied buffer, refusals included.
   pub check-as-emptied : (b : Buffer) → AgreesBut (s .domains) (rightsOf s p) x b → b .next < 64
-      → withoutLoads (checkOf p s b d kind size a .verdict) ≡ withoutLoads (checkOf p s emptyBuffer d kind size a .verdict)
+      → withoutLoads (checkOf p s b d kind size a .verdict)
+      ≡ withoutLoads (checkOf p s emptyBuffer d kind size a .verdict)
   unfolding emptyBuffer
   check-as-emptied b g h = elim (ℕ-discrete m 0) [
     | yes e ↦ check-says b g (same ∙ e) ∙ sym (check-says emptyBuffer (emptied-agrees (s .domains) (rightsOf s p) x) e)

@@ -1,4 +1,5 @@
--- When a buffer agrees with a table, everywhere or but for what is stale: where a change may have altered rights and no flush has followed.
+-- When a buffer agrees with a table, everywhere or but for what is stale: where a change may have altered rights and
+-- no flush has followed.
 use Prim.Native.Nat.{ℕ, _<_}
 use mathlib.Core.Path.{_≡_}
 use mathlib.Core.Bool.{Bool, true, false, _&&_, _||_, not}

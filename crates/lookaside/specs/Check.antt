@@ -46,7 +46,8 @@ isAccess kind size =
 abbrev pub demand : Bool → ℕ → ℕ → ℕ
 demand test n rest = cond test rest n
 
--- The refusal of a check of a pool of `long` words and a buffer whose pointer is `next`, before any slot is asked; 0 for none.
+-- The refusal of a check of a pool of `long` words and a buffer whose pointer is `next`, before any slot is asked; 0
+-- for none.
 unfoldable pub refusalOf : Shape → ℕ → ℕ → ℕ → ℕ → ℕ → ℕ → ℕ
 refusalOf s long next d kind size a =
     demand (fitsOf s long) 1
@@ -80,7 +81,8 @@ checkOf p s b d kind size a =
     let n = refusalOf s (length p) (b .next) d kind size a in
     cond (eqb n 0) (answered (firstMatch (b .slots) d a) p s b d kind a) (refusing n b)
 
--- ---- The same in two parts, for whoever holds the buffer in another form: what a check decides, and what is then done to the buffer.
+-- ---- The same in two parts, for whoever holds the buffer in another form: what a check decides, and what is then
+-- done to the buffer.
 
 -- A miss, by what the lookup found.
 abbrev pub walkDecided : Found → ℕ → ℕ → ℕ → Decided

@@ -1,4 +1,5 @@
--- The lookaside buffer: what a slot holds, when it matches, which slot answers and with which right, and what a fill leaves.
+-- The lookaside buffer: what a slot holds, when it matches, which slot answers and with which right, and what a fill
+-- leaves.
 use Prim.Native.Nat.{ℕ, _+_, _-_, _*_, _/_, _%_}
 use mathlib.Core.Bool.{Bool, cond, _&&_, _||_}
 use mathlib.Core.List.{List, [], _∷_}
@@ -39,7 +40,8 @@ inBlock s a = leb (s .block .0) a && ltb a (s .block .0 + blockBytes (s .level))
 abbrev pub goodEntry : ℕ → ℕ → Bool
 goodEntry level w = eqb level 3 || goodRights w
 
--- The slot matches: its domain is the one asked, the address lies in its block, and its entry is good rights for its level.
+-- The slot matches: its domain is the one asked, the address lies in its block, and its entry is good rights for its
+-- level.
 unfoldable pub matches : Slot → ℕ → ℕ → Bool
 matches s d a = holdsFor s d && inBlock s a && goodEntry (s .level) (s .entry)
 
@@ -60,7 +62,8 @@ emptySlot = record { domain = 0; level = 0; block = record { 0 = 0 }; entry = 0 
 unfoldable pub emptyBuffer : Buffer
 emptyBuffer = record { slots = replicate 64 emptySlot; next = 0 }
 
--- What a lookup of the address `a` for domain `d` that the entry `w` decided after `n` loads is kept as: level `n`, and the address rounded down to its block.
+-- What a lookup of the address `a` for domain `d` that the entry `w` decided after `n` loads is kept as: level `n`,
+-- and the address rounded down to its block.
 abbrev pub slotFor : ℕ → ℕ → ℕ → ℕ → Slot
 slotFor d a w n = record { domain = d; level = n; block = record { 0 = a / blockBytes n * blockBytes n }; entry = w }
 

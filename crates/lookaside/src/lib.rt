@@ -1,4 +1,5 @@
-// Checks of loads, stores and fetches through a lookaside buffer, and the buffer's flushes. The buffer goes in by value and comes back.
+// Checks of loads, stores and fetches through a lookaside buffer, and the buffer's flushes. The buffer goes in by
+// value and comes back.
 ghost use mathlib.Core.Path.{_≡_};
 ghost use Prim.Native.Nat.{_<_};
 ghost use Rattle.table.specs.Lookup.{lookupOf};
@@ -6,7 +7,8 @@ ghost use mathlib.Core.Bool.{true};
 ghost use Rattle.lookaside.specs.declared.Slot.{Slot};
 ghost use Rattle.lookaside.specs.declared.Hit.the-variants.{At};
 ghost use Rattle.lookaside.specs.Slots.{matches, firstMatch, emptyBuffer, filled};
-ghost use Rattle.lookaside.specs.Flushes.{flushes, flushedSlot, flushedBuffer, flushedWhole, flushedDomain, flushedRegion};
+ghost use Rattle.lookaside.specs.Flushes.{flushes, flushedSlot, flushedBuffer, flushedWhole, flushedDomain};
+ghost use Rattle.lookaside.specs.Flushes.{flushedRegion};
 ghost use Rattle.lookaside.specs.Check.{isAccess, refusalOf, verdictOf, checkOf, walkDecided, decideOf};
 use table::Found;
 use table::Shape;
@@ -125,7 +127,8 @@ fn is_access(kind: u32, size: u32) -> bool
     size == 4
 }
 
-// The refusal of a check before it asks the buffer, 0 for none. The size is a divisor only once it is known to be a size.
+// The refusal of a check before it asks the buffer, 0 for none. The size is a divisor only once it is known to be a
+// size.
 fn refusal(
     shape: Shape,
     long: usize,
@@ -169,7 +172,8 @@ fn judge(kind: u32, right: u32, loads: u32) -> Verdict
 
 // What a check that no slot answers decides: it walks the pool, and keeps the deciding entry, whether it passes or not.
 fn decide_by_walk(pool: &[u32], shape: Shape, domain: u32, kind: u32, address: ByteAddr) -> Decided
-    ensures { λ r. ⌜ r ≡ walkDecided (lookupOf (now (pool .entry)) shape domain (address .0)) domain kind (address .0) ⌝ }
+    ensures { λ r. ⌜ r ≡ walkDecided (lookupOf (now (pool .entry)) shape domain (address .0)) domain kind
+        (address .0) ⌝ }
 {
     let found = table::lookup(pool, shape, domain, address);
     match found {
@@ -198,7 +202,8 @@ fn decide_by_walk(pool: &[u32], shape: Shape, domain: u32, kind: u32, address: B
     }
 }
 
-// What a check decides, by the lowest slot that matches and the pointer. Whoever holds the buffer looks for that slot and fills it.
+// What a check decides, by the lowest slot that matches and the pointer. Whoever holds the buffer looks for that slot
+// and fills it.
 pub fn decide(
     pool: &[u32],
     shape: Shape,

@@ -1,4 +1,5 @@
-// One slot of the buffer: whether it holds anything, whether it matches, which right it gives, and whether it meets a region.
+// One slot of the buffer: whether it holds anything, whether it matches, which right it gives, and whether it meets a
+// region.
 ghost use mathlib.Core.Path.{_≡_};
 ghost use mathlib.Core.Bool.{true};
 ghost use Prim.Native.Nat.{_*_, _/_};
@@ -67,7 +68,8 @@ pub fn good_entry(level: u32, entry: u32) -> bool
     words::good_rights(entry)
 }
 
-// Whether the slot answers for an address. One comparison says that the block is aligned and that the address lies in it.
+// Whether the slot answers for an address. One comparison says that the block is aligned and that the address lies in
+// it.
 pub fn slot_matches(s: Slot, domain: u32, address: ByteAddr) -> bool
     ensures { λ r. ⌜ r ≡ matches s domain (address .0) ⌝ }
 {

@@ -1,4 +1,5 @@
--- Laws of the rights after a change: what they are on the covered words and elsewhere, and that they are rights of words.
+-- Laws of the rights after a change: what they are on the covered words and elsewhere, and that they are rights of
+-- words.
 use Prim.Native.Nat.{ℕ, _<_}
 use mathlib.Core.Path.{_≡_, refl}
 use mathlib.Core.Logic.{_≢_}

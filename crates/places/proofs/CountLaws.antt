@@ -40,7 +40,8 @@ module _ (f : ℕ → Bool) where
   count-flat i zero h all = let e : i ≡ 0 = omega arith in rw e refl
   count-flat i (suc j) h all = elim (ℕ-discrete i (suc j)) [
     | yes e ↦ rw e refl
-    | no e ↦ count-no j (all j (omega arith) (omega arith)) ∙ count-flat i j (omega arith) (λ k lo hi. all k lo (omega arith))
+    | no e ↦ count-no j (all j (omega arith) (omega arith)) ∙ count-flat i j (omega arith)
+        (λ k lo hi. all k lo (omega arith))
   ]
 
   pub same-rank : (p q : ℕ) → f p ≡ true → f q ≡ true → count f p ≡ count f q → p ≡ q

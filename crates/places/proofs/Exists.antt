@@ -20,21 +20,24 @@ use Rattle.table.proofs.WantLaws.{wants-divided, divided-wants, wanting, pool-r
 use Rattle.places.specs.Count.{count, wantMiddle, wantLeaf, Room, changed}
 use Rattle.places.proofs.CountLaws.{count-into, count-all}
 use Rattle.places.proofs.KeepLaws.{owners}
-use Rattle.places.specs.Final.{blocks, number, domainOf, addressOf, want, oldMiddle, oldLeaf, old, wasMiddle, wasLeaf, was, final}
+use Rattle.places.specs.Final.{blocks, number, domainOf, addressOf, want, oldMiddle, oldLeaf, old, wasMiddle}
+use Rattle.places.specs.Final.{wasLeaf, was, final}
 use Rattle.places.proofs.NumberLaws.{number-below, number-first, want-number}
 use Rattle.places.proofs.OldLaws.{led-old, old-led, old-below, old-one}
 use Rattle.places.proofs.FinalLaws.{final-finished}
 use Rattle.places.proofs.ChangedLaws.{changed-rights}
 
 -- The pool `Q` has the rights `R`.
-module _ (D M L : ℕ) {R : ℕ → ℕ → ℕ} {Q : ℕ → ℕ} (same : (d a : ℕ) → d < D → a < addresses → rightOf (form D M L) Q d a ≡ R d a) where
+module _ (D M L : ℕ) {R : ℕ → ℕ → ℕ} {Q : ℕ → ℕ}
+    (same : (d a : ℕ) → d < D → a < addresses → rightOf (form D M L) Q d a ≡ R d a) where
   -- A sound pool has every table that its rights want ..
   has-table : SoundPool (form D M L) Q → (h i : ℕ) → h < 2 → i < blocks h * D → want R h i ≡ true → old Q h i ≡ true
   has-table q h i hi bi w =
       let (bd, ba, e) = number-first h D i hi bi in
       let x = wanting D M L .same (suc h) (addressOf h i) (R (domainOf h i)) (rightOf (form D M L) Q (domainOf h i))
       (λ b bb. sym (same (domainOf h i) b bd bb)) (wants-divided (R (domainOf h i)) (suc h) (addressOf h i) ba w) in
-      let (t, y) = wants-table (form D M L) (wanting D M L) (lawful D M L) q (domainOf h i) (addressOf h i) bd ba h hi x in
+      let (t, y) = wants-table (form D M L) (wanting D M L) (lawful D M L) q (domainOf h i) (addressOf h i) bd ba h hi
+      x in
       ap (old Q h) (sym e) ∙ led-old D M L Q (domainOf h i) (addressOf h i) ba h t y .0
 
   -- .. so they are no more than the places.
@@ -92,9 +95,11 @@ finished-fits D M L f = sound-fits D M L (f .rights) (f .settled .sound)
 pub exists-finished : (D M L : ℕ) → InRange D M L → {R : ℕ → ℕ → ℕ} → ((d : ℕ) → d < D → WordRights (R d)) → {P : ℕ → ℕ}
     → SoundPool (form D M L) P → Room D M L R → (Q : ℕ → ℕ) × Finished (form D M L) P R Q
 exists-finished D M L range {R} S {P} sP fits =
-    let (fM, middle, OM) = owners (1024 * D) M (wantMiddle R) (oldMiddle P) (wasMiddle D P) (old-one D M L sP 1 (omega arith))
+    let (fM, middle, OM) = owners (1024 * D) M (wantMiddle R) (oldMiddle P) (wasMiddle D P)
+    (old-one D M L sP 1 (omega arith))
     (old-below D M L sP 1 (omega arith)) (fits .middles) in
-    let (fL, leaf, OL) = owners (1048576 * D) L (wantLeaf R) (oldLeaf P) (wasLeaf D M P) (old-one D M L sP 0 (omega arith))
+    let (fL, leaf, OL) = owners (1048576 * D) L (wantLeaf R) (oldLeaf P) (wasLeaf D M P)
+    (old-one D M L sP 0 (omega arith))
     (old-below D M L sP 0 (omega arith)) (fits .leaves) in
     (final D M L middle leaf R P, final-finished D M L range S sP middle leaf fM fL OM OL (λ j. refl))
 

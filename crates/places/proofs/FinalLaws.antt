@@ -22,12 +22,15 @@ use Rattle.table.proofs.WantLaws.{wants-divided, wants-says, wanting, tells-wan
 use Rattle.places.specs.Count.{wantMiddle, wantLeaf}
 use Rattle.places.specs.Owners.{seek, Owned}
 use Rattle.places.proofs.OwnedLaws.{seek-owner, owner-seek, seek-apart, seek-keeps, seek-order, seek-lowest}
-use Rattle.places.specs.Final.{blocks, number, domainOf, addressOf, want, either, oldMiddle, oldLeaf, old, wasMiddle, wasLeaf, was}
+use Rattle.places.specs.Final.{blocks, number, domainOf, addressOf, want, either, oldMiddle, oldLeaf, old}
+use Rattle.places.specs.Final.{wasMiddle, wasLeaf, was}
 use Rattle.places.specs.Final.{placeAt, tableOf, place, entryWord, tableWord, final}
-use Rattle.places.proofs.NumberLaws.{number-below, number-same, number-of, number-order, page-number, root-number, address-index}
+use Rattle.places.proofs.NumberLaws.{number-below, number-same, number-of, number-order, page-number}
+use Rattle.places.proofs.NumberLaws.{root-number, address-index}
 use Rattle.places.proofs.NumberLaws.{offset-below, want-number, said-number, said-leaf}
 use Rattle.places.proofs.OldLaws.{place-one, place-less, place-order, led-old, not-led-old, old-at}
-use Rattle.places.proofs.FinalWordLaws.{InPlace, which-word, place-table, final-root, final-place, final-past, place-owned, place-idle}
+use Rattle.places.proofs.FinalWordLaws.{InPlace, which-word, place-table, final-root, final-place, final-past}
+use Rattle.places.proofs.FinalWordLaws.{place-owned, place-idle}
 use Rattle.places.proofs.FinalWordLaws.{entry-leads, entry-says}
 
 -- A place of the pool can be named by an entry.
@@ -57,7 +60,8 @@ module _ (D M L : ℕ) (range : InRange D M L) {R : ℕ → ℕ → ℕ} (S : (d
   got = Gets F wants
 
   -- Both heights in one.
-  pub owned : (h : ℕ) → h < 2 → Owned (blocks h * D) (places D M L h) (want R h) (old P h) (either freeL freeM h) (was D M L P h) (owner h)
+  pub owned : (h : ℕ) → h < 2 → Owned (blocks h * D) (places D M L h) (want R h) (old P h) (either freeL freeM h)
+      (was D M L P h) (owner h)
   owned zero hi = OL
   owned (suc zero) hi = OM
   owned (suc (suc h)) hi = absurd (omega arith)
@@ -67,34 +71,42 @@ module _ (D M L : ℕ) (range : InRange D M L) {R : ℕ → ℕ → ℕ} (S : (d
   want-got h d a hi ba g = want-number R h d a hi ba ∙ g (suc h) (omega arith) hi
 
   pub own : (h d a : ℕ) → h < 2 → d < D → a < addresses → got h d a
-      → (seek (owner h) (number h d a) (places D M L h) < places D M L h) × (owner h (seek (owner h) (number h d a) (places D M L h)) ≡ number h d a)
+      → (seek (owner h) (number h d a) (places D M L h) < places D M L h)
+      × (owner h (seek (owner h) (number h d a) (places D M L h)) ≡ number h d a)
   own h d a hi bd ba g =
-      seek-owner (blocks h * D) (places D M L h) (want R h) (old P h) (either freeL freeM h) (was D M L P h) (owned h hi)
+      seek-owner (blocks h * D) (places D M L h) (want R h) (old P h) (either freeL freeM h) (was D M L P h)
+      (owned h hi)
       (number h d a) (number-below h D d a hi bd ba) (want-got h d a hi ba g)
 
   -- The words where walks come.
   in-table : (h d a : ℕ) → h < 2 → d < D → a < addresses → got h d a
-      → Q (tableOf D M L middle leaf h (number h d a) + index h a) ≡ tableWord D M L middle leaf R P h (number h d a) (index h a)
+      → Q (tableOf D M L middle leaf h (number h d a) + index h a) ≡ tableWord D M L middle leaf R P h (number h d a)
+      (index h a)
   in-table h d a hi bd ba g =
       let (b, o) = own h d a hi bd ba g in
-      is _ ∙ final-place D M L middle leaf R P _ h (seek (owner h) (number h d a) (places D M L h)) (index h a) (hi, b, index-below h a, refl)
-      ∙ place-owned D M L middle leaf R P h _ (seek (owner h) (number h d a) (places D M L h)) (index h a) (number h d a) o (number-below h D d a hi bd ba)
+      is _ ∙ final-place D M L middle leaf R P _ h (seek (owner h) (number h d a) (places D M L h)) (index h a)
+      (hi, b, index-below h a, refl)
+      ∙ place-owned D M L middle leaf R P h _ (seek (owner h) (number h d a) (places D M L h)) (index h a)
+      (number h d a) o (number-below h D d a hi bd ba)
 
   entry-at : (h d a : ℕ) → h < 2 → d < D → a < addresses → got (suc h) d a
       → Q (stand (suc h) d a + index (suc h) a) ≡ entryWord D M L middle leaf R P h (number h d a)
   entry-at zero d a hi bd ba g =
       in-table 1 d a (omega arith) bd ba g ∙ ap (entryWord D M L middle leaf R P 0) (sym (page-number d a ba))
   entry-at (suc zero) d a hi bd ba g =
-      ap Q (root-number d a ba) ∙ is (number 1 d a) ∙ final-root D M L middle leaf R P (number 1 d a) (number-below 1 D d a hi bd ba)
+      ap Q (root-number d a ba) ∙ is (number 1 d a) ∙ final-root D M L middle leaf R P (number 1 d a)
+      (number-below 1 D d a hi bd ba)
   entry-at (suc (suc h)) d a hi bd ba g = absurd (omega arith)
 
   final-leads : (h d a : ℕ) → d < D → a < addresses → h < 2 → got h d a
-      → (F .good (suc h) (Q (stand (suc h) d a + index (suc h) a)) ≡ true) × (F .leads (suc h) (Q (stand (suc h) d a + index (suc h) a)) ≡ true)
+      → (F .good (suc h) (Q (stand (suc h) d a + index (suc h) a)) ≡ true)
+      × (F .leads (suc h) (Q (stand (suc h) d a + index (suc h) a)) ≡ true)
       × (Q (stand (suc h) d a + index (suc h) a) ≡ stand h d a)
   final-leads h d a bd ba hi g =
       let p = seek (owner h) (number h d a) (places D M L h) in
       let e : Q (stand (suc h) d a + index (suc h) a) ≡ placeAt D M L h p =
-      entry-at h d a hi bd ba (gets-above F wants h d a g) ∙ entry-leads D M L middle leaf R P h (number h d a) (want-got h d a hi ba g) in
+      entry-at h d a hi bd ba (gets-above F wants h d a g) ∙ entry-leads D M L middle leaf R P h (number h d a)
+      (want-got h d a hi ba g) in
       let b = own h d a hi bd ba g .0 in
       let (x, y) = place-leads D M L h p hi b (place-low D M L h p range hi b) in
       (rw e x, rw e y, e ∙ sym (place-table D M L middle leaf h d a hi))
@@ -104,29 +116,35 @@ module _ (D M L : ℕ) (range : InRange D M L) {R : ℕ → ℕ → ℕ} (S : (d
   final-says zero d a bd ba hi g n =
       rw (in-table 0 d a (omega arith) bd ba g ∙ said-leaf R d a ba) (wants-says D M L (R d) 0 a (S d bd) hi ba n)
   final-says (suc h) d a bd ba hi g n =
-      rw (entry-at h d a hi bd ba g ∙ entry-says D M L middle leaf R P h (number h d a) (want-number R h d a hi ba ∙ n) ∙ said-number R h d a hi ba)
+      rw (entry-at h d a hi bd ba g ∙ entry-says D M L middle leaf R P h (number h d a)
+      (want-number R h d a hi ba ∙ n) ∙ said-number R h d a hi ba)
       (wants-says D M L (R d) (suc h) a (S d bd) hi ba n)
 
   pub final-encodes : Encodes F wants stand R Q
   final-encodes = record { leads = final-leads; says = final-says }
 
   -- The places.
-  same-table : (h d a b : ℕ) → h < 2 → a < addresses → b < addresses → Together F (suc h) a b → stand h d a ≡ stand h d b
+  same-table : (h d a b : ℕ) → h < 2 → a < addresses → b < addresses → Together F (suc h) a b → stand h d a
+      ≡ stand h d b
   same-table h d a b hi ba bb t =
       place-table D M L middle leaf h d a hi
       ∙ ap (λ x. tableOf D M L middle leaf h (blocks h * d + x)) (together-block D M L (suc h) a b hi ba bb t)
       ∙ sym (place-table D M L middle leaf h d b hi)
 
-  final-block : (h d a b : ℕ) → d < D → a < addresses → b < addresses → Together F (suc h) a b → stand h d a ≡ stand h d b
+  final-block : (h d a b : ℕ) → d < D → a < addresses → b < addresses → Together F (suc h) a b → stand h d a
+      ≡ stand h d b
   final-block zero d a b bd ba bb t = same-table 0 d a b (omega arith) ba bb t
   final-block (suc zero) d a b bd ba bb t = same-table 1 d a b (omega arith) ba bb t
   final-block (suc (suc h)) d a b bd ba bb t = refl
 
-  final-apart : (h d a e b : ℕ) → d < D → a < addresses → e < D → b < addresses → h < 2 → got h d a → got h e b → stand h d a ≡ stand h e b
+  final-apart : (h d a e b : ℕ) → d < D → a < addresses → e < D → b < addresses → h < 2 → got h d a → got h e b
+      → stand h d a ≡ stand h e b
       → (d ≡ e) × Together F (suc h) a b
   final-apart h d a e b bd ba be bb hi g k q =
-      let x = place-one D M L h _ _ (sym (place-table D M L middle leaf h d a hi) ∙ q ∙ place-table D M L middle leaf h e b hi) in
-      let y = seek-apart (blocks h * D) (places D M L h) (want R h) (old P h) (either freeL freeM h) (was D M L P h) (owned h hi)
+      let x = place-one D M L h _ _ (sym (place-table D M L middle leaf h d a hi) ∙ q
+      ∙ place-table D M L middle leaf h e b hi) in
+      let y = seek-apart (blocks h * D) (places D M L h) (want R h) (old P h) (either freeL freeM h) (was D M L P h)
+      (owned h hi)
       (number h d a) (number h e b) (number-below h D d a hi bd ba) (number-below h D e b hi be bb)
       (want-got h d a hi ba g) (want-got h e b hi bb k) x in
       let (u, v) = number-same h d a e b hi ba bb y in
@@ -140,18 +158,23 @@ module _ (D M L : ℕ) (range : InRange D M L) {R : ℕ → ℕ → ℕ} (S : (d
       let hi : h < 2 = led-low F P d a h o in
       let (x, y) = led-old D M L P d a ba h s o in
       let i = number-below h D d a hi bd ba in
-      let (_, z) = seek-keeps (blocks h * D) (places D M L h) (want R h) (old P h) (either freeL freeM h) (was D M L P h) (owned h hi)
+      let (_, z) = seek-keeps (blocks h * D) (places D M L h) (want R h) (old P h) (either freeL freeM h)
+      (was D M L P h) (owned h hi)
       (number h d a) i (want-got h d a hi ba g) x in
-      place-table D M L middle leaf h d a hi ∙ ap (placeAt D M L h) z ∙ sym (old-at D M L sP h hi (number h d a) i x .1) ∙ y
+      place-table D M L middle leaf h d a hi ∙ ap (placeAt D M L h) z
+      ∙ sym (old-at D M L sP h hi (number h d a) i x .1) ∙ y
 
-  final-order : (h d a e b : ℕ) → d < D → a < addresses → e < D → b < addresses → h < 2 → Fresh F wants stand P h d a → Fresh F wants stand P h e b
+  final-order : (h d a e b : ℕ) → d < D → a < addresses → e < D → b < addresses → h < 2 → Fresh F wants stand P h d a
+      → Fresh F wants stand P h e b
       → Before d a e b → stand h d a ≤ stand h e b
   final-order h d a e b bd ba be bb hi (g, m) (k, n) o =
       rw (place-table D M L middle leaf h d a hi, place-table D M L middle leaf h e b hi)
       (place-order D M L h _ _
-      (seek-order (blocks h * D) (places D M L h) (want R h) (old P h) (either freeL freeM h) (was D M L P h) (owned h hi)
+      (seek-order (blocks h * D) (places D M L h) (want R h) (old P h) (either freeL freeM h) (was D M L P h)
+      (owned h hi)
       (number h d a) (number h e b) (number-order h d a e b hi ba bb o) (number-below h D e b hi be bb)
-      (want-got h d a hi ba g) (want-got h e b hi bb k) (not-led-old D M L P d a ba h hi m) (not-led-old D M L P e b bb h hi n)))
+      (want-got h d a hi ba g) (want-got h e b hi bb k) (not-led-old D M L P d a ba h hi m)
+      (not-led-old D M L P e b bb h hi n)))
 
   -- A place that has an owner, as a walk that comes there: by its entry `e`.
   abbrev Owner : ℕ → ℕ → ℕ → Type 0
@@ -164,7 +187,8 @@ module _ (D M L : ℕ) (range : InRange D M L) {R : ℕ → ℕ → ℕ} (S : (d
       let d = domainOf h (owner h p) in
       let a = addressOf h (owner h p) + block h * e in
       let (bd, ba, x) = number-of h D (owner h p) (block h * e) hi b (offset-below h e hi be) in
-      let w : wantsOf (R d) (suc h) a ≡ true = sym (want-number R h d a hi ba) ∙ ap (want R h) x ∙ O .held .only p bp b in (
+      let w : wantsOf (R d) (suc h) a ≡ true = sym (want-number R h d a hi ba) ∙ ap (want R h) x
+      ∙ O .held .only p bp b in (
         d,
         a,
         bd,
@@ -173,17 +197,21 @@ module _ (D M L : ℕ) (range : InRange D M L) {R : ℕ → ℕ → ℕ} (S : (d
         wants-gets F wants (wanting D M L) (tells-wants D M L R S) d a bd ba h hi (wants-divided (R d) (suc h) a ba w),
         place-table D M L middle leaf h d a hi ∙ ap (tableOf D M L middle leaf h) x
             ∙ ap (placeAt D M L h)
-            (owner-seek (blocks h * D) (places D M L h) (want R h) (old P h) (either freeL freeM h) (was D M L P h) O p bp b),
+            (owner-seek (blocks h * D) (places D M L h) (want R h) (old P h) (either freeL freeM h) (was D M L P h) O
+            p bp b),
         address-index h (owner h p) e hi be,
       )
 
-  final-lowest : (h d a x : ℕ) → d < D → a < addresses → h < 2 → Fresh F wants stand P h d a → Place F h x → x < stand h d a
+  final-lowest : (h d a x : ℕ) → d < D → a < addresses → h < 2 → Fresh F wants stand P h d a → Place F h x
+      → x < stand h d a
       → (e : ℕ) × (b : ℕ) × (e < D) × (b < addresses) × got h e b × (stand h e b ≡ x)
   final-lowest h d a x bd ba hi (g, m) (w, c, l, e) lt =
       let (_, q, bq, z) = leads-place D M L h w c l in
       let k : placeAt D M L h q ≡ x = sym z ∙ e in
-      let y = place-less D M L h q (seek (owner h) (number h d a) (places D M L h)) (rw (k, ← place-table D M L middle leaf h d a hi) lt) in
-      let (u, v) = seek-lowest (blocks h * D) (places D M L h) (want R h) (old P h) (either freeL freeM h) (was D M L P h) (owned h hi)
+      let y = place-less D M L h q (seek (owner h) (number h d a) (places D M L h))
+      (rw (k, ← place-table D M L middle leaf h d a hi) lt) in
+      let (u, v) = seek-lowest (blocks h * D) (places D M L h) (want R h) (old P h) (either freeL freeM h)
+      (was D M L P h) (owned h hi)
       (number h d a) q (number-below h D d a hi bd ba) (want-got h d a hi ba g) (not-led-old D M L P d a ba h hi m) y in
       let (f, b, r, s, _, t, i, _) = place-owner h q 0 hi u v (some h) in
       (f, b, r, s, t, i ∙ k)
@@ -199,7 +227,8 @@ module _ (D M L : ℕ) (range : InRange D M L) {R : ℕ → ℕ → ℕ} (S : (d
   idle-root : (j : ℕ) → Nowhere j → j < 1024 * D → ⊥
   idle-root j f b =
       let (bd, ba, e) = number-of 1 D j 0 (omega arith) b (omega arith) in
-      f 2 (domainOf 1 j) (addressOf 1 j + 0) bd ba (omega arith) (λ i lo hi. absurd (omega arith)) (sym (root-number (domainOf 1 j) (addressOf 1 j + 0) ba ∙ e))
+      f 2 (domainOf 1 j) (addressOf 1 j + 0) bd ba (omega arith) (λ i lo hi. absurd (omega arith))
+      (sym (root-number (domainOf 1 j) (addressOf 1 j + 0) ba ∙ e))
 
   idle-place : (j h p e : ℕ) → Nowhere j → InPlace D M L j h p e → Q j ≡ P j
   idle-place j h p e f (hi, b, c, q) =
@@ -221,4 +250,5 @@ module _ (D M L : ℕ) (range : InRange D M L) {R : ℕ → ℕ → ℕ} (S : (d
 
   pub final-finished : Finished F P R Q
   final-finished =
-      encodes-finished F (lawful D M L) (exact D M L) wants stand (tells-wants D M L R S) final-placing final-encodes (wanting D M L) final-follows
+      encodes-finished F (lawful D M L) (exact D M L) wants stand (tells-wants D M L R S) final-placing final-encodes
+      (wanting D M L) final-follows

@@ -1,4 +1,5 @@
--- The words of the finished pool, case by case: roots, places with an owner, places without one, and what lies past the pool.
+-- The words of the finished pool, case by case: roots, places with an owner, places without one, and what lies past
+-- the pool.
 use Prim.Native.Nat.{ℕ, zero, suc, _+_, _*_, _-_, _/_, _%_, _≤_, _<_}
 use mathlib.Core.Path.{_≡_, refl, ap}
 use mathlib.Core.Logic.{_⊎_, inl, inr}
@@ -9,7 +10,8 @@ use borrow.Author.Tests.{lt-ltb, le-ltb}
 use Rattle.table.specs.Shape.{firstMiddle, firstLeaf, poolLength, places}
 use Rattle.table.specs.Map.{size}
 use Rattle.table.specs.Wants.{saidOf}
-use Rattle.places.specs.Final.{blocks, number, domainOf, addressOf, want, either, placeAt, tableOf, place, entryWord, tableWord}
+use Rattle.places.specs.Final.{blocks, number, domainOf, addressOf, want, either, placeAt, tableOf, place}
+use Rattle.places.specs.Final.{entryWord, tableWord}
 use Rattle.places.specs.Final.{placeWord, final, keptWord}
 
 module _ (D M L : ℕ) where
@@ -18,13 +20,24 @@ module _ (D M L : ℕ) where
   InPlace k h p e = (h < 2) × (p < places D M L h) × (e < size h) × (k ≡ placeAt D M L h p + e)
 
   -- Every word is of a root or of a place, or lies past the pool.
-  pub which-word : (k : ℕ) → (k < firstMiddle D) ⊎ (((h : ℕ) × (p : ℕ) × (e : ℕ) × InPlace k h p e) ⊎ (poolLength D M L ≤ k))
+  pub which-word : (k : ℕ) → (k < firstMiddle D)
+      ⊎ (((h : ℕ) × (p : ℕ) × (e : ℕ) × InPlace k h p e) ⊎ (poolLength D M L ≤ k))
   which-word k = elim (decLt k (firstMiddle D)) [
     | yes a ↦ inl a
     | no a ↦ elim (decLt k (firstLeaf D M)) [
-      | yes b ↦ inr (inl (1, (k - firstMiddle D) / 1024, (k - firstMiddle D) % 1024, (omega arith, omega arith, omega arith, omega arith)))
+      | yes b ↦ inr (inl (
+        1,
+        (k - firstMiddle D) / 1024,
+        (k - firstMiddle D) % 1024,
+        (omega arith, omega arith, omega arith, omega arith),
+      ))
       | no b ↦ elim (decLt k (poolLength D M L)) [
-        | yes c ↦ inr (inl (0, (k - firstLeaf D M) / 64, (k - firstLeaf D M) % 64, (omega arith, omega arith, omega arith, omega arith)))
+        | yes c ↦ inr (inl (
+          0,
+          (k - firstLeaf D M) / 64,
+          (k - firstLeaf D M) % 64,
+          (omega arith, omega arith, omega arith, omega arith),
+        ))
         | no c ↦ inr (inr (omega arith))
       ]
     ]
@@ -41,12 +54,20 @@ module _ (D M L : ℕ) where
       unfolding final
       final-root k b = rw (lt-ltb k (firstMiddle D) b)
 
-      pub final-place : (k h p e : ℕ) → InPlace k h p e → final D M L middle leaf R P k ≡ placeWord D M L middle leaf R P h k p e
+      pub final-place : (k h p e : ℕ) → InPlace k h p e → final D M L middle leaf R P k
+          ≡ placeWord D M L middle leaf R P h k p e
       unfolding final
       final-place k zero p e (hi, b, c, q) =
           let x : (k - firstLeaf D M) / 64 ≡ p = omega arith in
           let y : (k - firstLeaf D M) % 64 ≡ e = omega arith in
-          rw (le-ltb k (firstMiddle D) (omega arith), le-ltb k (firstLeaf D M) (omega arith), lt-ltb k (poolLength D M L) (omega arith), x, y)
+          rw (
+            le-ltb k (firstMiddle D) (omega arith),
+            le-ltb k (firstLeaf D M) (omega arith),
+            lt-ltb k
+                (poolLength D M L) (omega arith),
+            x,
+            y,
+          )
       final-place k (suc zero) p e (hi, b, c, q) =
           let x : (k - firstMiddle D) / 1024 ≡ p = omega arith in
           let y : (k - firstMiddle D) % 1024 ≡ e = omega arith in
@@ -55,22 +76,32 @@ module _ (D M L : ℕ) where
 
       pub final-past : (k : ℕ) → poolLength D M L ≤ k → final D M L middle leaf R P k ≡ P k
       unfolding final
-      final-past k b = rw (le-ltb k (firstMiddle D) (omega arith), le-ltb k (firstLeaf D M) (omega arith), le-ltb k (poolLength D M L) b)
+      final-past k b = rw (
+        le-ltb k (firstMiddle D) (omega arith),
+        le-ltb k (firstLeaf D M) (omega arith),
+        le-ltb k
+            (poolLength D M L) b,
+      )
 
       -- A place holds the table of its owner; one without an owner holds what it held.
       pub place-owned : (h k p e i : ℕ) → either leaf middle h p ≡ i → i < blocks h * D
           → placeWord D M L middle leaf R P h k p e ≡ tableWord D M L middle leaf R P h i e
       place-owned h k p e i o b = rw (o, lt-ltb i (blocks h * D) b)
 
-      pub place-idle : (h k p e : ℕ) → blocks h * D ≤ either leaf middle h p → placeWord D M L middle leaf R P h k p e ≡ P k
+      pub place-idle : (h k p e : ℕ) → blocks h * D ≤ either leaf middle h p → placeWord D M L middle leaf R P h k p e
+          ≡ P k
       place-idle h k p e b = rw (le-ltb (either leaf middle h p) (blocks h * D) b)
 
       -- An entry leads where its block wants a table, and else says its rights.
-      pub entry-leads : (h i : ℕ) → want R h i ≡ true → entryWord D M L middle leaf R P h i ≡ tableOf D M L middle leaf h i
-      entry-leads h i w = ap (λ b. cond b (tableOf D M L middle leaf h i) (saidOf (R (domainOf h i)) (suc h) (addressOf h i))) w
+      pub entry-leads : (h i : ℕ) → want R h i ≡ true → entryWord D M L middle leaf R P h i
+          ≡ tableOf D M L middle leaf h i
+      entry-leads h i w = ap (λ b. cond b (tableOf D M L middle leaf h i)
+          (saidOf (R (domainOf h i)) (suc h) (addressOf h i))) w
 
-      pub entry-says : (h i : ℕ) → want R h i ≡ false → entryWord D M L middle leaf R P h i ≡ saidOf (R (domainOf h i)) (suc h) (addressOf h i)
-      entry-says h i w = ap (λ b. cond b (tableOf D M L middle leaf h i) (saidOf (R (domainOf h i)) (suc h) (addressOf h i))) w
+      pub entry-says : (h i : ℕ) → want R h i ≡ false → entryWord D M L middle leaf R P h i
+          ≡ saidOf (R (domainOf h i)) (suc h) (addressOf h i)
+      entry-says h i w = ap (λ b. cond b (tableOf D M L middle leaf h i)
+          (saidOf (R (domainOf h i)) (suc h) (addressOf h i))) w
 
   -- The test of kept words, case by case.
   module _ (freeM freeL : ℕ → Bool) where
@@ -82,7 +113,13 @@ module _ (D M L : ℕ) where
     unfolding keptWord
     kept-place k zero p e (hi, b, c, q) =
         let x : (k - firstLeaf D M) / 64 ≡ p = omega arith in
-        rw (le-ltb k (firstMiddle D) (omega arith), le-ltb k (firstLeaf D M) (omega arith), lt-ltb k (poolLength D M L) (omega arith), x)
+        rw (
+          le-ltb k (firstMiddle D) (omega arith),
+          le-ltb k (firstLeaf D M) (omega arith),
+          lt-ltb k
+              (poolLength D M L) (omega arith),
+          x,
+        )
     kept-place k (suc zero) p e (hi, b, c, q) =
         let x : (k - firstMiddle D) / 1024 ≡ p = omega arith in
         rw (le-ltb k (firstMiddle D) (omega arith), lt-ltb k (firstLeaf D M) (omega arith), x)
@@ -90,4 +127,9 @@ module _ (D M L : ℕ) where
 
     pub kept-past : (k : ℕ) → poolLength D M L ≤ k → keptWord D M L freeM freeL k ≡ false
     unfolding keptWord
-    kept-past k b = rw (le-ltb k (firstMiddle D) (omega arith), le-ltb k (firstLeaf D M) (omega arith), le-ltb k (poolLength D M L) b)
+    kept-past k b = rw (
+      le-ltb k (firstMiddle D) (omega arith),
+      le-ltb k (firstLeaf D M) (omega arith),
+      le-ltb k
+          (poolLength D M L) b,
+    )

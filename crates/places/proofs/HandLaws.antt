@@ -8,7 +8,8 @@ use native.Mathlib.Decide.{ℕ-discrete, decLt}
 use Rattle.theory.proofs.Logic.{by-cases}
 use Rattle.places.specs.Count.{count}
 use Rattle.places.specs.Owners.{fresh, Held, Owned, Handing}
-use Rattle.places.proofs.CountLaws.{count-yes, count-none, count-less, count-flat, count-all, count-split, count-into}
+use Rattle.places.proofs.CountLaws.{count-yes, count-none, count-less, count-flat, count-all, count-split}
+use Rattle.places.proofs.CountLaws.{count-into}
 use Rattle.places.proofs.OwnedLaws.{fresh-is, fresh-wants, fresh-old, one-place, held-taken}
 
 module _ (n m : ℕ) (want old free : ℕ → Bool) (was : ℕ → ℕ) where
@@ -35,7 +36,8 @@ module _ (n m : ℕ) (want old free : ℕ → Bool) (was : ℕ → ℕ) where
     }
 
     -- It passes over blocks that are not new, up to block `j` ..
-    pub hand-skip-to : (i j c : ℕ) → i ≤ j → ((b : ℕ) → i ≤ b → b < j → new b ≡ false) → State i c owner → State j c owner
+    pub hand-skip-to : (i j c : ℕ) → i ≤ j → ((b : ℕ) → i ≤ b → b < j → new b ≡ false) → State i c owner
+        → State j c owner
     hand-skip-to i j c le off s = record {
       held = s .held;
       low = s .low;
@@ -53,8 +55,10 @@ module _ (n m : ℕ) (want old free : ℕ → Bool) (was : ℕ → ℕ) where
     hand-skip i c s e = hand-skip-to i (suc i) c (omega arith) (λ b lo hi. let z : b ≡ i = omega arith in rw z e) s
 
     -- It gives a new block the next free place.
-    module _ (after : ℕ → ℕ) (i c p : ℕ) (s : State i c owner) (hi : i < n) (e : new i ≡ true) (lo : c ≤ p) (hp : p < m) (f : free p ≡ true)
-        (gap : (k : ℕ) → c ≤ k → k < p → free k ≡ false) (at : after p ≡ i) (off : (q : ℕ) → q ≢ p → after q ≡ owner q) where
+    module _ (after : ℕ → ℕ) (i c p : ℕ) (s : State i c owner) (hi : i < n) (e : new i ≡ true) (lo : c ≤ p)
+        (hp : p < m) (f : free p ≡ true)
+        (gap : (k : ℕ) → c ≤ k → k < p → free k ≡ false) (at : after p ≡ i)
+        (off : (q : ℕ) → q ≢ p → after q ≡ owner q) where
       was-none : n ≤ owner p
       was-none = s .ahead p lo hp f
 
@@ -117,7 +121,8 @@ module _ (n m : ℕ) (want old free : ℕ → Bool) (was : ℕ → ℕ) where
           let z = count-split want old n in
           let u = count-split (λ p. true) free m in
           let v = count-all m in
-          let w : count (λ p. not (free p)) m ≤ count (λ j. want j && old j) n = count-into (λ p. not (free p)) m (λ j. want j && old j) n owner
+          let w : count (λ p. not (free p)) m ≤ count (λ j. want j && old j) n = count-into (λ p. not (free p)) m
+          (λ j. want j && old j) n owner
           (λ p h f. taken p h (unfree (free p) f))
           (λ p q h k f g o. one-place n m want old free was (s .held) p q h k (taken p h (unfree (free p) f) .0) o) in
           omega arith

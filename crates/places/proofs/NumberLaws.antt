@@ -1,4 +1,5 @@
--- Laws of the numbers of blocks, over all domains: a number has one domain and one block, and numbers go by domain and address.
+-- Laws of the numbers of blocks, over all domains: a number has one domain and one block, and numbers go by domain
+-- and address.
 use Prim.Native.Nat.{ℕ, zero, suc, _+_, _*_, _/_, _%_, _≤_, _<_}
 use mathlib.Core.Path.{_≡_, sym, ap, _∙_}
 use mathlib.Core.Logic.{inl, inr}
@@ -21,7 +22,8 @@ number-domain zero d a hi ba = omega arith
 number-domain (suc zero) d a hi ba = omega arith
 number-domain (suc (suc h)) d a hi ba = absurd (omega arith)
 
-pub number-address : (h d a : ℕ) → h < 2 → a < addresses → addressOf h (number h d a) / block (suc h) ≡ a / block (suc h)
+pub number-address : (h d a : ℕ) → h < 2 → a < addresses → addressOf h (number h d a) / block (suc h)
+    ≡ a / block (suc h)
 number-address zero d a hi ba = omega arith
 number-address (suc zero) d a hi ba = omega arith
 number-address (suc (suc h)) d a hi ba = absurd (omega arith)
@@ -48,7 +50,8 @@ number-first h D i hi bi = rw add-zero at (number-of h D i 0 hi bi (some h))
     some zero = omega arith
     some (suc h) = omega arith
 
-pub number-order : (h d a e b : ℕ) → h < 2 → a < addresses → b < addresses → Before d a e b → number h d a ≤ number h e b
+pub number-order : (h d a e b : ℕ) → h < 2 → a < addresses → b < addresses → Before d a e b
+    → number h d a ≤ number h e b
 number-order zero d a e b hi ba bb (inl x) = omega arith
 number-order zero d a e b hi ba bb (inr (x, y)) = omega arith
 number-order (suc zero) d a e b hi ba bb (inl x) = omega arith

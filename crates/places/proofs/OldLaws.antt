@@ -1,4 +1,5 @@
--- Laws of the tables of a pool of the paper's form, by the numbers of their blocks: which walks are led to them, and where they stand.
+-- Laws of the tables of a pool of the paper's form, by the numbers of their blocks: which walks are led to them, and
+-- where they stand.
 use Prim.Native.Nat.{ℕ, zero, suc, _+_, _*_, _-_, _/_, _≤_, _<_}
 use mathlib.Core.Path.{_≡_, refl, sym, ap, _∙_}
 use mathlib.Core.Bool.{true, false, _&&_}
@@ -12,7 +13,8 @@ use Rattle.table.specs.Map.{addresses, size, index, form}
 use Rattle.table.proofs.BlockLaws.{together-block}
 use Rattle.table.specs.Shape.{firstPlace, places}
 use Rattle.table.proofs.FormLaws.{leads-place, lawful}
-use Rattle.places.specs.Final.{blocks, number, domainOf, addressOf, entryOf, oldMiddle, oldLeaf, old, was, placeAt}
+use Rattle.places.specs.Final.{blocks, number, domainOf, addressOf, entryOf, oldMiddle, oldLeaf, old, was}
+use Rattle.places.specs.Final.{placeAt}
 use Rattle.places.proofs.NumberLaws.{number-first, page-block, root-number}
 
 -- Places are numbered in order.
@@ -37,7 +39,8 @@ module _ (D M L : ℕ) (P : ℕ → ℕ) (d a : ℕ) (ba : a < addresses) where
   page-entry : entryOf P 0 (number 0 d a) ≡ P (number 1 d a) + index 1 a
   page-entry = rw (page-block d a ba .0, page-block d a ba .1)
 
-  page-old : oldLeaf P (number 0 d a) ≡ (oldMiddle P (number 1 d a) && ltb (P (P (number 1 d a) + index 1 a)) 2147483648)
+  page-old : oldLeaf P (number 0 d a) ≡ (oldMiddle P (number 1 d a)
+      && ltb (P (P (number 1 d a) + index 1 a)) 2147483648)
   page-old = rw (page-block d a ba .0, page-block d a ba .1)
 
   root-visits : Visits (form D M L) P a 2 (entry (form D M L) d a) 2 (number 1 d a)
@@ -50,8 +53,10 @@ module _ (D M L : ℕ) (P : ℕ → ℕ) (d a : ℕ) (ba : a < addresses) where
       let x : j ≡ number 1 d a = one-word (form D M L) P v root-visits (ap suc e) in
       (rw x at l, rw (x, e) refl)
 
-  -- Domain `d` is led to a table of height `h` where its block has one, and to the place that the block's entry names ..
-  pub led-old : (h s : ℕ) → Led (form D M L) P d a h s → (old P h (number h d a) ≡ true) × (P (entryOf P h (number h d a)) ≡ s)
+  -- Domain `d` is led to a table of height `h` where its block has one, and to the place that the block's entry names
+  -- ..
+  pub led-old : (h s : ℕ) → Led (form D M L) P d a h s → (old P h (number h d a) ≡ true)
+      × (P (entryOf P h (number h d a)) ≡ s)
   led-old zero s (k, v, l, e) =
       let (o, x) = page-visits v refl in
       let y : ltb (P (P (number 1 d a) + index 1 a)) 2147483648 ≡ true = rw x at l in
@@ -62,9 +67,11 @@ module _ (D M L : ℕ) (P : ℕ → ℕ) (d a : ℕ) (ba : a < addresses) where
   led-old (suc (suc h)) s x = let z = led-low (form D M L) P d a (suc (suc h)) x in absurd (omega arith)
 
   -- .. and only there.
-  pub old-led : (h : ℕ) → h < 2 → old P h (number h d a) ≡ true → Led (form D M L) P d a h (P (entryOf P h (number h d a)))
+  pub old-led : (h : ℕ) → h < 2 → old P h (number h d a) ≡ true → Led (form D M L) P d a h
+      (P (entryOf P h (number h d a)))
   old-led zero hi o =
-      let (x, y) = and-both (oldMiddle P (number 1 d a)) (ltb (P (P (number 1 d a) + index 1 a)) 2147483648) (sym page-old ∙ o) in
+      let (x, y) = and-both (oldMiddle P (number 1 d a)) (ltb (P (P (number 1 d a) + index 1 a)) 2147483648)
+      (sym page-old ∙ o) in
       (P (number 1 d a) + index 1 a, next root-visits x, y, ap P (sym page-entry))
   old-led (suc zero) hi o = (number 1 d a, root-visits, o, refl)
   old-led (suc (suc h)) hi o = absurd (omega arith)
@@ -101,7 +108,8 @@ module _ (D M L : ℕ) {P : ℕ → ℕ} (s : SoundPool (form D M L) P) (h : ℕ
       let (be, bb, y) = number-first h D j hi bj in
       let t : P (entryOf P h j) ≡ P (entryOf P h i) =
       old-at j bj q .1 ∙ ap (placeAt D M L h) (sym e) ∙ sym (old-at i bi o .1) in
-      let (f, g) = one-owner (form D M L) (lawful D M L) s (domainOf h i) (addressOf h i) (domainOf h j) (addressOf h j) h (P (entryOf P h i)) bd be
+      let (f, g) = one-owner (form D M L) (lawful D M L) s (domainOf h i) (addressOf h i) (domainOf h j)
+      (addressOf h j) h (P (entryOf P h i)) bd be
       (led-by i bi o) (rw t at (led-by j bj q)) in
       let k = together-block D M L (suc h) (addressOf h i) (addressOf h j) hi ba bb g in
       sym x ∙ rw (f, k) y

@@ -1,4 +1,5 @@
--- Laws of places that have owners: a block has one place, new tables stand in the order of their blocks, and below them no place is left over.
+-- Laws of places that have owners: a block has one place, new tables stand in the order of their blocks, and below
+-- them no place is left over.
 use Prim.Native.Nat.{ℕ, zero, suc, _≤_, _<_}
 use mathlib.Core.Path.{_≡_, refl, sym, ap, _∙_}
 use mathlib.Core.Bool.{Bool, true, false, _&&_, not, true≢false, false≢true}
@@ -49,16 +50,19 @@ module _ (n m : ℕ) (want old free : ℕ → Bool) (was : ℕ → ℕ) where
         same-rank free p q a b (x ∙ ap (count (fresh want old)) e ∙ sym y))
 
     -- New tables stand in the order of their blocks.
-    pub new-in-order : (p q : ℕ) → p < m → q < m → owner p < owner q → owner q < n → old (owner p) ≡ false → old (owner q) ≡ false → p < q
+    pub new-in-order : (p q : ℕ) → p < m → q < m → owner p < owner q → owner q < n → old (owner p) ≡ false
+        → old (owner q) ≡ false → p < q
     new-in-order p q hp hq lt hi a b =
         let lo : owner p < n = omega arith in
         let x = H .rank p hp lo a .1 in
         let y = H .rank q hq hi b .1 in
-        let z = count-less (fresh want old) (owner p) (owner q) lt (fresh-is (want (owner p)) (old (owner p)) (H .only p hp lo) a) in
+        let z = count-less (fresh want old) (owner p) (owner q) lt
+        (fresh-is (want (owner p)) (old (owner p)) (H .only p hp lo) a) in
         elim (decLt p q) [ yes r ↦ r | no r ↦ (let u = count-mono free q p (omega arith) in absurd (omega arith)) ]
 
     -- At a place that is not free stands a kept table.
-    pub held-taken : (p : ℕ) → p < m → free p ≡ false → (owner p < n) × (want (owner p) ≡ true) × (old (owner p) ≡ true) × (p ≡ was (owner p))
+    pub held-taken : (p : ℕ) → p < m → free p ≡ false → (owner p < n) × (want (owner p) ≡ true)
+        × (old (owner p) ≡ true) × (p ≡ was (owner p))
     held-taken p h f = elim (decLt (owner p) n) [
       | yes b ↦ by-cases (old (owner p))
           (λ o. (b, H .only p h b, o, H .kept p h b o .1))
@@ -68,7 +72,8 @@ module _ (n m : ℕ) (want old free : ℕ → Bool) (was : ℕ → ℕ) where
 
   module _ {owner : ℕ → ℕ} (O : Owned n m want old free was owner) where
     -- Below a new table no place is left over: else the new block of that rank would stand there.
-    ranked-there : (x j : ℕ) → x < m → j < n → free x ≡ true → fresh want old j ≡ true → count (fresh want old) j ≡ count free x → owner x ≡ j
+    ranked-there : (x j : ℕ) → x < m → j < n → free x ≡ true → fresh want old j ≡ true → count (fresh want old) j
+        ≡ count free x → owner x ≡ j
     ranked-there x j hx hj f e c =
         let (q, hq, i) = O .placed j hj (fresh-wants (want j) (old j) e) in
         let (g, k) = O .held .rank q hq (rw i hj) (rw i (fresh-old (want j) (old j) e)) in
@@ -100,14 +105,16 @@ module _ (n m : ℕ) (want old free : ℕ → Bool) (was : ℕ → ℕ) where
     seek-apart i j h k v w e = sym (seek-owner i h v .1) ∙ ap owner e ∙ seek-owner j k w .1
 
     -- A kept table stands where it was, at a place that is not free.
-    pub seek-keeps : (i : ℕ) → i < n → want i ≡ true → old i ≡ true → (free (seek owner i m) ≡ false) × (seek owner i m ≡ was i)
+    pub seek-keeps : (i : ℕ) → i < n → want i ≡ true → old i ≡ true → (free (seek owner i m) ≡ false)
+        × (seek owner i m ≡ was i)
     seek-keeps i h w o =
         let (x, y) = seek-owner i h w in
         let (f, e) = O .held .kept (seek owner i m) x (rw y h) (rw y o) in
         (f, e ∙ ap was y)
 
     -- New tables, in order of domain and address, ..
-    pub seek-order : (i j : ℕ) → i ≤ j → j < n → want i ≡ true → want j ≡ true → old i ≡ false → old j ≡ false → seek owner i m ≤ seek owner j m
+    pub seek-order : (i j : ℕ) → i ≤ j → j < n → want i ≡ true → want j ≡ true → old i ≡ false → old j ≡ false
+        → seek owner i m ≤ seek owner j m
     seek-order i j le h v w o q = elim (ℕ-discrete i j) [
       | yes e ↦ rw e (omega arith)
       | no e ↦

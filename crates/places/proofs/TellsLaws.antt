@@ -1,4 +1,5 @@
--- On the way to the finished pool that `final` gives: which words are kept, and that each word is safe to store at its turn.
+-- On the way to the finished pool that `final` gives: which words are kept, and that each word is safe to store at
+-- its turn.
 use Prim.Native.Nat.{ℕ, _+_, _*_, _/_, _%_, _<_}
 use mathlib.Core.Path.{_≡_, refl, sym, ap, _∙_}
 use mathlib.Core.Logic.{⊎-elim}
@@ -24,12 +25,14 @@ use Rattle.table.proofs.WantLaws.{tells-wants}
 use Rattle.places.specs.Count.{wantMiddle, wantLeaf}
 use Rattle.places.specs.Owners.{seek, Owned}
 use Rattle.places.proofs.OwnedLaws.{held-taken, seek-keeps}
-use Rattle.places.specs.Final.{blocks, number, want, either, oldMiddle, oldLeaf, old, wasMiddle, wasLeaf, was, placeAt, place}
+use Rattle.places.specs.Final.{blocks, number, want, either, oldMiddle, oldLeaf, old, wasMiddle, wasLeaf, was}
+use Rattle.places.specs.Final.{placeAt, place}
 use Rattle.places.specs.Final.{final, keptWord}
 use Rattle.places.proofs.NumberLaws.{number-below}
 use Rattle.places.proofs.OldLaws.{led-old, old-led}
 use Rattle.places.proofs.FinalWordLaws.{InPlace, which-word, place-table, kept-root, kept-place, kept-past}
-use Rattle.places.proofs.FinalLaws.{owned, want-got, own, place-owner, final-encodes, final-placing, final-finished}
+use Rattle.places.proofs.FinalLaws.{owned, want-got, own, place-owner, final-encodes, final-placing}
+use Rattle.places.proofs.FinalLaws.{final-finished}
 use Rattle.places.proofs.SameLaws.{both-kept}
 
 module _ (D M L : ℕ) (range : InRange D M L) {R : ℕ → ℕ → ℕ} (S : (d : ℕ) → d < D → WordRights (R d)) {P : ℕ → ℕ}
@@ -50,7 +53,8 @@ module _ (D M L : ℕ) (range : InRange D M L) {R : ℕ → ℕ → ℕ} (S : (d
   done = final-finished D M L range S sP middle leaf freeM freeL OM OL is
 
   -- A walk that visits a word below the roots was led to its table.
-  led-visited : (d a : ℕ) {m j : ℕ} → Visits F P a 2 (entry F d a) m j → m < 2 → (t : ℕ) × Led F P d a m t × (j ≡ t + index m a)
+  led-visited : (d a : ℕ) {m j : ℕ} → Visits F P a 2 (entry F d a) m j → m < 2 → (t : ℕ) × Led F P d a m t
+      × (j ≡ t + index m a)
   led-visited d a here lt = absurd (omega arith)
   led-visited d a (next {m} {j} v l) lt = (P j, (j, v, l, refl), refl)
 
@@ -58,12 +62,14 @@ module _ (D M L : ℕ) (range : InRange D M L) {R : ℕ → ℕ → ℕ} (S : (d
   taken-kept : (k h p e : ℕ) → InPlace D M L k h p e → free h p ≡ false → Kept F P Q h k
   taken-kept k h p e (hi, b, c, q) f =
       let O = owned D M L range S sP middle leaf freeM freeL OM OL is h hi in
-      let (bi, w, o, _) = held-taken (blocks h * D) (places D M L h) (want R h) (old P h) (free h) (was D M L P h) (O .held) p b f in
+      let (bi, w, o, _) = held-taken (blocks h * D) (places D M L h) (want R h) (old P h) (free h) (was D M L P h)
+      (O .held) p b f in
       let (d, a, bd, ba, n, g, s, i) = place-owner D M L range S sP middle leaf freeM freeL OM OL is h p e hi b bi c in
       let (j, v, l, t) = old-led D M L P d a ba h hi (rw n o) in
       let (x, y) = both-kept F (lawful D M L) (exact D M L) sP done d a bd ba (next v l)
       (gets-visits F (lawful D M L) (exact D M L) (λ h d a. wantsOf (R d) h a) stand (tells-wants D M L R S)
-      (final-placing D M L range S sP middle leaf freeM freeL OM OL is) (final-encodes D M L range S sP middle leaf freeM freeL OM OL is)
+      (final-placing D M L range S sP middle leaf freeM freeL OM OL is)
+      (final-encodes D M L range S sP middle leaf freeM freeL OM OL is)
       h d a bd ba (omega arith) g) in
       let z : P j + index h a ≡ k = x ∙ ap (λ u. u + index h a) s ∙ ap (λ u. placeAt D M L h p + u) i ∙ sym q in
       rw z at y
@@ -73,13 +79,15 @@ module _ (D M L : ℕ) (range : InRange D M L) {R : ℕ → ℕ → ℕ} (S : (d
   kept-taken h k hi x =
       let (d, a, bd, ba, v, w) = kept-met F (exact D M L) x in
       let (g, q) = visits-gets F (lawful D M L) (exact D M L) (λ h d a. wantsOf (R d) h a) stand (tells-wants D M L R S)
-      (final-placing D M L range S sP middle leaf freeM freeL OM OL is) (final-encodes D M L range S sP middle leaf freeM freeL OM OL is)
+      (final-placing D M L range S sP middle leaf freeM freeL OM OL is)
+      (final-encodes D M L range S sP middle leaf freeM freeL OM OL is)
       d a bd ba w in
       let (t, led, _) = led-visited d a v hi in
       let (o, _) = led-old D M L P d a ba h t led in
       let O = owned D M L range S sP middle leaf freeM freeL OM OL is h hi in
       let (f, _) = seek-keeps (blocks h * D) (places D M L h) (want R h) (old P h) (free h) (was D M L P h) O
-      (number h d a) (number-below h D d a hi bd ba) (want-got D M L range S sP middle leaf freeM freeL OM OL is h d a hi ba g) o in
+      (number h d a) (number-below h D d a hi bd ba)
+      (want-got D M L range S sP middle leaf freeM freeL OM OL is h d a hi ba g) o in
       let b = own D M L range S sP middle leaf freeM freeL OM OL is h d a hi bd ba g .0 in (
         seek (either leaf middle h) (number h d a) (places D M L h),
         index h a,
@@ -107,7 +115,8 @@ module _ (D M L : ℕ) (range : InRange D M L) {R : ℕ → ℕ → ℕ} (S : (d
   tells-are k w = ⊎-elim
       (λ b. in-zone (root-kept k b))
       (⊎-elim
-      (λ (h, p, e, x). in-zone (taken-kept k h p e x (not-true (free h p) (sym (kept-place D M L freeM freeL k h p e x) ∙ w))))
+      (λ (h, p, e, x). in-zone (taken-kept k h p e x
+      (not-true (free h p) (sym (kept-place D M L freeM freeL k h p e x) ∙ w))))
       (λ b. absurd (true≢false (sym w ∙ kept-past D M L freeM freeL k b))))
       (which-word D M L k)
 

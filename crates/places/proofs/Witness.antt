@@ -1,5 +1,5 @@
--- Fitting is neither always so nor never: the change that makes two middle tables and two leaves fits where there are two places of each,
--- and not where there is one place fewer.
+-- Fitting is neither always so nor never: the change that makes two middle tables and two leaves fits where there are
+-- two places of each, and not where there is one place fewer.
 use Prim.Native.Nat.{ℕ, suc, _<_}
 use mathlib.Core.Path.{_≡_, _∙_}
 use mathlib.Core.Bool.{true}
@@ -24,19 +24,24 @@ made-wanted : (a h t : ℕ) → h < 2 → MadeAt a h t → want painted h (numbe
 made-wanted a h t hi (bd, ba, x, _) =
     want-number painted h 0 a hi ba
     ∙ divided-wants (painted 0) (suc h) a (painted-rights (rounded 0x3FFFFC 8) 2 (λ b. 0) (omega arith) none-rights)
-    (wanting 1 2 2 .same (suc h) a (rightOf (form 1 2 2) after 0) (painted 0) (λ b bb. two-of-each-finished .rights 0 b bd bb)
+    (wanting 1 2 2 .same (suc h) a (rightOf (form 1 2 2) after 0) (painted 0)
+    (λ b bb. two-of-each-finished .rights 0 b bd bb)
     (two-of-each-finished .settled .wanted bd ba hi (t, x)))
 
 pub one-middle-too-few : Room 1 1 2 painted → ⊥
 one-middle-too-few f =
-    let x = count-less (wantMiddle painted) 0 1 (omega arith) (made-wanted 0x3FFFFC 1 1024 (omega arith) (two-of-each-made .0)) in
-    let y = count-less (wantMiddle painted) 1 1024 (omega arith) (made-wanted 0x400000 1 2048 (omega arith) (two-of-each-made .1)) in
+    let x = count-less (wantMiddle painted) 0 1 (omega arith)
+    (made-wanted 0x3FFFFC 1 1024 (omega arith) (two-of-each-made .0)) in
+    let y = count-less (wantMiddle painted) 1 1024 (omega arith)
+    (made-wanted 0x400000 1 2048 (omega arith) (two-of-each-made .1)) in
     let z = f .middles in
     omega arith
 
 pub one-leaf-too-few : Room 1 2 1 painted → ⊥
 one-leaf-too-few f =
-    let x = count-less (wantLeaf painted) 1023 1024 (omega arith) (made-wanted 0x3FFFFC 0 3072 (omega arith) (two-of-each-made .2)) in
-    let y = count-less (wantLeaf painted) 1024 1048576 (omega arith) (made-wanted 0x400000 0 3136 (omega arith) (two-of-each-made .3)) in
+    let x = count-less (wantLeaf painted) 1023 1024 (omega arith)
+    (made-wanted 0x3FFFFC 0 3072 (omega arith) (two-of-each-made .2)) in
+    let y = count-less (wantLeaf painted) 1024 1048576 (omega arith)
+    (made-wanted 0x400000 0 3136 (omega arith) (two-of-each-made .3)) in
     let z = f .leaves in
     omega arith

@@ -77,9 +77,11 @@ module _ (D M L : ℕ) where
       tableWord zero i e = saidOf (R (domainOf 0 i)) 0 (addressOf 0 i + 64 * e)
       tableWord (suc h) i e = entryWord 0 (1024 * i + e)
 
-      -- Entry `e` of place `p`, which is word `k`: of the table that stands there; else the place holds what it held before.
+      -- Entry `e` of place `p`, which is word `k`: of the table that stands there; else the place holds what it held
+      -- before.
       abbrev pub placeWord : ℕ → ℕ → ℕ → ℕ → ℕ
-      placeWord h k p e = cond (ltb (either leaf middle h p) (blocks h * D)) (tableWord h (either leaf middle h p) e) (P k)
+      placeWord h k p e = cond (ltb (either leaf middle h p) (blocks h * D)) (tableWord h (either leaf middle h p) e)
+          (P k)
 
       -- Word `k` of the finished pool.
       unfoldable pub final : ℕ → ℕ

@@ -1,4 +1,5 @@
--- What a plan makes of a word, and whether it takes it for a new one, by cases: whatever is right in each case is what it is.
+-- What a plan makes of a word, and whether it takes it for a new one, by cases: whatever is right in each case is
+-- what it is.
 use Prim.Native.Nat.{ℕ, _*_, _-_}
 use mathlib.Core.Path.{_≡_, refl}
 use mathlib.Core.Bool.{Bool, true, false, cond, _&&_, _||_, not, false≢true, true≢false}
@@ -24,8 +25,10 @@ module _ (q : Plan) (k x z : ℕ) where
       → after q k x ≡ z
   unfolding after
   after-any r fb lb fp lp rest =
-      if-test in-root r (λ a. if-test (tableOf (q .«first_block») 1024 k) fb (λ b. if-test (tableOf (q .«last_block») 1024 k) lb
-      (λ c. if-test (tableOf (q .«first_page») 64 k) fp (λ e. if-test (tableOf (q .«last_page») 64 k) lp (λ f. rest a b c e f)))))
+      if-test in-root r (λ a. if-test (tableOf (q .«first_block») 1024 k) fb
+      (λ b. if-test (tableOf (q .«last_block») 1024 k) lb
+      (λ c. if-test (tableOf (q .«first_page») 64 k) fp
+      (λ e. if-test (tableOf (q .«last_page») 64 k) lp (λ f. rest a b c e f)))))
 
 -- Word `k` is of a new table of the edge.
 abbrev pub newIn : Edge → ℕ → ℕ → Bool
@@ -48,15 +51,19 @@ in-new e n k = go (isLead (e .last)) (isLead (e .old)) (InTable (e .last) n k)
     go true false i e f = e
     go false o i e f = absurd (false≢true e)
 
-pub new-any : (q : Plan) (k : ℕ) {z : Bool} → (newIn (q .«first_block») 1024 k ≡ true → true ≡ z) → (newIn (q .«last_block») 1024 k ≡ true → true ≡ z)
+pub new-any : (q : Plan) (k : ℕ) {z : Bool} → (newIn (q .«first_block») 1024 k ≡ true → true ≡ z)
+    → (newIn (q .«last_block») 1024 k ≡ true → true ≡ z)
     → (newIn (q .«first_page») 64 k ≡ true → true ≡ z) → (newIn (q .«last_page») 64 k ≡ true → true ≡ z)
-    → (newIn (q .«first_block») 1024 k ≡ false → newIn (q .«last_block») 1024 k ≡ false → newIn (q .«first_page») 64 k ≡ false
+    → (newIn (q .«first_block») 1024 k ≡ false → newIn (q .«last_block») 1024 k ≡ false → newIn (q .«first_page») 64 k
+    ≡ false
     → newIn (q .«last_page») 64 k ≡ false → false ≡ z)
     → newWord q k ≡ z
 unfolding newWord
-new-any q k = go (newIn (q .«first_block») 1024 k) (newIn (q .«last_block») 1024 k) (newIn (q .«first_page») 64 k) (newIn (q .«last_page») 64 k)
+new-any q k = go (newIn (q .«first_block») 1024 k) (newIn (q .«last_block») 1024 k) (newIn (q .«first_page») 64 k)
+    (newIn (q .«last_page») 64 k)
   where
-    go : (a b c e : Bool) {z : Bool} → (a ≡ true → true ≡ z) → (b ≡ true → true ≡ z) → (c ≡ true → true ≡ z) → (e ≡ true → true ≡ z)
+    go : (a b c e : Bool) {z : Bool} → (a ≡ true → true ≡ z) → (b ≡ true → true ≡ z) → (c ≡ true → true ≡ z)
+        → (e ≡ true → true ≡ z)
         → (a ≡ false → b ≡ false → c ≡ false → e ≡ false → false ≡ z) → (a || b || c || e) ≡ z
     go true b c e f g h i j = f refl
     go false true c e f g h i j = g refl

@@ -22,7 +22,8 @@ module _ (s : Shape) (d : ℕ) (paint : Paint) (P : ℕ → ℕ) where
   aims-covered e a (q, c) = rw (eq-eqb e d q, c) refl
 
   pub aims-other : (e a : ℕ) → (Covered d paint e a → ⊥) → aims s d paint P e a ≡ rightOf (formOf s) P e a
-  aims-other e a n = ap (λ b. cond b (paint .right) (rightOf (formOf s) P e a)) (off (eqb e d) (covered (region paint) a) (λ x y. n (eqb-true e d x, y)))
+  aims-other e a n = ap (λ b. cond b (paint .right) (rightOf (formOf s) P e a))
+      (off (eqb e d) (covered (region paint) a) (λ x y. n (eqb-true e d x, y)))
     where
       off : (x y : Bool) → (x ≡ true → y ≡ true → ⊥) → (x && y) ≡ false
       off true true f = absurd (f refl refl)
@@ -32,7 +33,8 @@ module _ (s : Shape) (d : ℕ) (paint : Paint) (P : ℕ → ℕ) where
 -- Whether a right is one that the change sets.
 pub covered-or : (d : ℕ) (paint : Paint) (e a : ℕ) → Covered d paint e a ⊎ (Covered d paint e a → ⊥)
 covered-or d paint e a = elim (ℕ-discrete e d) [
-  | yes q ↦ by-cases (covered (region paint) a) (λ c. inl (q, c)) (λ c. inr (λ z. let x : _≡_ {A = Bool} true false = sym (z .1) ∙ c in apart x))
+  | yes q ↦ by-cases (covered (region paint) a) (λ c. inl (q, c))
+      (λ c. inr (λ z. let x : _≡_ {A = Bool} true false = sym (z .1) ∙ c in apart x))
   | no q ↦ inr (λ z. q (z .0))
 ]
   where

@@ -11,7 +11,8 @@ use Rattle.table.specs.Wants.{wordAt, wordsIn, mixed, wantsOf, above, saidOf}
 use Rattle.table.proofs.BlockLaws.{first-word, word-below, word-block}
 use Rattle.table.proofs.WantLaws.{any-which, any-same, mixed-which}
 
-module _ (R T : ℕ → ℕ) (h a : ℕ) (ba : a < addresses) (near : (b : ℕ) → b < addresses → b / block h ≡ a / block h → R b ≡ T b) where
+module _ (R T : ℕ → ℕ) (h a : ℕ) (ba : a < addresses)
+    (near : (b : ℕ) → b < addresses → b / block h ≡ a / block h → R b ≡ T b) where
   near-word : (i j : ℕ) → i < parts h → j < wordsIn h → R (wordAt h a i j) ≡ T (wordAt h a i j)
   near-word i j bi bj = near (wordAt h a i j) (word-below h a i j ba bi bj) (word-block h a i j bi bj)
 

@@ -1,5 +1,5 @@
--- Laws of a plan before places are given out: the entry of a page is readable and gives the page's rights, and a drafted edge tells what its block
--- wants and had.
+-- Laws of a plan before places are given out: the entry of a page is readable and gives the page's rights, and a
+-- drafted edge tells what its block wants and had.
 use Prim.Native.Nat.{ℕ, zero, suc, _+_, _*_, _-_, _/_, _%_, _≤_, _<_}
 use mathlib.Core.Path.{_≡_, refl, sym, subst, ap, _∙_, fun-ext}
 use mathlib.Core.Bool.{true, false, cond, _&&_, true≢false}
@@ -32,10 +32,12 @@ use Rattle.plan.specs.declared.Plan.{Plan}
 use Rattle.plan.specs.Plan.{isLead}
 use Rattle.plan.specs.Aims.{aims}
 use Rattle.plan.specs.Planning.{Regular}
-use Rattle.plan.specs.Edges.{firstOf, lastOf, entryAt, edgeFor, edgeAt, ReadableRoot, RootGives, draftOf, Told, EndsTold}
+use Rattle.plan.specs.Edges.{firstOf, lastOf, entryAt, edgeFor, edgeAt, ReadableRoot, RootGives, draftOf, Told}
+use Rattle.plan.specs.Edges.{EndsTold}
 
 -- The root words of a sound pool are readable, and give the domain's rights.
-pub pool-root : (s : Shape) (p : List ℕ) (d : ℕ) → Fits s (length p) → Settled (formOf s) (words p) → d < s .domains → ReadableRoot p d
+pub pool-root : (s : Shape) (p : List ℕ) (d : ℕ) → Fits s (length p) → Settled (formOf s) (words p) → d < s .domains
+    → ReadableRoot p d
 pool-root s p d f q bd b bb = (let l = f .long in omega arith, root-readable s p f (q .sound) d b bd bb)
 
 pub pool-gives : (s : Shape) (P : ℕ → ℕ) (d : ℕ) → RootGives P d (rightOf (formOf s) P d)
@@ -54,7 +56,8 @@ module _ (p : List ℕ) (d n : ℕ) (bn : n < 1048576) where
 
   pub entry-readable : ReadableRoot p d → Readable p 1 (entryAt (words p) 0 d n)
   entry-readable z = by-cases (isLead root)
-      (λ l. subst (Readable p 1) (sym (entry-led l)) (z (n / 1024) (omega arith) .1 .entries l (n % 1024) (omega arith)))
+      (λ l. subst (Readable p 1) (sym (entry-led l))
+      (z (n / 1024) (omega arith) .1 .entries l (n % 1024) (omega arith)))
       (λ l. subst (Readable p 1) (sym (entry-stood l)) (virtual-readable p _ (right-small root _)))
 
   pub entry-gives : (R : ℕ → ℕ) → RootGives (words p) d R → Gives (words p) 1 (entryAt (words p) 0 d n) n R
@@ -69,7 +72,8 @@ module _ (p : List ℕ) (d n : ℕ) (bn : n < 1048576) where
 
 -- A pointer that waits for its place leads.
 waits : (x : ℕ) → isLead (cond (isLead x) x 2147483647) ≡ true
-waits x = by-cases (isLead x) (λ l. ap (λ t. isLead (cond t x 2147483647)) l ∙ l) (λ l. ap (λ t. isLead (cond t x 2147483647)) l)
+waits x = by-cases (isLead x) (λ l. ap (λ t. isLead (cond t x 2147483647)) l ∙ l)
+    (λ l. ap (λ t. isLead (cond t x 2147483647)) l)
 
 module _ (s : Shape) (d : ℕ) (paint : Paint) (P : ℕ → ℕ) (small : paint .right < 4) where
   abbrev T : ℕ → ℕ → ℕ
@@ -81,7 +85,8 @@ module _ (s : Shape) (d : ℕ) (paint : Paint) (P : ℕ → ℕ) (small : paint 
 
   aims-painted : (a : ℕ) → T d a ≡ goal a
   unfolding painted
-  aims-painted a = ap (λ t. cond (t && covered (region paint) a) (paint .right) (rightOf (formOf s) P d a)) (eq-eqb d d refl)
+  aims-painted a = ap (λ t. cond (t && covered (region paint) a) (paint .right) (rightOf (formOf s) P d a))
+      (eq-eqb d d refl)
 
   module _ (h n : ℕ) (hi : h < 2) (bn : n < blocks h) where
     abbrev i : ℕ
@@ -119,10 +124,12 @@ module _ (s : Shape) (d : ℕ) (paint : Paint) (P : ℕ → ℕ) (small : paint 
 
     goal-rights : WordRights goal
     goal-rights = subst WordRights (fun-ext aims-painted)
-        (changed-rights (rightOf (formOf s) P) d (region paint) (paint .right) d small (pool-rights (s .domains) (s .middles) (s .leaves) P d))
+        (changed-rights (rightOf (formOf s) P) d (region paint) (paint .right) d small
+        (pool-rights (s .domains) (s .middles) (s .leaves) P d))
 
     rests : wantsOf goal (suc h) a ≡ false → isLead (saidOf goal (suc h) a) ≡ false
-    rests w = wants-says (s .domains) (s .middles) (s .leaves) goal (suc h) a goal-rights (omega arith) (inside h hi bn) w .rights
+    rests w = wants-says (s .domains) (s .middles) (s .leaves) goal (suc h) a goal-rights (omega arith)
+        (inside h hi bn) w .rights
 
     told-mixed : wantsOf goal (suc h) a ≡ true → Told s d paint P h n (edgeFor n (entryAt P h d n) Mixed)
     told-mixed w = record {
@@ -133,7 +140,8 @@ module _ (s : Shape) (d : ℕ) (paint : Paint) (P : ℕ → ℕ) (small : paint 
       said = λ l. absurd (true≢false (sym (waits (entryAt P h d n)) ∙ l));
     }
 
-    told-said : wantsOf goal (suc h) a ≡ false → Told s d paint P h n (edgeFor n (entryAt P h d n) (Says (saidOf goal (suc h) a)))
+    told-said : wantsOf goal (suc h) a ≡ false → Told s d paint P h n
+        (edgeFor n (entryAt P h d n) (Says (saidOf goal (suc h) a)))
     told-said w = record {
       number = refl;
       old = refl;
@@ -144,17 +152,21 @@ module _ (s : Shape) (d : ℕ) (paint : Paint) (P : ℕ → ℕ) (small : paint 
 
     pub drafted : Told s d paint P h n (edgeAt P d paint (rightOf (formOf s) P d) h n)
     drafted = by-cases (wantsOf goal (suc h) a)
-        (λ w. subst (λ t. Told s d paint P h n (edgeFor n (entryAt P h d n) t)) (sym (wanted-mixed goal (suc h) a w)) (told-mixed w))
-        (λ w. subst (λ t. Told s d paint P h n (edgeFor n (entryAt P h d n) t)) (sym (unwanted-said goal (suc h) a w)) (told-said w))
+        (λ w. subst (λ t. Told s d paint P h n (edgeFor n (entryAt P h d n) t)) (sym (wanted-mixed goal (suc h) a w))
+        (told-mixed w))
+        (λ w. subst (λ t. Told s d paint P h n (edgeFor n (entryAt P h d n) t)) (sym (unwanted-said goal (suc h) a w))
+        (told-said w))
 
 -- The ends of a region lie in memory, in order.
-pub ends-below : (paint : Paint) → Regular paint → (h : ℕ) → h < 2 → (firstOf h paint ≤ lastOf h paint) × (lastOf h paint < blocks h)
+pub ends-below : (paint : Paint) → Regular paint → (h : ℕ) → h < 2 → (firstOf h paint ≤ lastOf h paint)
+    × (lastOf h paint < blocks h)
 ends-below paint g zero hi = (omega arith, omega arith)
 ends-below paint g (suc zero) hi = (omega arith, omega arith)
 ends-below paint g (suc (suc h)) hi = absurd (omega arith)
 
 pub drafted-ends : (s : Shape) (d : ℕ) (paint : Paint) (P : ℕ → ℕ) → Regular paint → (h : ℕ) → h < 2
-    → EndsTold s d paint P h (edgeAt P d paint (rightOf (formOf s) P d) h (firstOf h paint)) (edgeAt P d paint (rightOf (formOf s) P d) h (lastOf h paint))
+    → EndsTold s d paint P h (edgeAt P d paint (rightOf (formOf s) P d) h (firstOf h paint))
+    (edgeAt P d paint (rightOf (formOf s) P d) h (lastOf h paint))
 drafted-ends s d paint P g h hi =
     let (x, y) = ends-below paint g h hi in
     record {
@@ -163,8 +175,10 @@ drafted-ends s d paint P g h hi =
     }
 
 -- An edge has its block's number.
-pub edge-number : (P : ℕ → ℕ) (d : ℕ) (paint : Paint) (R : ℕ → ℕ) (a : Edge) (h n : ℕ) → a ≡ edgeAt P d paint R h n → a ≡ edgeAt P d paint R h (a .number)
-edge-number P d paint R a h n e = e ∙ ap (edgeAt P d paint R h) (sym (ap (λ (x : Edge). x .number) e ∙ number (targetOf (painted paint R) (suc h) (n * block (suc h)))))
+pub edge-number : (P : ℕ → ℕ) (d : ℕ) (paint : Paint) (R : ℕ → ℕ) (a : Edge) (h n : ℕ) → a ≡ edgeAt P d paint R h n
+    → a ≡ edgeAt P d paint R h (a .number)
+edge-number P d paint R a h n e = e ∙ ap (edgeAt P d paint R h)
+    (sym (ap (λ (x : Edge). x .number) e ∙ number (targetOf (painted paint R) (suc h) (n * block (suc h)))))
   where
     number : (t : Target) → edgeFor n (entryAt P h d n) t .number ≡ n
     number (Says w) = refl
@@ -174,7 +188,15 @@ edge-number P d paint R a h n e = e ∙ ap (edgeAt P d paint R h) (sym (ap (λ (
 pub draft-is : (P : ℕ → ℕ) (d : ℕ) (paint : Paint) (R : ℕ → ℕ) → Regular paint → (a b c e : Edge)
     → a ≡ edgeAt P d paint R 1 (paint .lo / 1048576) → b ≡ edgeAt P d paint R 1 ((paint .hi - 1) / 1048576)
     → c ≡ edgeAt P d paint R 0 (paint .lo / 1024) → e ≡ edgeAt P d paint R 0 ((paint .hi - 1) / 1024)
-    → _≡_ {A = Plan} (record { domain = d; paint = paint; «first_block» = a; «last_block» = b; «first_page» = c; «last_page» = e }) (draftOf P d paint R)
+    → _≡_ {A = Plan} (record {
+      domain = d;
+      paint = paint;
+      «first_block» = a;
+      «last_block» = b;
+      «first_page» =
+          c;
+      «last_page» = e;
+    }) (draftOf P d paint R)
 draft-is P d paint R g a b c e p q r t =
     let u : 4 * paint .lo / 4194304 ≡ paint .lo / 1048576 = omega arith in
     let v : (4 * paint .hi - 1) / 4194304 ≡ (paint .hi - 1) / 1048576 = omega arith in

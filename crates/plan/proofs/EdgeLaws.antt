@@ -1,4 +1,5 @@
--- Laws of the edges of a plan: a word is of an edge's table exactly where it is of the place that the edge's block owns.
+-- Laws of the edges of a plan: a word is of an edge's table exactly where it is of the place that the edge's block
+-- owns.
 use Prim.Native.Nat.{ℕ, zero, suc, _+_, _*_, _-_, _<_}
 use mathlib.Core.Path.{_≡_, refl, sym, ap, _∙_}
 use mathlib.Core.Bool.{Bool, true}
@@ -34,7 +35,8 @@ last-below paint g zero hi = omega arith
 last-below paint g (suc zero) hi = omega arith
 last-below paint g (suc (suc h)) hi = absurd (omega arith)
 
-module _ {s : Shape} {d : ℕ} {paint : Paint} {P middle leaf : ℕ → ℕ} {freeM freeL : ℕ → Bool} (c : Setting s d paint P middle leaf freeM freeL) where
+module _ {s : Shape} {d : ℕ} {paint : Paint} {P middle leaf : ℕ → ℕ} {freeM freeL : ℕ → Bool}
+    (c : Setting s d paint P middle leaf freeM freeL) where
   abbrev D : ℕ
   D = s .domains
 
@@ -64,7 +66,8 @@ module _ {s : Shape} {d : ℕ} {paint : Paint} {P middle leaf : ℕ → ℕ} {fr
     edge-old = ap isLead (E .old) ∙ old-leads D M L P d h n hi bn
 
     -- A word of the edge's table is of the place that the block owns ..
-    pub table-place : (k : ℕ) → inEdge e (size h) k ≡ true → (p : ℕ) × InPlace D M L k h p (k - e .last) × (owner h p ≡ i)
+    pub table-place : (k : ℕ) → inEdge e (size h) k ≡ true → (p : ℕ) × InPlace D M L k h p (k - e .last)
+        × (owner h p ≡ i)
     table-place k t =
         let bi = in-domain h n hi bn in
         let (l, x) = and-both (isLead (e .last)) (InTable (e .last) (size h) k) t in
@@ -84,5 +87,11 @@ module _ {s : Shape} {d : ℕ} {paint : Paint} {P middle leaf : ℕ → ℕ} {fr
         let w : want T h i ≡ true = rw o at (placed c h hi .held .only p bp (rw o bi)) in
         let z : seek (owner h) i (places D M L h) ≡ p =
         ap (λ u. seek (owner h) u (places D M L h)) (sym o) ∙ owner-seek _ _ _ _ _ _ (placed c h hi) p bp (rw o bi) in
-        let f : e .last ≡ placeAt D M L h p = E .last ∙ entry-leads D M L middle leaf T P h i w ∙ ap (placeAt D M L h) z in
-        rw (ap isLead (E .last) ∙ entry-lead c h i hi bi ∙ w, le-leb (e .last) k (omega arith), lt-ltb k (e .last + size h) (omega arith)) refl
+        let f : e .last ≡ placeAt D M L h p = E .last ∙ entry-leads D M L middle leaf T P h i w
+        ∙ ap (placeAt D M L h) z in
+        rw (
+          ap isLead (E .last) ∙ entry-lead c h i hi bi ∙ w,
+          le-leb (e .last) k (omega arith),
+          lt-ltb k
+              (e .last + size h) (omega arith),
+        ) refl

@@ -42,7 +42,8 @@ pub settle : {x u v : ℕ} → v ≡ u → (x ≡ u) ⊎ (x ≡ v) → x ≡ v
 settle e (inl p) = p ∙ sym e
 settle e (inr p) = p
 
-module _ {s : Shape} {d : ℕ} {paint : Paint} {P middle leaf : ℕ → ℕ} {freeM freeL : ℕ → Bool} (c : Setting s d paint P middle leaf freeM freeL) where
+module _ {s : Shape} {d : ℕ} {paint : Paint} {P middle leaf : ℕ → ℕ} {freeM freeL : ℕ → Bool}
+    (c : Setting s d paint P middle leaf freeM freeL) where
   abbrev D : ℕ
   D = s .domains
 
@@ -67,7 +68,8 @@ module _ {s : Shape} {d : ℕ} {paint : Paint} {P middle leaf : ℕ → ℕ} {fr
   -- A word of a place that has an owner.
   pub owned-word : (k h p j : ℕ) → InPlace D M L k h p j → either leaf middle h p < blocks h * D
       → Q k ≡ tableWord D M L middle leaf T P h (either leaf middle h p) j
-  owned-word k h p j x b = final-place D M L middle leaf T P k h p j x ∙ place-owned D M L middle leaf T P h k p j _ refl b
+  owned-word k h p j x b = final-place D M L middle leaf T P k h p j x ∙ place-owned D M L middle leaf T P h k p j _
+      refl b
 
   -- A leaf entry, painted, is the finished one: where it gives the old rights of its 64 bytes, or the finished ones.
   painted-aims : (X : ℕ → ℕ) (b : ℕ) → (X b ≡ R d b) ⊎ (X b ≡ T d b) → painted paint X b ≡ T d b
@@ -79,7 +81,8 @@ module _ {s : Shape} {d : ℕ} {paint : Paint} {P middle leaf : ℕ → ℕ} {fr
       ap (λ t. cond t (paint .right) (X b)) v ∙ ⊎-elim (λ z. z ∙ sym y) (λ z. z) e)
 
   leaf-painted : (o n j w : ℕ) → o ≡ 1048576 * d + n → n < 1048576 → j < 64
-      → ((b : ℕ) → b < addresses → b / 64 ≡ 64 * n + j → (rightAt w (b / 4 % 16) ≡ R d b) ⊎ (rightAt w (b / 4 % 16) ≡ T d b))
+      → ((b : ℕ) → b < addresses → b / 64 ≡ 64 * n + j → (rightAt w (b / 4 % 16) ≡ R d b)
+      ⊎ (rightAt w (b / 4 % 16) ≡ T d b))
       → paintedLeaf paint w (64 * n + j) ≡ tableWord D M L middle leaf T P 0 o j
   leaf-painted o n j w q bn bj f =
       let x : domainOf 0 o ≡ d = omega arith in
@@ -88,8 +91,10 @@ module _ {s : Shape} {d : ℕ} {paint : Paint} {P middle leaf : ℕ → ℕ} {fr
       (λ b bb z. painted-aims (λ a. rightAt w (a / 4 % 16)) b (f b bb (omega arith)))
       ∙ sym (ap (λ u. saidOf (T u) 0 (addressOf 0 o + 64 * j)) x ∙ ap (λ u. saidOf (T d) 0 u) y)
 
-  -- Entry `j` of the leaf of page `n`, at place `p`: what it held gave the old rights of its 64 bytes, and the finished word gives theirs.
-  module _ (n : ℕ) (bn : n < 1048576) (g : Edge) (G : EdgeIs s d paint P middle leaf 0 n g) (k p j : ℕ) (ip : InPlace D M L k 0 p j)
+  -- Entry `j` of the leaf of page `n`, at place `p`: what it held gave the old rights of its 64 bytes, and the
+  -- finished word gives theirs.
+  module _ (n : ℕ) (bn : n < 1048576) (g : Edge) (G : EdgeIs s d paint P middle leaf 0 n g) (k p j : ℕ)
+      (ip : InPlace D M L k 0 p j)
       (o : leaf p ≡ 1048576 * d + n) where
     abbrev e : ℕ
     e = domainOf 0 (leaf p)
@@ -106,7 +111,8 @@ module _ {s : Shape} {d : ℕ} {paint : Paint} {P middle leaf : ℕ → ℕ} {fr
     together : (b : ℕ) → b / 64 ≡ 64 * n + j → a / 64 ≡ b / 64
     together b y = omega arith
 
-    old-leaf : (b : ℕ) → b < addresses → b / 64 ≡ 64 * n + j → isLead (g .old) ≡ true → rightAt (P k) (b / 4 % 16) ≡ R d b
+    old-leaf : (b : ℕ) → b < addresses → b / 64 ≡ 64 * n + j → isLead (g .old) ≡ true → rightAt (P k) (b / 4 % 16)
+        ≡ R d b
     old-leaf b bb y l =
         says-at F (lawful D M L) P (c .settled .sound) e a 0 k (omega arith)
         (place-visits c k 0 p j ip bound (ap (old P 0) o ∙ sym (edge-old c 0 n (omega arith) bn g G) ∙ l)) refl
@@ -116,7 +122,8 @@ module _ {s : Shape} {d : ℕ} {paint : Paint} {P middle leaf : ℕ → ℕ} {fr
     finished-leaf : (b : ℕ) → b < addresses → b / 64 ≡ 64 * n + j → rightAt (Q k) (b / 4 % 16) ≡ T d b
     finished-leaf b bb y =
         ap (λ u. rightAt u (b / 4 % 16)) (owned-word k 0 p j ip bound)
-        ∙ wants-says D M L (T e) 0 a (aims-rights c e) (omega arith) (omega arith) (wants-leaf (T e) a) .each b bb (block-together D M L 0 a b (together b y))
+        ∙ wants-says D M L (T e) 0 a (aims-rights c e) (omega arith) (omega arith) (wants-leaf (T e) a) .each b bb
+        (block-together D M L 0 a b (together b y))
         ∙ ap (λ u. T u b) own-domain
 
     -- A page without a leaf: its entry gave one right to each 512 bytes.
@@ -139,7 +146,8 @@ module _ {s : Shape} {d : ℕ} {paint : Paint} {P middle leaf : ℕ → ℕ} {fr
         (λ z. inl (w ∙ ap (λ u. rightAt u (b / 4 % 16)) z ∙ old-leaf b bb y l))
         (λ z. inr (w ∙ ap (λ u. rightAt u (b / 4 % 16)) z ∙ finished-leaf b bb y))
         v)
-        (λ l. inl (ap (λ t. rightAt (cond t x (sixteenOf (rightAt (g .old) (j / 8)))) (b / 4 % 16)) l ∙ new-leaf b bb y l))
+        (λ l. inl (ap (λ t. rightAt (cond t x (sixteenOf (rightAt (g .old) (j / 8)))) (b / 4 % 16)) l
+        ∙ new-leaf b bb y l))
 
     leaf-at : (q : Plan) → Edges s d paint P middle leaf q → (x : ℕ) → (x ≡ P k) ⊎ (x ≡ Q k) → leafAfter q g j x ≡ Q k
     leaf-at q E x v =
@@ -150,7 +158,8 @@ module _ {s : Shape} {d : ℕ} {paint : Paint} {P middle leaf : ℕ → ℕ} {fr
         ∙ sym (owned-word k 0 p j ip bound)
 
   -- Entry `j` of the middle table of block `n`, at place `p`, is the entry of page `1024 * n + j`.
-  module _ (n : ℕ) (bn : n < 1024) (b : Edge) (B : EdgeIs s d paint P middle leaf 1 n b) (k p j : ℕ) (ip : InPlace D M L k 1 p j)
+  module _ (n : ℕ) (bn : n < 1024) (b : Edge) (B : EdgeIs s d paint P middle leaf 1 n b) (k p j : ℕ)
+      (ip : InPlace D M L k 1 p j)
       (o : middle p ≡ 1024 * d + n) where
     abbrev i : ℕ
     i = 1024 * middle p + j
@@ -175,9 +184,11 @@ module _ {s : Shape} {d : ℕ} {paint : Paint} {P middle leaf : ℕ → ℕ} {fr
         → cond (isLead (b .old)) x (eightOf (rightAt (b .old) (j / 128))) ≡ Q k
     page-outside st x v = by-cases (isLead (b .old))
         (λ l. ap (λ t. cond t x (eightOf (rightAt (b .old) (j / 128)))) l
-        ∙ settle (owned-word k 1 p j ip in-block ∙ middle-stays c k p j ip in-block (ap (old P 1) o ∙ sym (edge-old c 1 n (omega arith) bn b B) ∙ l) st) v)
+        ∙ settle (owned-word k 1 p j ip in-block ∙ middle-stays c k p j ip in-block
+        (ap (old P 1) o ∙ sym (edge-old c 1 n (omega arith) bn b B) ∙ l) st) v)
         (λ l. ap (λ t. cond t x (eightOf (rightAt (b .old) (j / 128)))) l
-        ∙ sym (owned-word k 1 p j ip in-block ∙ plain-entry c 0 i (omega arith) page-below (rightAt (b .old) (j / 128)) (stood l)))
+        ∙ sym (owned-word k 1 p j ip in-block ∙ plain-entry c 0 i (omega arith) page-below
+        (rightAt (b .old) (j / 128)) (stood l)))
       where
         stood : isLead (b .old) ≡ false → Plain s d paint P 0 i (rightAt (b .old) (j / 128))
         stood l y by e =
@@ -197,21 +208,25 @@ module _ {s : Shape} {d : ℕ} {paint : Paint} {P middle leaf : ℕ → ℕ} {fr
         chosen m (q .«first_page» .number) (q .«last_page» .number)
         (λ g. E .first-page .last ∙ ap (entryWord D M L middle leaf T P 0) (at-end (firstOf 0 paint) (g ∙ f)) ∙ sym e)
         (λ g. E .last-page .last ∙ ap (entryWord D M L middle leaf T P 0) (at-end (lastOf 0 paint) (g ∙ l)) ∙ sym e)
-        (λ g h. ap (λ u. eightOf (u .right)) (E .for-paint) ∙ sym (e ∙ plain-entry c 0 i (omega arith) page-below (paint .right)
+        (λ g h. ap (λ u. eightOf (u .right)) (E .for-paint)
+        ∙ sym (e ∙ plain-entry c 0 i (omega arith) page-below (paint .right)
         (between-plain s d paint P 0 i m (omega arith) page-domain page-number (rw f at g) (rw l at h))))
         (λ g h u. page-outside
-        (apart-stays s d paint P 0 i m (omega arith) page-number (λ z. g (z ∙ sym f)) (λ z. h (z ∙ sym l)) (λ y z. u (rw f y) (rw l z))) x v)
+        (apart-stays s d paint P 0 i m (omega arith) page-number (λ z. g (z ∙ sym f)) (λ z. h (z ∙ sym l))
+        (λ y z. u (rw f y) (rw l z))) x v)
 
   module _ (q : Plan) (E : Edges s d paint P middle leaf q) where
     -- A word of the middle table of an edge.
-    pub page-word : (n : ℕ) → n < 1024 → (b : Edge) → EdgeIs s d paint P middle leaf 1 n b → (k x : ℕ) → inEdge b 1024 k ≡ true
+    pub page-word : (n : ℕ) → n < 1024 → (b : Edge) → EdgeIs s d paint P middle leaf 1 n b → (k x : ℕ)
+        → inEdge b 1024 k ≡ true
         → (x ≡ P k) ⊎ (x ≡ Q k) → pageAfter q b (k - b .last) x ≡ Q k
     page-word n bn b B k x t v =
         let (p, ip, o) = table-place c 1 n (omega arith) bn b B k t in
         page-at n bn b B k p (k - b .last) ip o q E x v
 
     -- A word of the leaf of an edge.
-    pub leaf-word : (n : ℕ) → n < 1048576 → (g : Edge) → EdgeIs s d paint P middle leaf 0 n g → (k x : ℕ) → inEdge g 64 k ≡ true
+    pub leaf-word : (n : ℕ) → n < 1048576 → (g : Edge) → EdgeIs s d paint P middle leaf 0 n g → (k x : ℕ)
+        → inEdge g 64 k ≡ true
         → (x ≡ P k) ⊎ (x ≡ Q k) → leafAfter q g (k - g .last) x ≡ Q k
     leaf-word n bn g G k x t v =
         let (p, ip, o) = table-place c 0 n (omega arith) bn g G k t in

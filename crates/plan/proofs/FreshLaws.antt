@@ -50,7 +50,8 @@ kept-or-not n f l {a} {b} {z} first last between apart = elim (ℕ-discrete n f)
   ]
 ]
 
-module _ (s : Shape) (d : ℕ) (paint : Paint) {P : ℕ → ℕ} (q : Settled (formOf s) P) (h i : ℕ) (hi : h < 2) (bi : i < blocks h * s .domains) where
+module _ (s : Shape) (d : ℕ) (paint : Paint) {P : ℕ → ℕ} (q : Settled (formOf s) P) (h i : ℕ) (hi : h < 2)
+    (bi : i < blocks h * s .domains) where
   abbrev T : ℕ → ℕ → ℕ
   T = aims s d paint P
 
@@ -58,30 +59,36 @@ module _ (s : Shape) (d : ℕ) (paint : Paint) {P : ℕ → ℕ} (q : Settled (f
   R = rightOf (formOf s) P
 
   -- A block off both ends is not fresh.
-  pub apart-not-fresh : i ≢ blocks h * d + firstOf h paint → i ≢ blocks h * d + lastOf h paint → fresh (want T h) (old P h) i ≡ false
+  pub apart-not-fresh : i ≢ blocks h * d + firstOf h paint → i ≢ blocks h * d + lastOf h paint
+      → fresh (want T h) (old P h) i ≡ false
   apart-not-fresh a b = by-cases (fresh (want T h) (old P h) i)
-      (λ e. absurd (⊎-elim a b (only-edges-fresh s d paint P h i hi bi q (fresh-wants (want T h i) (old P h i) e) (fresh-old (want T h i) (old P h i) e))))
+      (λ e. absurd (⊎-elim a b (only-edges-fresh s d paint P h i hi bi q (fresh-wants (want T h i) (old P h i) e)
+      (fresh-old (want T h i) (old P h i) e))))
       (λ e. e)
 
   -- What a block wants that is in another domain, between the ends of the region, or apart from it.
   other-want : domainOf h i ≢ d → want T h i ≡ old P h i
-  other-want x = stays-want s d paint P h i hi bi q (λ b bb e. changed-other R d (region paint) (paint .right) (domainOf h i) b x)
+  other-want x = stays-want s d paint P h i hi bi q
+      (λ b bb e. changed-other R d (region paint) (paint .right) (domainOf h i) b x)
 
   between-want : domainOf h i ≡ d → firstOf h paint < i % blocks h → i % blocks h < lastOf h paint → want T h i ≡ false
   between-want x y z = plain-want s d paint P h i hi bi (paint .right)
       (λ b bb e. aims-covered s d paint P (domainOf h i) b (x, between-covered paint h (i % blocks h) hi b e y z))
 
-  apart-want : i % blocks h ≢ firstOf h paint → i % blocks h ≢ lastOf h paint → (firstOf h paint < i % blocks h → i % blocks h < lastOf h paint → ⊥)
+  apart-want : i % blocks h ≢ firstOf h paint → i % blocks h ≢ lastOf h paint
+      → (firstOf h paint < i % blocks h → i % blocks h < lastOf h paint → ⊥)
       → want T h i ≡ old P h i
   apart-want x y z = stays-want s d paint P h i hi bi q (λ b bb e.
-      changed-uncovered R d (region paint) (paint .right) (domainOf h i) b (apart-uncovered paint h (i % blocks h) hi b e x y z))
+      changed-uncovered R d (region paint) (paint .right) (domainOf h i) b
+      (apart-uncovered paint h (i % blocks h) hi b e x y z))
 
   -- Of a block that has a table, the edges tell whether it is kept.
   pub stays-is : {first last : Edge} → EndsTold s d paint P h first last → old P h i ≡ true
       → staysOf d first last (domainOf h i) (i % blocks h) ≡ want T h i
   stays-is {first} {last} k o = elim (ℕ-discrete (domainOf h i) d) [
     | no x ↦ ap (λ t. cond t inner true) (ne-eqb (domainOf h i) d x) ∙ sym (other-want x ∙ o)
-    | yes x ↦ ap (λ t. cond t inner true) (eq-eqb (domainOf h i) d x) ∙ kept-or-not (i % blocks h) (first .number) (last .number)
+    | yes x ↦ ap (λ t. cond t inner true) (eq-eqb (domainOf h i) d x) ∙ kept-or-not (i % blocks h) (first .number)
+        (last .number)
         (λ e. k .first-told .leads ∙ ap (want T h) (sym (number-is h d i _ hi x (e ∙ k .first-told .number))))
         (λ e. k .last-told .leads ∙ ap (want T h) (sym (number-is h d i _ hi x (e ∙ k .last-told .number))))
         (λ u v. sym (between-want x (rw (k .first-told .number) at u) (rw (k .last-told .number) at v)))

@@ -1,4 +1,5 @@
--- Laws of giving places to the new tables of the two edges of one height: each takes the next free place, or the tables wanted are too many.
+-- Laws of giving places to the new tables of the two edges of one height: each takes the next free place, or the
+-- tables wanted are too many.
 use Prim.Native.Nat.{ℕ, zero, suc, _+_, _*_, _/_, _%_, _≤_, _<_}
 use mathlib.Core.Path.{_≡_, refl, sym, subst, ap, _∙_}
 use mathlib.Core.Logic.{_≢_, _⊎_, ⊎-elim, inl}
@@ -27,7 +28,8 @@ use Rattle.plan.specs.declared.Taken.the-variants.{At, None}
 use Rattle.plan.specs.declared.Ends.the-variants.{Both, Full}
 use Rattle.plan.specs.Plan.{isLead, isNew}
 use Rattle.plan.specs.Aims.{aims}
-use Rattle.plan.specs.Edges.{firstOf, lastOf, entryAt, Told, EdgeBy, EndsPlaced, EndsAre, Takes, TakenIs, GivesOut}
+use Rattle.plan.specs.Edges.{firstOf, lastOf, entryAt, Told, EdgeBy, EndsPlaced, EndsAre, Takes, TakenIs}
+use Rattle.plan.specs.Edges.{GivesOut}
 use Rattle.plan.proofs.OldEntryLaws.{old-leads}
 use Rattle.plan.proofs.FreshLaws.{apart-not-fresh}
 use Rattle.plan.proofs.DraftLaws.{ends-below}
@@ -46,12 +48,15 @@ number-low D d (suc zero) n bd hi b = omega arith
 number-low D d (suc (suc h)) n bd hi b = absurd (omega arith)
 
 -- The entry of a block that had a table is the word that led to it.
-entry-word : (P : ℕ → ℕ) (h d n : ℕ) → h < 2 → n < blocks h → old P h (blocks h * d + n) ≡ true → entryAt P h d n ≡ P (entryOf P h (blocks h * d + n))
+entry-word : (P : ℕ → ℕ) (h d n : ℕ) → h < 2 → n < blocks h → old P h (blocks h * d + n) ≡ true → entryAt P h d n
+    ≡ P (entryOf P h (blocks h * d + n))
 entry-word P zero d n hi b o =
     let x : (1048576 * d + n) / 1024 ≡ 1024 * d + n / 1024 = omega arith in
     let y : (1048576 * d + n) % 1024 ≡ n % 1024 = omega arith in
-    let (l, _) = and-both (isLead (P (1024 * d + n / 1024))) (isLead (P (P (1024 * d + n / 1024) + n % 1024))) (rw (x, y) at o) in
-    rw (x, y) (ap (λ t. cond t (P (P (1024 * d + n / 1024) + n % 1024)) (eightOf (rightAt (P (1024 * d + n / 1024)) (n / 128 % 8)))) l)
+    let (l, _) = and-both (isLead (P (1024 * d + n / 1024))) (isLead (P (P (1024 * d + n / 1024) + n % 1024)))
+    (rw (x, y) at o) in
+    rw (x, y) (ap (λ t. cond t (P (P (1024 * d + n / 1024) + n % 1024))
+    (eightOf (rightAt (P (1024 * d + n / 1024)) (n / 128 % 8)))) l)
 entry-word P (suc zero) d n hi b o = refl
 entry-word P (suc (suc h)) d n hi b o = absurd (omega arith)
 
@@ -97,13 +102,15 @@ module _ {s : Shape} {d : ℕ} {paint : Paint} {P : ℕ → ℕ} {h : ℕ} {f : 
   Spot owner n g = isNew g ≡ true → (p : ℕ) × (p < M) × (owner p ≡ nth n) × (g .last ≡ start p)
 
   -- Once all tables have their places, the edge is right.
-  edge-by : {free : ℕ → Bool} {owner : ℕ → ℕ} {n : ℕ} {g : Edge} → n < blocks h → Owned N M W O free at owner → Known n g → Spot owner n g
+  edge-by : {free : ℕ → Bool} {owner : ℕ → ℕ} {n : ℕ} {g : Edge} → n < blocks h → Owned N M W O free at owner
+      → Known n g → Spot owner n g
       → EdgeBy s d paint P owner h n g
   edge-by {free} {owner} {n} {g} b all t spot = record {
     number = t .number;
     old = t .old;
     last = by-cases (W (nth n))
-        (λ w. by-cases (isLead (g .old)) (λ o. kept w o) (λ o. new w o) ∙ sym (ap (λ x. cond x (start (seek owner (nth n) M)) said) w))
+        (λ w. by-cases (isLead (g .old)) (λ o. kept w o) (λ o. new w o)
+        ∙ sym (ap (λ x. cond x (start (seek owner (nth n) M)) said) w))
         (λ w. t .said (t .leads ∙ w) ∙ sym (ap (λ x. cond x (start (seek owner (nth n) M)) said) w));
   }
     where
@@ -151,7 +158,8 @@ module _ {s : Shape} {d : ℕ} {paint : Paint} {P : ℕ → ℕ} {h : ℕ} {f : 
       take : (g : Edge) (x : ℕ) → Takes f c m from long e g x → Past n x g owner
       take g x k = subst (λ y. Past n y g owner) (sym (k .next ∙ add-one (k .place))) (record {
         owner = givenTo owner (k .place) (nth n);
-        state = hand-take N M W O free at (givenTo owner (k .place) (nth n)) (nth n) c (k .place) here (low n b) new (k .first .low) below spare
+        state = hand-take N M W O free at (givenTo owner (k .place) (nth n)) (nth n) c (k .place) here (low n b) new
+            (k .first .low) below spare
             (λ q lo up. is-free q (omega arith) ∙ ap not (k .first .gap q lo up))
             (ap (λ z. cond z (nth n) (owner (k .place))) (eq-eqb (k .place) (k .place) refl))
             (λ q z. ap (λ y. cond y (nth n) (owner q)) (ne-eqb q (k .place) z));
@@ -159,12 +167,19 @@ module _ {s : Shape} {d : ℕ} {paint : Paint} {P : ℕ → ℕ} {h : ℕ} {f : 
           number = k .same-number ∙ t .number;
           old = k .same-old ∙ t .old;
           leads = led ∙ sym (fresh-wants (W (nth n)) (O (nth n)) new);
-          kept = λ l _. absurd (true≢false (sym l ∙ ap isLead (k .same-old) ∙ old-is b t ∙ fresh-old (W (nth n)) (O (nth n)) new));
+          kept = λ l _. absurd (true≢false (sym l ∙ ap isLead (k .same-old) ∙ old-is b t ∙ fresh-old (W (nth n))
+              (O (nth n)) new));
           said = λ l. absurd (true≢false (sym led ∙ l));
         };
-        spot = λ _. (k .place, below, ap (λ z. cond z (nth n) (owner (k .place))) (eq-eqb (k .place) (k .place) refl), points);
+        spot = λ _. (
+          k .place,
+          below,
+          ap (λ z. cond z (nth n) (owner (k .place))) (eq-eqb (k .place) (k .place) refl),
+          points,
+        );
         stay = λ p j bp bj y. elim (ℕ-discrete p (k .place)) [
-          | yes z ↦ (let u = here .ahead (k .place) (k .first .low) below spare in let v : owner (k .place) ≡ j = rw z at y in absurd (omega arith))
+          | yes z ↦ (let u = here .ahead (k .place) (k .first .low) below spare in let v : owner (k .place)
+              ≡ j = rw z at y in absurd (omega arith))
           | no z ↦ ap (λ u. cond u (nth n) (owner p)) (ne-eqb p (k .place) z) ∙ y
         ];
       })
@@ -183,7 +198,8 @@ module _ {s : Shape} {d : ℕ} {paint : Paint} {P : ℕ → ℕ} {h : ℕ} {f : 
               ∙ ap (λ z. firstPlace (s .domains) (s .middles) (s .leaves) h + z * k .place) (G .long-is)
 
           led : isLead (g .last) ≡ true
-          led = ap isLead points ∙ place-leads (s .domains) (s .middles) (s .leaves) h (k .place) (G .range) (G .height) below
+          led = ap isLead points ∙ place-leads (s .domains) (s .middles) (s .leaves) h (k .place) (G .range)
+              (G .height) below
 
       past : (g : Edge) (x : ℕ) → TakenIs f c m from long e (At g x) → Past n x g owner
       past g x k = ⊎-elim (λ y. rest g x (y .0) (y .1) (y .2)) (take g x) k
@@ -203,61 +219,86 @@ module _ {s : Shape} {d : ℕ} {paint : Paint} {P : ℕ → ℕ} {h : ℕ} {f : 
   first-in = let (x, y) = ends in omega arith
 
   -- The first edge ..
-  module _ (free : ℕ → Bool) (owner : ℕ → ℕ) (S : Handing N M W O free at 0 0 owner) (is-free : (p : ℕ) → p < M → free p ≡ not (getD f p false)) where
+  module _ (free : ℕ → Bool) (owner : ℕ → ℕ) (S : Handing N M W O free at 0 0 owner)
+      (is-free : (p : ℕ) → p < M → free p ≡ not (getD f p false)) where
     before-first : (j : ℕ) → 0 ≤ j → j < nth (firstOf h paint) → fresh W O j ≡ false
     before-first j lo up =
         let (x, y) = ends in
         let z = low (firstOf h paint) first-in in
         plain j (omega arith) (λ u. absurd (omega arith)) (λ u. absurd (omega arith))
 
-    one-past : (g : Edge) (x : ℕ) → TakenIs f 0 m from long first (At g x) → Past free is-free (firstOf h paint) x g owner
-    one-past = past free is-free 0 0 owner S (firstOf h paint) first-in (omega arith) before-first first (G .told .first-told)
+    one-past : (g : Edge) (x : ℕ) → TakenIs f 0 m from long first (At g x) → Past free is-free (firstOf h paint) x g
+        owner
+    one-past = past free is-free 0 0 owner S (firstOf h paint) first-in (omega arith) before-first first
+        (G .told .first-told)
 
     one-full : TakenIs f 0 m from long first None → M < count W N
-    one-full = full free is-free 0 0 owner S (firstOf h paint) first-in (omega arith) before-first first (G .told .first-told)
+    one-full = full free is-free 0 0 owner S (firstOf h paint) first-in (omega arith) before-first first
+        (G .told .first-told)
 
     -- .. is the last one too,
-    both-one : (g : Edge) (x : ℕ) → first .number ≡ last .number → TakenIs f 0 m from long first (At g x) → EndsPlaced s d paint P h g g
+    both-one : (g : Edge) (x : ℕ) → first .number ≡ last .number → TakenIs f 0 m from long first (At g x)
+        → EndsPlaced s d paint P h g g
     both-one g x e k =
         let r = one-past g x k in
-        let same : firstOf h paint ≡ lastOf h paint = sym (G .told .first-told .number) ∙ e ∙ G .told .last-told .number in
-        let all = hand-done N M W O free at x (hand-skip-to N M W O free at (suc (nth (firstOf h paint))) N x (low (firstOf h paint) first-in)
+        let same : firstOf h paint ≡ lastOf h paint = sym (G .told .first-told .number) ∙ e
+        ∙ G .told .last-told .number in
+        let all = hand-done N M W O free at x (hand-skip-to N M W O free at (suc (nth (firstOf h paint))) N x
+        (low (firstOf h paint) first-in)
         (λ j lo up. plain j up (λ u. absurd (omega arith)) (λ u. absurd (omega arith))) (r .state)) in
         let by = edge-by first-in all (r .known) (r .spot) in
-        record { free = free; owner = r .owner; placed = all; first = by; last = subst (λ n. EdgeBy s d paint P (r .owner) h n g) same by }
+        record {
+          free = free;
+          owner = r .owner;
+          placed = all;
+          first = by;
+          last = subst
+              (λ n. EdgeBy s d paint P (r .owner) h n g) same by;
+        }
 
     -- .. or the last edge comes after it.
-    module _ (apart : first .number ≢ last .number) (g : Edge) (x : ℕ) (k : TakenIs f 0 m from long first (At g x)) where
-      r : Past free is-free (firstOf h paint) x g owner
-      r = one-past g x k
+    module _ (apart : first .number ≢ last .number) (g : Edge) (x : ℕ) (k : TakenIs f 0 m from long first (At g x))
+      where
+        r : Past free is-free (firstOf h paint) x g owner
+        r = one-past g x k
 
-      less : nth (firstOf h paint) < nth (lastOf h paint)
-      less = elim (ℕ-discrete (firstOf h paint) (lastOf h paint)) [
-        | yes z ↦ absurd (apart (G .told .first-told .number ∙ z ∙ sym (G .told .last-told .number)))
-        | no z ↦ (let (u, v) = ends in omega arith)
-      ]
+        less : nth (firstOf h paint) < nth (lastOf h paint)
+        less = elim (ℕ-discrete (firstOf h paint) (lastOf h paint)) [
+          | yes z ↦ absurd (apart (G .told .first-told .number ∙ z ∙ sym (G .told .last-told .number)))
+          | no z ↦ (let (u, v) = ends in omega arith)
+        ]
 
-      between : (j : ℕ) → suc (nth (firstOf h paint)) ≤ j → j < nth (lastOf h paint) → fresh W O j ≡ false
-      between j lo up = let z = low (lastOf h paint) (ends .1) in plain j (omega arith) (λ u. absurd (omega arith)) (λ u. absurd (omega arith))
+        between : (j : ℕ) → suc (nth (firstOf h paint)) ≤ j → j < nth (lastOf h paint) → fresh W O j ≡ false
+        between j lo up = let z = low (lastOf h paint) (ends .1) in plain j (omega arith) (λ u. absurd (omega arith))
+            (λ u. absurd (omega arith))
 
-      two-full : TakenIs f x m from long last None → M < count W N
-      two-full = full free is-free (suc (nth (firstOf h paint))) x (r .owner) (r .state) (lastOf h paint) (ends .1) less between last (G .told .last-told)
+        two-full : TakenIs f x m from long last None → M < count W N
+        two-full = full free is-free (suc (nth (firstOf h paint))) x (r .owner) (r .state) (lastOf h paint)
+            (ends .1) less between last (G .told .last-told)
 
-      both-two : (l : Edge) (y : ℕ) → TakenIs f x m from long last (At l y) → EndsPlaced s d paint P h g l
-      both-two l y z =
-          let t = past free is-free (suc (nth (firstOf h paint))) x (r .owner) (r .state) (lastOf h paint) (ends .1) less between last
-          (G .told .last-told) l y z in
-          let b = less in
-          let all = hand-done N M W O free at y (hand-skip-to N M W O free at (suc (nth (lastOf h paint))) N y (low (lastOf h paint) (ends .1))
-          (λ j lo up. plain j up (λ u. absurd (omega arith)) (λ u. absurd (omega arith))) (t .state)) in
-          record {
-            free = free;
-            owner = t .owner;
-            placed = all;
-            first = edge-by first-in all (r .known)
-                (λ u. let (p, bp, v, w) = r .spot u in (p, bp, t .stay p (nth (firstOf h paint)) bp (low (firstOf h paint) first-in) v, w));
-            last = edge-by (ends .1) all (t .known) (t .spot);
-          }
+        both-two : (l : Edge) (y : ℕ) → TakenIs f x m from long last (At l y) → EndsPlaced s d paint P h g l
+        both-two l y z =
+            let t = past free is-free (suc (nth (firstOf h paint))) x (r .owner) (r .state) (lastOf h paint)
+            (ends .1) less between last
+            (G .told .last-told) l y z in
+            let b = less in
+            let all = hand-done N M W O free at y (hand-skip-to N M W O free at (suc (nth (lastOf h paint))) N y
+            (low (lastOf h paint) (ends .1))
+            (λ j lo up. plain j up (λ u. absurd (omega arith)) (λ u. absurd (omega arith))) (t .state)) in
+            record {
+              free = free;
+              owner = t .owner;
+              placed = all;
+              first = edge-by first-in all (r .known)
+                  (λ u. let (p, bp, v, w) = r .spot u in (
+                    p,
+                    bp,
+                    t .stay p (nth (firstOf h paint)) bp
+                        (low (firstOf h paint) first-in) v,
+                    w,
+                  ));
+              last = edge-by (ends .1) all (t .known) (t .spot);
+            }
 
   -- From the marks on.
   pub given-none : TakenIs f 0 m from long first None → EndsAre s d paint P h Full
@@ -265,23 +306,27 @@ module _ {s : Shape} {d : ℕ} {paint : Paint} {P : ℕ → ℕ} {h : ℕ} {f : 
       let (free, owner, S, is-free) = kept-free s d paint (G .settled) h (G .height) (G .kept) in
       one-full free owner S is-free k
 
-  pub given-one : (g : Edge) (x : ℕ) → first .number ≡ last .number → TakenIs f 0 m from long first (At g x) → EndsAre s d paint P h (Both g g)
+  pub given-one : (g : Edge) (x : ℕ) → first .number ≡ last .number → TakenIs f 0 m from long first (At g x)
+      → EndsAre s d paint P h (Both g g)
   given-one g x e k =
       let (free, owner, S, is-free) = kept-free s d paint (G .settled) h (G .height) (G .kept) in
       both-one free owner S is-free g x e k
 
-  pub given-second-none : (g : Edge) (x : ℕ) → first .number ≢ last .number → TakenIs f 0 m from long first (At g x) → TakenIs f x m from long last None
+  pub given-second-none : (g : Edge) (x : ℕ) → first .number ≢ last .number → TakenIs f 0 m from long first (At g x)
+      → TakenIs f x m from long last None
       → EndsAre s d paint P h Full
   given-second-none g x e k l =
       let (free, owner, S, is-free) = kept-free s d paint (G .settled) h (G .height) (G .kept) in
       two-full free owner S is-free e g x k l
 
-  pub given-two : (g : Edge) (x : ℕ) (l : Edge) (y : ℕ) → first .number ≢ last .number → TakenIs f 0 m from long first (At g x)
+  pub given-two : (g : Edge) (x : ℕ) (l : Edge) (y : ℕ) → first .number ≢ last .number → TakenIs f 0 m from long first
+      (At g x)
       → TakenIs f x m from long last (At l y) → EndsAre s d paint P h (Both g l)
   given-two g x l y e k z =
       let (free, owner, S, is-free) = kept-free s d paint (G .settled) h (G .height) (G .kept) in
       both-two free owner S is-free e g x k l y z
 
 -- The next place is looked for below the last.
-pub taken-low : {f : List Bool} {c m from long : ℕ} {e g : Edge} {x : ℕ} → c ≤ m → TakenIs f c m from long e (At g x) → x ≤ m
+pub taken-low : {f : List Bool} {c m from long : ℕ} {e g : Edge} {x : ℕ} → c ≤ m → TakenIs f c m from long e (At g x)
+    → x ≤ m
 taken-low le k = ⊎-elim (λ y. let z = y .2 in omega arith) (λ y. let z = y .next in let b = y .below in omega arith) k

@@ -34,7 +34,8 @@ pub marked-none : (o : List ℕ) (h d : ℕ) (first last : Edge) → Marked o h 
 marked-none o h d first last = record { long = length-replicate 64 false; each = λ p b. absurd (omega arith) }
 
 pub marked-next : (o : List ℕ) (h c d : ℕ) (first last : Edge) (f : List Bool) (b : Bool) → c < 64
-    → b ≡ ownerStays h d first last (getD o (firstNumber h + c) 0) → Marked o h c d first last f → Marked o h (c + 1) d first last (set f c b)
+    → b ≡ ownerStays h d first last (getD o (firstNumber h + c) 0) → Marked o h c d first last f
+    → Marked o h (c + 1) d first last (set f c b)
 marked-next o h c d first last f b lo e k = record {
   long = length-set f c b ∙ k .long;
   each = λ p lt. elim (ℕ-discrete p c) [
@@ -58,7 +59,8 @@ module _ (s : Shape) (d : ℕ) (paint : Paint) {P : ℕ → ℕ} (q : Settled (f
 
   -- Once all places are marked, giving out can start: free are those that are not.
   pub kept-free : {f : List Bool} → KeptMarked s d paint P h n f
-      → (free : ℕ → Bool) × (owner : ℕ → ℕ) × Handing n m (want T h) (old P h) free at 0 0 owner × ((p : ℕ) → p < m → free p ≡ not (getD f p false))
+      → (free : ℕ → Bool) × (owner : ℕ → ℕ) × Handing n m (want T h) (old P h) free at 0 0 owner
+      × ((p : ℕ) → p < m → free p ≡ not (getD f p false))
   kept-free k = (
     vacant n (k .owner),
     k .owner,
@@ -68,7 +70,8 @@ module _ (s : Shape) (d : ℕ) (paint : Paint) {P : ℕ → ℕ} (q : Settled (f
   )
 
 -- The marks by the owners of all places: those of the kept tables, of every domain.
-module _ (p : List ℕ) (s : Shape) (d : ℕ) (paint : Paint) (fits : Fits s (length p)) (q : Settled (formOf s) (words p)) (o : List ℕ) (own : Owners p s o)
+module _ (p : List ℕ) (s : Shape) (d : ℕ) (paint : Paint) (fits : Fits s (length p))
+    (q : Settled (formOf s) (words p)) (o : List ℕ) (own : Owners p s o)
     (h : ℕ) (hi : h < 2) {first last : Edge} (told : EndsTold s d paint (words p) h first last) {f : List Bool}
     (mark : Marked o h (places (s .domains) (s .middles) (s .leaves) h) d first last f) where
   abbrev P : ℕ → ℕ
@@ -83,7 +86,8 @@ module _ (p : List ℕ) (s : Shape) (d : ℕ) (paint : Paint) (fits : Fits s (le
 
   -- A marked place is that of a block which has its table there, and wants it.
   marked-kept : (c : ℕ) → c < m s d paint q h hi → getD f c false ≡ true
-      → (stood c < n s d paint q h hi) × (want (aims s d paint P) h (stood c) ≡ true) × (old P h (stood c) ≡ true) × (c ≡ at s d paint q h hi (stood c))
+      → (stood c < n s d paint q h hi) × (want (aims s d paint P) h (stood c) ≡ true) × (old P h (stood c) ≡ true)
+      × (c ≡ at s d paint q h hi (stood c))
   marked-kept c b e =
       let (t, w) = and-both (not (eqb (stood c) none)) _ (sym (mark .each c b) ∙ e) in
       let (x, y, z) = owner-stands p s fits (q .sound) o own h hi c b t in
@@ -108,7 +112,8 @@ module _ (p : List ℕ) (s : Shape) (d : ℕ) (paint : Paint) (fits : Fits s (le
   marked-all = record {
     owner = stays;
     keeping = record {
-      only = λ c b l. by-cases (getD f c false) (λ e. rw e (marked-kept c b e)) (λ e. absurd (let z = rw e at l in omega arith));
+      only = λ c b l. by-cases (getD f c false) (λ e. rw e (marked-kept c b e))
+          (λ e. absurd (let z = rw e at l in omega arith));
       have = λ i b _ w x. let (e, g) = kept-marked i b w x in rw e g;
     };
     marks = stays-marked;

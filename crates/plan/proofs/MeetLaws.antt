@@ -20,14 +20,16 @@ use Rattle.plan.specs.Aims.{aims}
 use Rattle.plan.proofs.AimLaws.{aims-covered}
 use Rattle.plan.specs.Edges.{firstOf, lastOf}
 
--- Which of four things block `n` gets, between the first block `f` and the last one `l`: whatever is right in each case is what it gets.
+-- Which of four things block `n` gets, between the first block `f` and the last one `l`: whatever is right in each
+-- case is what it gets.
 if-same : (n l : ℕ) {b y z : ℕ} → (n ≡ l → b ≡ z) → (n ≢ l → y ≡ z) → cond (eqb n l) b y ≡ z
 if-same n l {b} {y} yes-it no-it = elim (ℕ-discrete n l) [
   | yes e ↦ ap (λ t. cond t b y) (eq-eqb n l e) ∙ yes-it e
   | no e ↦ ap (λ t. cond t b y) (ne-eqb n l e) ∙ no-it e
 ]
 
-if-between : (n f l : ℕ) {c x z : ℕ} → (f < n → n < l → c ≡ z) → ((f < n → n < l → ⊥) → x ≡ z) → cond (ltb f n && ltb n l) c x ≡ z
+if-between : (n f l : ℕ) {c x z : ℕ} → (f < n → n < l → c ≡ z) → ((f < n → n < l → ⊥) → x ≡ z)
+    → cond (ltb f n && ltb n l) c x ≡ z
 if-between n f l {c} {x} {z} between apart = elim (decLt f n) [
   | yes p ↦ ap (λ t. cond (t && ltb n l) c x) (lt-ltb f n p) ∙ below p
   | no p ↦ ap (λ t. cond (t && ltb n l) c x) (le-ltb f n (omega arith)) ∙ apart (λ u v. p u)
@@ -42,19 +44,22 @@ if-between n f l {c} {x} {z} between apart = elim (decLt f n) [
 pub chosen : (n f l : ℕ) {a b c x z : ℕ} → (n ≡ f → a ≡ z) → (n ≡ l → b ≡ z) → (f < n → n < l → c ≡ z)
     → (n ≢ f → n ≢ l → (f < n → n < l → ⊥) → x ≡ z)
     → cond (eqb n f) a (cond (eqb n l) b (cond (ltb f n && ltb n l) c x)) ≡ z
-chosen n f l first last between apart = if-same n f first (λ e. if-same n l last (λ g. if-between n f l between (λ u. apart e g u)))
+chosen n f l first last between apart = if-same n f first
+    (λ e. if-same n l last (λ g. if-between n f l between (λ u. apart e g u)))
 
 -- What the region covers, in bytes.
 module _ (paint : Paint) (b : ℕ) where
   covered-from : 4 * paint .lo ≤ b → b < 4 * paint .hi → covered (region paint) b ≡ true
-  covered-from x y = covered-bytes (region paint) b ∙ ap (λ t. t && ltb b (4 * paint .hi)) (le-leb (4 * paint .lo) b x) ∙ lt-ltb b (4 * paint .hi) y
+  covered-from x y = covered-bytes (region paint) b ∙ ap (λ t. t && ltb b (4 * paint .hi))
+      (le-leb (4 * paint .lo) b x) ∙ lt-ltb b (4 * paint .hi) y
 
   uncovered-low : b < 4 * paint .lo → covered (region paint) b ≡ false
   uncovered-low x = covered-bytes (region paint) b ∙ ap (λ t. t && ltb b (4 * paint .hi)) (lt-leb (4 * paint .lo) b x)
 
   uncovered-high : 4 * paint .hi ≤ b → covered (region paint) b ≡ false
   uncovered-high x =
-      covered-bytes (region paint) b ∙ ap (λ t. leb (4 * paint .lo) b && t) (le-ltb b (4 * paint .hi) x) ∙ and-false (leb (4 * paint .lo) b)
+      covered-bytes (region paint) b ∙ ap (λ t. leb (4 * paint .lo) b && t) (le-ltb b (4 * paint .hi) x)
+      ∙ and-false (leb (4 * paint .lo) b)
 
   block-low : (h : ℕ) → h < 2 → b / block (suc h) < firstOf h paint → b < 4 * paint .lo
   block-low zero hi x = omega arith
@@ -100,12 +105,15 @@ module _ (s : Shape) (d : ℕ) (paint : Paint) (P : ℕ → ℕ) where
   -- A block that lies apart from the region stays; one between its ends gets the right.
   pub apart-stays : (h i n : ℕ) → h < 2 → i % blocks h ≡ n → n ≢ firstOf h paint → n ≢ lastOf h paint
       → (firstOf h paint < n → n < lastOf h paint → ⊥) → RightsStay h i
-  apart-stays h i n hi q y z f b bb e = changed-uncovered (rightOf (formOf s) P) d (region paint) (paint .right) (domainOf h i) b
+  apart-stays h i n hi q y z f b bb e = changed-uncovered (rightOf (formOf s) P) d (region paint) (paint .right)
+      (domainOf h i) b
       (apart-uncovered paint h n hi b (e ∙ q) y z f)
 
-  pub between-plain : (h i n : ℕ) → h < 2 → domainOf h i ≡ d → i % blocks h ≡ n → firstOf h paint < n → n < lastOf h paint
+  pub between-plain : (h i n : ℕ) → h < 2 → domainOf h i ≡ d → i % blocks h ≡ n → firstOf h paint < n
+      → n < lastOf h paint
       → Plain h i (paint .right)
-  between-plain h i n hi x q y z b bb e = aims-covered s d paint P (domainOf h i) b (x, between-covered paint h n hi b (e ∙ q) y z)
+  between-plain h i n hi x q y z b bb e = aims-covered s d paint P (domainOf h i) b
+      (x, between-covered paint h n hi b (e ∙ q) y z)
 
   -- A block of another domain stays.
   pub other-stays : (h i : ℕ) → domainOf h i ≢ d → RightsStay h i
@@ -119,7 +127,8 @@ module _ (s : Shape) (d : ℕ) (paint : Paint) (P : ℕ → ℕ) where
 
   -- Block `i` stays, gets the right, or is the first or the last block that the region meets.
   pub meeting : (h i : ℕ) → h < 2
-      → RightsStay h i ⊎ (Plain h i (paint .right) ⊎ ((i ≡ blocks h * d + firstOf h paint) ⊎ (i ≡ blocks h * d + lastOf h paint)))
+      → RightsStay h i ⊎ (Plain h i (paint .right)
+      ⊎ ((i ≡ blocks h * d + firstOf h paint) ⊎ (i ≡ blocks h * d + lastOf h paint)))
   meeting h i hi = elim (ℕ-discrete (domainOf h i) d) [
     | no x ↦ inl (other-stays h i x)
     | yes x ↦ elim (ℕ-discrete (i % blocks h) (firstOf h paint)) [

@@ -30,7 +30,8 @@ module _ (D M L : ℕ) (P : ℕ → ℕ) (d : ℕ) where
       let y : (1048576 * d + n) % 1024 ≡ n % 1024 = omega arith in
       rw (x, y) (tested (isLead (P (1024 * d + n / 1024))))
     where
-      tested : (t : Bool) → isLead (cond t (P (P (1024 * d + n / 1024) + n % 1024)) (eightOf (rightAt (P (1024 * d + n / 1024)) (n / 128 % 8))))
+      tested : (t : Bool) → isLead (cond t (P (P (1024 * d + n / 1024) + n % 1024))
+          (eightOf (rightAt (P (1024 * d + n / 1024)) (n / 128 % 8))))
           ≡ (t && isLead (P (P (1024 * d + n / 1024) + n % 1024)))
       tested true = refl
       tested false = eight-rests (rightAt (P (1024 * d + n / 1024)) (n / 128 % 8))
@@ -64,16 +65,19 @@ module _ (D M L : ℕ) (P : ℕ → ℕ) (d : ℕ) where
     entry-stood : isLead root ≡ false → entryAt P 0 d (b / 4096) ≡ eightOf (rightAt root (b / 4096 / 128 % 8))
     entry-stood l = ap (λ t. cond t entry-in (eightOf (rightAt root (b / 4096 / 128 % 8)))) l
 
-    page-says : isLead (entryAt P 0 d (b / 4096)) ≡ false → rightOf F P d b ≡ rightAt (entryAt P 0 d (b / 4096)) (b / 512 % 8)
+    page-says : isLead (entryAt P 0 d (b / 4096)) ≡ false → rightOf F P d b ≡ rightAt (entryAt P 0 d (b / 4096))
+        (b / 512 % 8)
     page-says l = by-cases (isLead root)
-        (λ r. let x = entry-led r in old-middle r ∙ right-says F P 1 _ b (rw x at l) ∙ ap (λ w. rightAt w (b / 512 % 8)) (sym x))
+        (λ r. let x = entry-led r in old-middle r ∙ right-says F P 1 _ b (rw x at l)
+        ∙ ap (λ w. rightAt w (b / 512 % 8)) (sym x))
         (λ r.
         let x : b / 524288 % 8 ≡ b / 4096 / 128 % 8 = omega arith in
         old-root r ∙ ap (rightAt root) x
         ∙ sym (eight-right (rightAt root (b / 4096 / 128 % 8)) (b / 512 % 8) (right-small root _) (omega arith))
         ∙ ap (λ w. rightAt w (b / 512 % 8)) (sym (entry-stood r)))
 
-    block-says : isLead (entryAt P 1 d (b / 4194304)) ≡ false → rightOf F P d b ≡ rightAt (entryAt P 1 d (b / 4194304)) (b / 524288 % 8)
+    block-says : isLead (entryAt P 1 d (b / 4194304)) ≡ false → rightOf F P d b
+        ≡ rightAt (entryAt P 1 d (b / 4194304)) (b / 524288 % 8)
     block-says l =
         let x : 1024 * d + index 2 b ≡ 1024 * d + b / 4194304 = omega arith in
         ap (λ k. right F P 2 k b) x ∙ right-says F P 2 _ b l

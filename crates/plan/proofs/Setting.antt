@@ -1,4 +1,5 @@
--- The setting in which a change is planned: a settled pool, a region of a domain, and the places of the finished tables. Definitions.
+-- The setting in which a change is planned: a settled pool, a region of a domain, and the places of the finished
+-- tables. Definitions.
 use Prim.Native.Nat.{ℕ, _<_}
 use mathlib.Core.Bool.{Bool}
 use Rattle.theory.specs.Settled.{Settled}

@@ -1,5 +1,5 @@
--- Laws of the setting in which a change is planned: the rights are rights of words, and an entry of the finished pool leads where its block
--- wants a table.
+-- Laws of the setting in which a change is planned: the rights are rights of words, and an entry of the finished pool
+-- leads where its block wants a table.
 use Prim.Native.Nat.{ℕ, zero, suc, _*_, _<_}
 use mathlib.Core.Path.{_≡_, sym, ap, _∙_}
 use mathlib.Core.Bool.{Bool, true}
@@ -34,7 +34,8 @@ place-low D M L zero p range hi b = lt-ltb (placeAt D M L 0 p) 2147483648 (omega
 place-low D M L (suc zero) p range hi b = lt-ltb (placeAt D M L 1 p) 2147483648 (omega arith)
 place-low D M L (suc (suc h)) p range hi b = absurd (omega arith)
 
-module _ {s : Shape} {d : ℕ} {paint : Paint} {P middle leaf : ℕ → ℕ} {freeM freeL : ℕ → Bool} (c : Setting s d paint P middle leaf freeM freeL) where
+module _ {s : Shape} {d : ℕ} {paint : Paint} {P middle leaf : ℕ → ℕ} {freeM freeL : ℕ → Bool}
+    (c : Setting s d paint P middle leaf freeM freeL) where
   abbrev D : ℕ
   D = s .domains
 
@@ -48,11 +49,13 @@ module _ {s : Shape} {d : ℕ} {paint : Paint} {P middle leaf : ℕ → ℕ} {fr
   T = aims s d paint P
 
   pub aims-rights : (e : ℕ) → WordRights (T e)
-  aims-rights e = changed-rights (rightOf (formOf s) P) d (region paint) (paint .right) e (c .regular .right) (pool-rights D M L P e)
+  aims-rights e = changed-rights (rightOf (formOf s) P) d (region paint) (paint .right) e (c .regular .right)
+      (pool-rights D M L P e)
 
   -- Both heights in one.
   pub placed : (h : ℕ) → h < 2
-      → Owned (blocks h * D) (places D M L h) (want T h) (old P h) (either freeL freeM h) (was D M L P h) (either leaf middle h)
+      → Owned (blocks h * D) (places D M L h) (want T h) (old P h) (either freeL freeM h) (was D M L P h)
+      (either leaf middle h)
   placed zero hi = c .leaves
   placed (suc zero) hi = c .middles
   placed (suc (suc h)) hi = absurd (omega arith)
@@ -62,7 +65,8 @@ module _ {s : Shape} {d : ℕ} {paint : Paint} {P middle leaf : ℕ → ℕ} {fr
     pub plain-entry : (r : ℕ) → Plain s d paint P h i r → entryWord D M L middle leaf T P h i ≡ eightOf r
     plain-entry r pl =
         entry-says D M L middle leaf T P h i (plain-want s d paint P h i hi bi r pl)
-        ∙ said-near (T (domainOf h i)) (λ b. r) (suc h) (addressOf h i) (number-first h D i hi bi .1) (λ b bb x. pl b bb (x ∙ first-address h i hi))
+        ∙ said-near (T (domainOf h i)) (λ b. r) (suc h) (addressOf h i) (number-first h D i hi bi .1)
+        (λ b bb x. pl b bb (x ∙ first-address h i hi))
         ∙ said-plain r h (addressOf h i)
 
     -- The finished entry leads where the block wants a table.
@@ -70,7 +74,8 @@ module _ {s : Shape} {d : ℕ} {paint : Paint} {P middle leaf : ℕ → ℕ} {fr
     entry-lead = by-cases (want T h i)
         (λ w. ap isLead (entry-leads D M L middle leaf T P h i w) ∙ led w ∙ sym w)
         (λ w. ap isLead (entry-says D M L middle leaf T P h i w)
-        ∙ wants-says D M L (T (domainOf h i)) (suc h) (addressOf h i) (aims-rights (domainOf h i)) (omega arith) (number-first h D i hi bi .1) w .rights
+        ∙ wants-says D M L (T (domainOf h i)) (suc h) (addressOf h i) (aims-rights (domainOf h i)) (omega arith)
+        (number-first h D i hi bi .1) w .rights
         ∙ sym w)
       where
         led : want T h i ≡ true → isLead (tableOf D M L middle leaf h i) ≡ true

@@ -26,7 +26,8 @@ use Rattle.plan.proofs.MeetLaws.{RightsStay}
 use Rattle.plan.proofs.WantedLaws.{first-address, stays-want}
 use Rattle.plan.proofs.SettingLaws.{placed}
 
-module _ {s : Shape} {d : ℕ} {paint : Paint} {P middle leaf : ℕ → ℕ} {freeM freeL : ℕ → Bool} (c : Setting s d paint P middle leaf freeM freeL) where
+module _ {s : Shape} {d : ℕ} {paint : Paint} {P middle leaf : ℕ → ℕ} {freeM freeL : ℕ → Bool}
+    (c : Setting s d paint P middle leaf freeM freeL) where
   abbrev D : ℕ
   D = s .domains
 
@@ -61,15 +62,18 @@ module _ {s : Shape} {d : ℕ} {paint : Paint} {P middle leaf : ℕ → ℕ} {fr
       let y : P r ≡ placeAt D M L h p =
       t ∙ ap (λ u. P (entryOf P h u)) x ∙ old-at D M L (c .settled .sound) h hi i bo o .1
       ∙ ap (placeAt D M L h) (sym (placed c h hi .held .kept p bp bo o .1)) in
-      let z : P r + index h a ≡ k = ap (λ u. u + index h a) y ∙ ap (λ u. placeAt D M L h p + u) (address-index h i j hi bj) ∙ sym q in
+      let z : P r + index h a ≡ k = ap (λ u. u + index h a) y ∙ ap (λ u. placeAt D M L h p + u)
+      (address-index h i j hi bj) ∙ sym q in
       rw z at (next v l)
 
   -- A word that the old walk visits, of a block whose rights stay, and that did not lead.
-  module _ (m e a k : ℕ) (hm : m ≤ 2) (be : e < D) (ba : a < addresses) (v : Visits F P a 2 (entry F e a) m k) (l : leads m (P k) ≡ false)
+  module _ (m e a k : ℕ) (hm : m ≤ 2) (be : e < D) (ba : a < addresses) (v : Visits F P a 2 (entry F e a) m k)
+      (l : leads m (P k) ≡ false)
       (near : (b : ℕ) → b < addresses → b / block m ≡ a / block m → T e b ≡ R e b) where
     said-stays : saidOf (T e) m a ≡ P k
     said-stays = said-near (T e) (R e) m a ba near
-        ∙ sym (says-said D M L (R e) m a (pool-rights D M L P e) hm ba (P k) (says-at F (lawful D M L) P (c .settled .sound) e a m k be v l))
+        ∙ sym (says-said D M L (R e) m a (pool-rights D M L P e) hm ba (P k)
+        (says-at F (lawful D M L) P (c .settled .sound) e a m k be v l))
 
     unsaid-stays : wantsOf (T e) m a ≡ false
     unsaid-stays = by-cases (wantsOf (T e) m a)
@@ -79,7 +83,8 @@ module _ {s : Shape} {d : ℕ} {paint : Paint} {P middle leaf : ℕ → ℕ} {fr
 
   -- The entry of a block whose rights stay, where the old walk comes to it.
   entry-stays : (h i k : ℕ) → h < 2 → i < blocks h * D → RightsStay s d paint P h i
-      → Visits F P (addressOf h i) 2 (entry F (domainOf h i) (addressOf h i)) (suc h) k → entryWord D M L middle leaf T P h i ≡ P k
+      → Visits F P (addressOf h i) 2 (entry F (domainOf h i) (addressOf h i)) (suc h) k
+      → entryWord D M L middle leaf T P h i ≡ P k
   entry-stays h i k hi bi st v =
       let (be, ba, x) = number-first h D i hi bi in
       by-cases (leads (suc h) (P k))
@@ -91,10 +96,12 @@ module _ {s : Shape} {d : ℕ} {paint : Paint} {P middle leaf : ℕ → ℕ} {fr
       ∙ ap (placeAt D M L h) (seek-keeps _ _ _ _ _ _ (placed c h hi) i bi w o .1)
       ∙ sym (old-at D M L (c .settled .sound) h hi i bi o .1) ∙ (rw x at t))
       (λ l.
-      entry-says D M L middle leaf T P h i (unsaid-stays (suc h) (domainOf h i) (addressOf h i) k (omega arith) be ba v l near)
+      entry-says D M L middle leaf T P h i (unsaid-stays (suc h) (domainOf h i) (addressOf h i) k (omega arith) be ba
+      v l near)
       ∙ said-stays (suc h) (domainOf h i) (addressOf h i) k (omega arith) be ba v l near)
     where
-      near : (b : ℕ) → b < addresses → b / block (suc h) ≡ addressOf h i / block (suc h) → T (domainOf h i) b ≡ R (domainOf h i) b
+      near : (b : ℕ) → b < addresses → b / block (suc h) ≡ addressOf h i / block (suc h) → T (domainOf h i) b
+          ≡ R (domainOf h i) b
       near b bb y = st b bb (y ∙ first-address h i hi)
 
   -- A root word.
@@ -117,7 +124,8 @@ module _ {s : Shape} {d : ℕ} {paint : Paint} {P middle leaf : ℕ → ℕ} {fr
   leaf-stays k p j x bo o st =
       let (be, ba, _) = number-of 0 D (leaf p) (64 * j) (omega arith) bo (omega arith) in
       let w : (addressOf 0 (leaf p) + 64 * j) / 4096 ≡ leaf p % 1048576 = omega arith in
-      said-stays 0 (domainOf 0 (leaf p)) (addressOf 0 (leaf p) + 64 * j) k (omega arith) be ba (place-visits k 0 p j x bo o) refl
+      said-stays 0 (domainOf 0 (leaf p)) (addressOf 0 (leaf p) + 64 * j) k (omega arith) be ba
+      (place-visits k 0 p j x bo o) refl
       (λ b bb y. st b bb (block-above 1 0 b _ (omega arith) (omega arith) y ∙ w))
 
   -- The pages of a block whose rights stay, stay.

@@ -1,5 +1,5 @@
--- What blocks want after a change of a settled pool: as before where the rights stay, no table where there is one right; so only the two
--- ends of the region can want a table that they did not have.
+-- What blocks want after a change of a settled pool: as before where the rights stay, no table where there is one
+-- right; so only the two ends of the region can want a table that they did not have.
 use Prim.Native.Nat.{ℕ, zero, suc, _+_, _*_, _/_, _%_, _<_}
 use mathlib.Core.Path.{_≡_, refl, sym, _∙_}
 use mathlib.Core.Logic.{_⊎_, ⊎-elim}
@@ -36,7 +36,8 @@ module _ (s : Shape) (d : ℕ) (paint : Paint) (P : ℕ → ℕ) (h i : ℕ) (hi
   -- A block of one right wants no table.
   pub plain-want : (r : ℕ) → Plain s d paint P h i r → want (aims s d paint P) h i ≡ false
   plain-want r pl =
-      wants-near (aims s d paint P (domainOf h i)) (λ b. r) (suc h) (addressOf h i) (number-first h (s .domains) i hi bi .1)
+      wants-near (aims s d paint P (domainOf h i)) (λ b. r) (suc h) (addressOf h i)
+      (number-first h (s .domains) i hi bi .1)
       (λ b bb x. pl b bb (x ∙ first-address h i hi))
       ∙ wants-plain r (suc h) (addressOf h i)
 

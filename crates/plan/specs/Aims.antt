@@ -1,4 +1,5 @@
--- What a change aims at: which rights it sets, and that they are those of the pool elsewhere. A tidying is the change of an empty region.
+-- What a change aims at: which rights it sets, and that they are those of the pool elsewhere. A tidying is the change
+-- of an empty region.
 use Prim.Native.Nat.{ℕ, _≤_}
 use mathlib.Core.Path.{_≡_}
 use mathlib.Core.Bool.{Bool, true}
@@ -22,7 +23,8 @@ aims s d paint P = changed (rightOf (formOf s) P) d (region paint) (paint .right
 abbrev pub Covered : ℕ → Paint → ℕ → ℕ → Type 0
 Covered d paint e a = (e ≡ d) × (covered (region paint) a ≡ true)
 
--- What a change of the pool `p` is to become: `Q` is the finished pool, and `kept` tells the words of roots and of tables that stay.
+-- What a change of the pool `p` is to become: `Q` is the finished pool, and `kept` tells the words of roots and of
+-- tables that stay.
 pub record Goal (s : Shape) (d : ℕ) (paint : Paint) (p : List ℕ) (Q : ℕ → ℕ) (kept : ℕ → Bool) : Type 0 where
   pub sound : SoundPool (formOf s) (words p)
   pub finished : Finished (formOf s) (words p) (aims s d paint (words p)) Q

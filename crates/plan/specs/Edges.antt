@@ -1,4 +1,5 @@
--- The edges of a plan, the places of its tables, and what it is for a plan to be ready; then, for the inner functions, the steps by which it is made.
+-- The edges of a plan, the places of its tables, and what it is for a plan to be ready; then, for the inner
+-- functions, the steps by which it is made.
 use Prim.Native.Nat.{ℕ, zero, suc, _+_, _*_, _-_, _/_, _%_, _≤_, _<_}
 use mathlib.Core.Path.{_≡_}
 use mathlib.Core.Logic.{_⊎_}
@@ -34,14 +35,16 @@ use Rattle.plan.specs.Plan.{isLead, isNew}
 use Rattle.plan.specs.Aims.{aims}
 use Rattle.plan.specs.Planning.{Regular}
 
--- The number in its domain of the first and of the last block of height `suc h` (pages 0, blocks 1) that the region meets.
+-- The number in its domain of the first and of the last block of height `suc h` (pages 0, blocks 1) that the region
+-- meets.
 abbrev pub firstOf : ℕ → Paint → ℕ
 firstOf h paint = 4 * paint .lo / block (suc h)
 
 abbrev pub lastOf : ℕ → Paint → ℕ
 lastOf h paint = (4 * paint .hi - 1) / block (suc h)
 
--- The entry that block `n` of domain `d` has in the pool `P`; of a page in a block of eight rights, the eight rights that stand for it.
+-- The entry that block `n` of domain `d` has in the pool `P`; of a page in a block of eight rights, the eight rights
+-- that stand for it.
 abbrev pub entryAt : (ℕ → ℕ) → ℕ → ℕ → ℕ → ℕ
 entryAt P zero d n =
     cond (isLead (P (1024 * d + n / 1024))) (P (P (1024 * d + n / 1024) + n % 1024))
@@ -53,7 +56,8 @@ module _ (s : Shape) (d : ℕ) (paint : Paint) (P middle leaf : ℕ → ℕ) whe
   pub record EdgeIs (h n : ℕ) (e : Edge) : Type 0 where
     pub number : e .number ≡ n
     pub old : e .old ≡ entryAt P h d n
-    pub last : e .last ≡ entryWord (s .domains) (s .middles) (s .leaves) middle leaf (aims s d paint P) P h (blocks h * d + n)
+    pub last : e .last ≡ entryWord (s .domains) (s .middles) (s .leaves) middle leaf (aims s d paint P) P h
+        (blocks h * d + n)
 
   -- The plan is right at its edges.
   pub record Edges (q : Plan) : Type 0 where
@@ -67,7 +71,8 @@ module _ (s : Shape) (d : ℕ) (paint : Paint) (P middle leaf : ℕ → ℕ) whe
 -- The tables of height `h` (0 leaves, 1 middle tables) have their places: `owner` says which block stands where.
 abbrev pub Placed : Shape → ℕ → Paint → (ℕ → ℕ) → ℕ → (ℕ → Bool) → (ℕ → ℕ) → Type 0
 Placed s d paint P h free owner =
-    Owned (blocks h * s .domains) (places (s .domains) (s .middles) (s .leaves) h) (want (aims s d paint P) h) (old P h) free
+    Owned (blocks h * s .domains) (places (s .domains) (s .middles) (s .leaves) h) (want (aims s d paint P) h)
+    (old P h) free
     (was (s .domains) (s .middles) (s .leaves) P h) owner
 
 -- A plan that is ready: the tables of the finished pool have their places, and the plan is right at its edges.
@@ -87,7 +92,8 @@ PlansChange s d paint P NoRoom = Room (s .domains) (s .middles) (s .leaves) (aim
 
 -- The steps. First the edges, then the marks of kept tables, then the places of new ones.
 
--- An edge with what is known before places are given out: eight rights, the pointer that it had, or a pointer that waits for its place.
+-- An edge with what is known before places are given out: eight rights, the pointer that it had, or a pointer that
+-- waits for its place.
 abbrev pub edgeFor : ℕ → ℕ → Target → Edge
 edgeFor n e (Says w) = record { number = n; old = e; last = w }
 edgeFor n e Mixed = record { number = n; old = e; last = cond (isLead e) e 2147483647 }
@@ -133,7 +139,8 @@ pub record Marked (o : List ℕ) (h m d : ℕ) (first last : Edge) (f : List Boo
   pub each : (p : ℕ) → p < m → getD f p false ≡ ownerStays h d first last (getD o (firstNumber h + p) 0)
 
 module _ (s : Shape) (d : ℕ) (paint : Paint) (P : ℕ → ℕ) where
-  -- What is known of the edge of block `n` of height `suc h`: its entry leads where the block wants a table, to the one that it had, if any.
+  -- What is known of the edge of block `n` of height `suc h`: its entry leads where the block wants a table, to the
+  -- one that it had, if any.
   pub record Told (h n : ℕ) (e : Edge) : Type 0 where
     pub number : e .number ≡ n
     pub old : e .old ≡ entryAt P h d n
@@ -150,9 +157,11 @@ module _ (s : Shape) (d : ℕ) (paint : Paint) (P : ℕ → ℕ) where
   -- Of the tables of height `h` of the blocks below `i`, the places of those that are kept are marked.
   pub record KeptMarked (h i : ℕ) (f : List Bool) : Type 0 where
     pub owner : ℕ → ℕ
-    pub keeping : Keeping (blocks h * s .domains) (places (s .domains) (s .middles) (s .leaves) h) (want (aims s d paint P) h) (old P h)
+    pub keeping : Keeping (blocks h * s .domains) (places (s .domains) (s .middles) (s .leaves) h)
+        (want (aims s d paint P) h) (old P h)
         (was (s .domains) (s .middles) (s .leaves) P h) i owner
-    pub marks : (p : ℕ) → p < places (s .domains) (s .middles) (s .leaves) h → getD f p false ≡ ltb (owner p) (blocks h * s .domains)
+    pub marks : (p : ℕ) → p < places (s .domains) (s .middles) (s .leaves) h → getD f p false
+        ≡ ltb (owner p) (blocks h * s .domains)
     pub long : length f ≡ 64
 
   -- The edge of block `n`, where `owner` says which block stands where.
@@ -160,7 +169,8 @@ module _ (s : Shape) (d : ℕ) (paint : Paint) (P : ℕ → ℕ) where
     pub number : e .number ≡ n
     pub old : e .old ≡ entryAt P h d n
     pub last : e .last ≡ cond (want (aims s d paint P) h (blocks h * d + n))
-        (placeAt (s .domains) (s .middles) (s .leaves) h (seek owner (blocks h * d + n) (places (s .domains) (s .middles) (s .leaves) h)))
+        (placeAt (s .domains) (s .middles) (s .leaves) h
+        (seek owner (blocks h * d + n) (places (s .domains) (s .middles) (s .leaves) h)))
         (saidOf (aims s d paint P (domainOf h (blocks h * d + n))) (suc h) (addressOf h (blocks h * d + n)))
 
   -- The tables of height `h` have their places, and the edges `f` and `l` of the two ends of the region lead to theirs.
@@ -174,7 +184,8 @@ module _ (s : Shape) (d : ℕ) (paint : Paint) (P : ℕ → ℕ) where
   -- They have their places, or they are too many.
   abbrev pub EndsAre : ℕ → Ends → Type 0
   EndsAre h (Both f l) = EndsPlaced h f l
-  EndsAre h Full = places (s .domains) (s .middles) (s .leaves) h < count (want (aims s d paint P) h) (blocks h * s .domains)
+  EndsAre h Full = places (s .domains) (s .middles) (s .leaves) h < count (want (aims s d paint P) h)
+      (blocks h * s .domains)
 
 -- `r` is the first place from `c` on that is not marked, or `m` where all below `m` are.
 pub record FirstFree (f : List Bool) (c m r : ℕ) : Type 0 where
@@ -200,7 +211,8 @@ TakenIs f c m from long e (At g b) = ((isNew e ≡ false) × (g ≡ e) × (b ≡
 TakenIs f c m from long e None = (isNew e ≡ true) × ((q : ℕ) → c ≤ q → q < m → getD f q false ≡ true)
 
 -- What the loops over kept places have found, and what is known of the edges: enough to give the places out.
-pub record GivesOut (s : Shape) (d : ℕ) (paint : Paint) (P : ℕ → ℕ) (h : ℕ) (f : List Bool) (m from long : ℕ) (first last : Edge) : Type 0 where
+pub record GivesOut (s : Shape) (d : ℕ) (paint : Paint) (P : ℕ → ℕ) (h : ℕ) (f : List Bool) (m from long : ℕ)
+    (first last : Edge) : Type 0 where
   pub height : h < 2
   pub range : InRange (s .domains) (s .middles) (s .leaves)
   pub settled : Settled (formOf s) P
@@ -215,4 +227,5 @@ pub record GivesOut (s : Shape) (d : ℕ) (paint : Paint) (P : ℕ → ℕ) (h :
 -- Whichever change that is, the places are right for it.
 abbrev pub EndsGiven : List Bool → ℕ → ℕ → ℕ → Edge → Edge → Ends → Type 0
 EndsGiven f m from long first last r =
-    (s : Shape) (d : ℕ) (paint : Paint) (P : ℕ → ℕ) (h : ℕ) → GivesOut s d paint P h f m from long first last → EndsAre s d paint P h r
+    (s : Shape) (d : ℕ) (paint : Paint) (P : ℕ → ℕ) (h : ℕ) → GivesOut s d paint P h f m from long first last
+    → EndsAre s d paint P h r

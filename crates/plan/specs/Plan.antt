@@ -1,4 +1,5 @@
--- The plan of a change: what each pool word is to hold, from the plan, the word's number and what it holds; and in which phase it is stored.
+-- The plan of a change: what each pool word is to hold, from the plan, the word's number and what it holds; and in
+-- which phase it is stored.
 use Prim.Native.Nat.{ℕ, _+_, _*_, _-_, _/_, _%_, _<_, _≤_}
 use mathlib.Core.Path.{_≡_}
 use mathlib.Core.Bool.{Bool, cond, _&&_, _||_, not}
@@ -35,12 +36,14 @@ rootAfter q i x =
     (cond (eqb i (q .«last_block» .number)) (q .«last_block» .last)
     (cond (ltb (q .«first_block» .number) i && ltb i (q .«last_block» .number)) (eightOf (q .paint .right)) x))
 
--- Word `j` of the middle table of an edge, where it holds `x`: a page outside the region keeps its entry, or gets the one that stood for it.
+-- Word `j` of the middle table of an edge, where it holds `x`: a page outside the region keeps its entry, or gets the
+-- one that stood for it.
 abbrev pub pageAfter : Plan → Edge → ℕ → ℕ → ℕ
 pageAfter q b j x =
     cond (eqb (1024 * b .number + j) (q .«first_page» .number)) (q .«first_page» .last)
     (cond (eqb (1024 * b .number + j) (q .«last_page» .number)) (q .«last_page» .last)
-    (cond (ltb (q .«first_page» .number) (1024 * b .number + j) && ltb (1024 * b .number + j) (q .«last_page» .number)) (eightOf (q .paint .right))
+    (cond (ltb (q .«first_page» .number) (1024 * b .number + j) && ltb (1024 * b .number + j)
+    (q .«last_page» .number)) (eightOf (q .paint .right))
     (cond (isLead (b .old)) x (eightOf (rightAt (b .old) (j / 128))))))
 
 -- The leaf entry `w` of the 64 bytes numbered `n`, once the region is painted.
@@ -49,7 +52,8 @@ paintedLeaf p w n = saidOf (painted p (λ a. rightAt w (a / 4 % 16))) 0 (n * 64)
 
 -- Word `i` of the leaf of an edge, where it holds `x`: what it held, or what the page's entry said of it, painted.
 abbrev pub leafAfter : Plan → Edge → ℕ → ℕ → ℕ
-leafAfter q g i x = paintedLeaf (q .paint) (cond (isLead (g .old)) x (sixteenOf (rightAt (g .old) (i / 8)))) (64 * g .number + i)
+leafAfter q g i x = paintedLeaf (q .paint) (cond (isLead (g .old)) x (sixteenOf (rightAt (g .old) (i / 8))))
+    (64 * g .number + i)
 
 -- What word `k` is to hold, where it holds `x`.
 unfoldable pub after : Plan → ℕ → ℕ → ℕ
@@ -64,10 +68,13 @@ after q k x =
 -- Word `k` is of a new table.
 unfoldable pub newWord : Plan → ℕ → Bool
 newWord q k =
-    (isNew (q .«first_block») && InTable (q .«first_block» .last) 1024 k) || (isNew (q .«last_block») && InTable (q .«last_block» .last) 1024 k)
-    || (isNew (q .«first_page») && InTable (q .«first_page» .last) 64 k) || (isNew (q .«last_page») && InTable (q .«last_page» .last) 64 k)
+    (isNew (q .«first_block») && InTable (q .«first_block» .last) 1024 k) ||
+    (isNew (q .«last_block») && InTable (q .«last_block» .last) 1024 k)
+    || (isNew (q .«first_page») && InTable (q .«first_page» .last) 64 k) ||
+    (isNew (q .«last_page») && InTable (q .«last_page» .last) 64 k)
 
--- The phase in which word `k`, which holds `x`, is stored: 2 in a new table; else 1 where it leads, 3 where it does not.
+-- The phase in which word `k`, which holds `x`, is stored: 2 in a new table; else 1 where it leads, 3 where it does
+-- not.
 abbrev pub phaseOf : Shape → Plan → ℕ → ℕ → ℕ
 phaseOf s q k x = cond (newWord q k) 2 (cond (ltb k (firstLeaf (s .domains) (s .middles)) && isLead x) 1 3)
 

@@ -8,8 +8,8 @@ use crate::Edge;
 use crate::Marks;
 use census::NONE;
 
-// Whether block `n` of domain `e`, which has a table, wants it after the change too: only the change's own domain is touched, and there only the
-// blocks from the first edge to the last; those between the two are covered whole.
+// Whether block `n` of domain `e`, which has a table, wants it after the change too: only the change's own domain is
+// touched, and there only the blocks from the first edge to the last; those between the two are covered whole.
 fn still_wanted(domain: u32, first: Edge, last: Edge, e: u32, n: u32) -> bool
     ensures { λ r. ⌜ r ≡ staysOf domain first last e n ⌝ }
 {

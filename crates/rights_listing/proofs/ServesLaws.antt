@@ -2,18 +2,19 @@
 use Prim.Native.Nat.{ℕ, suc, _<_, _≤_}
 use native.Mathlib.Omega.{arith}
 use mathlib.Core.Path.{_≡_, refl, sym, ap, _∙_}
+use mathlib.Core.Logic.{⊎-elim}
 use mathlib.Core.Bool.{Bool, true, false, cond}
 use mathlib.Core.List.{List, [], _∷_, _++_}
 use lib.Dec.{eqb, ltb}
 use lib.ListN.{length}
-use Rattle.words.specs.declared.Rounded.the-variants.{Covers, Refused as NoRegion}
-use Rattle.words.specs.Region.{roundedEnd, rounded, regionOf}
+use Rattle.words.proofs.RegionLaws.{region-number}
 use Rattle.table.specs.declared.Shape.{Shape}
 use Rattle.change.specs.declared.Answer.{Answer}
 use Rattle.change.specs.declared.Answer.the-variants.{Done, Cut, Refused}
 use Rattle.change.specs.Cuts.{differing}
 use Rattle.change.specs.Answers.{numbers, ChangesRegion, Changes}
 use Rattle.change.specs.Answers as answers
+use Rattle.change.proofs.AnswerLaws.{done-cut, refused-cut, same-number}
 use Rattle.change.proofs.ChangesLaws.{one-change}
 use Rattle.lines.specs.declared.Parsed.{Parsed}
 use Rattle.lines.specs.declared.Parsed.the-variants.{Request, NotOfForm}
@@ -31,23 +32,17 @@ differing-most (x ∷ p) (y ∷ q) = go (eqb x y) (differing-most p q)
     go true h = omega arith
     go false h = omega arith
 
-not-done : {n : ℕ} → Done n ≡ Cut → ⊥
-not-done e = let z : _≡_ {A = ℕ} 0 1 = cc in omega arith
-
-not-refused : {n : ℕ} → Refused n ≡ Cut → ⊥
-not-refused e = let z : _≡_ {A = ℕ} 0 1 = cc in omega arith
-
 -- The allowance suffices: no change is cut.
 pub never-cut : {p q : List ℕ} {d start len r : ℕ} {a : Answer} → a ≡ Cut
     → Changes p whole d start len r suffices a q → ⊥
-never-cut e (answers.no-shape f) = not-refused e
-never-cut e (answers.no-domain f h) = not-refused e
-never-cut e (answers.no-right f h g) = not-refused e
-never-cut e (answers.no-region f h g k z) = not-refused e
-never-cut e (answers.in-order g o (answers.unsound u)) = not-refused e
-never-cut e (answers.in-order g o (answers.unsettled u v)) = not-refused e
-never-cut e (answers.in-order g o (answers.no-room u v)) = not-refused e
-never-cut e (answers.in-order g o (answers.done t q z)) = not-done e
+never-cut e (answers.no-shape f) = refused-cut e
+never-cut e (answers.no-domain f h) = refused-cut e
+never-cut e (answers.no-right f h g) = refused-cut e
+never-cut e (answers.no-region f h g k z) = refused-cut e
+never-cut e (answers.in-order g o (answers.unsound u)) = refused-cut e
+never-cut e (answers.in-order g o (answers.unsettled u v)) = refused-cut e
+never-cut e (answers.in-order g o (answers.no-room u v)) = refused-cut e
+never-cut e (answers.in-order g o (answers.done t q z)) = done-cut e
 never-cut {p = p} e (answers.in-order g o (answers.cut t x z)) =
     let n = z .cut .count in
     let m = differing-most p x in
@@ -64,19 +59,6 @@ serves-none e = rw e not-of-form
 
 -- ---- 0 means done.
 
-same-number : {j k : ℕ} → Refused j ≡ Refused k → j ≡ k
-same-number e = cc
-
--- A region is refused with 4 or 5.
-region-number : (start len k : ℕ) → regionOf start len ≡ NoRegion k → 4 ≤ k
-unfolding regionOf
-region-number start len k = go (eqb len 0) (ltb 4294967296 (roundedEnd start len))
-  where
-    go : (b c : Bool) → cond b (NoRegion 4) (cond c (NoRegion 5) (Covers (rounded start len))) ≡ NoRegion k → 4 ≤ k
-    go true c e = let z : 4 ≡ k = cc in omega arith
-    go false true e = let z : 5 ≡ k = cc in omega arith
-    go false false e = let z : _≡_ {A = ℕ} 0 1 = cc in omega arith
-
 -- No refusal has the number 0.
 refused-some : {p q : List ℕ} {d start len r n k : ℕ} {a : Answer} → a ≡ Refused k
     → Changes p whole d start len r n a q → 0 < k
@@ -84,9 +66,8 @@ refused-some e (answers.no-shape f) = let z = same-number e in omega arith
 refused-some e (answers.no-domain f h) = let z = same-number e in omega arith
 refused-some e (answers.no-right f h g) = let z = same-number e in omega arith
 refused-some {start = start} {len = len} e (answers.no-region f h g k z) =
-    let y = region-number start len k z in
     let x = same-number e in
-    omega arith
+    ⊎-elim (λ y. omega arith) (λ y. omega arith) (region-number start len k z)
 refused-some e (answers.in-order g o (answers.unsound u)) = let z = same-number e in omega arith
 refused-some e (answers.in-order g o (answers.unsettled u v)) = let z = same-number e in omega arith
 refused-some e (answers.in-order g o (answers.no-room u v)) = let z = same-number e in omega arith

@@ -31,9 +31,11 @@ block-above (suc i) h a b lo hi e = elim (ℕ-discrete h (suc i)) [
       ∙ sym (block-up i b (omega arith))
 ]
 
-block-below : (h a b : ℕ) → h < 2 → a / block (suc h) ≡ b / block (suc h) → index h a ≡ index h b → a / block h ≡ b / block h
+block-below : (h a b : ℕ) → h < 2 → a / block (suc h) ≡ b / block (suc h) → index h a ≡ index h b → a / block h
+    ≡ b / block h
 block-below h a b hi e f =
-    block-index h a hi ∙ ap (λ x. x * size h + index h a) e ∙ ap (λ x. b / block (suc h) * size h + x) f ∙ sym (block-index h b hi)
+    block-index h a hi ∙ ap (λ x. x * size h + index h a) e ∙ ap (λ x. b / block (suc h) * size h + x) f
+    ∙ sym (block-index h b hi)
 
 module _ (D M L : ℕ) where
   -- Addresses of one block lie together ..
@@ -41,7 +43,8 @@ module _ (D M L : ℕ) where
   block-together h a b e i lo hi = ap (λ x. x % size i) (block-above i h a b lo hi e)
 
   -- .. and addresses that lie together are of one block.
-  pub together-block : (h a b : ℕ) → h ≤ 2 → a < addresses → b < addresses → Together (form D M L) h a b → a / block h ≡ b / block h
+  pub together-block : (h a b : ℕ) → h ≤ 2 → a < addresses → b < addresses → Together (form D M L) h a b → a / block h
+      ≡ b / block h
   together-block h a b hi ba bb t = down h hi t
     where
       two : Together (form D M L) 2 a b → a / block 2 ≡ b / block 2
@@ -51,7 +54,8 @@ module _ (D M L : ℕ) where
       one t = block-below 1 a b (omega arith) (two (λ i lo up. t i (omega arith) up)) (t 1 (omega arith) (omega arith))
 
       down : (h : ℕ) → h ≤ 2 → Together (form D M L) h a b → a / block h ≡ b / block h
-      down zero hi t = block-below 0 a b (omega arith) (one (λ i lo up. t i (omega arith) up)) (t 0 (omega arith) (omega arith))
+      down zero hi t = block-below 0 a b (omega arith) (one (λ i lo up. t i (omega arith) up))
+          (t 0 (omega arith) (omega arith))
       down (suc zero) hi t = one t
       down (suc (suc h)) hi t = let z : h ≡ 0 = omega arith in two (rw z at t)
 
@@ -123,8 +127,12 @@ word-of (suc (suc h)) b = omega arith
 
 pub which-word : (h a b : ℕ) → a / block h ≡ b / block h
     → (j : ℕ) × (j < wordsIn h) × (b / 4 * 4 ≡ wordAt h a (b / part h % parts h) j)
-which-word h a b e =
-    (b % part h / 4, inside h b, word-of h b ∙ ap (λ x. x * block h + part h * (b / part h % parts h) + 4 * (b % part h / 4)) (sym e))
+which-word h a b e = (
+  b % part h / 4,
+  inside h b,
+  word-of h b
+      ∙ ap (λ x. x * block h + part h * (b / part h % parts h) + 4 * (b % part h / 4)) (sym e),
+)
   where
     inside : (h b : ℕ) → b % part h / 4 < wordsIn h
     inside zero b = omega arith

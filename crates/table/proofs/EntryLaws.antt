@@ -55,10 +55,12 @@ module _ (s : Shape) (h w : ℕ) where
   pub decode-leaf : h ≡ 0 → decodeOf s h w ≡ Rights w
   decode-leaf e = rw (eq-eqb h 0 e)
 
-  pub decode-middle : h ≡ 1 → w < 2147483648 → decodeOf s h w ≡ leadsTo (firstLeaf (s .domains) (s .middles)) 64 (s .leaves) 8 w
+  pub decode-middle : h ≡ 1 → w < 2147483648 → decodeOf s h w ≡ leadsTo (firstLeaf (s .domains) (s .middles)) 64
+      (s .leaves) 8 w
   decode-middle e l = rw (e, lt-ltb w 2147483648 l)
 
-  pub decode-root : h ≢ 0 → h ≢ 1 → w < 2147483648 → decodeOf s h w ≡ leadsTo (firstMiddle (s .domains)) 1024 (s .middles) 0 w
+  pub decode-root : h ≢ 0 → h ≢ 1 → w < 2147483648 → decodeOf s h w ≡ leadsTo (firstMiddle (s .domains)) 1024
+      (s .middles) 0 w
   decode-root a b l = rw (ne-eqb h 0 a, lt-ltb w 2147483648 l, ne-eqb h 1 b)
 
   pub decode-rights : h ≢ 0 → 2147483648 ≤ w → decodeOf s h w ≡ cond (goodRights w) (Rights w) Bad
@@ -84,7 +86,8 @@ shown-bad true false g w t n e = refl
 shown-bad false p true w t n e = absurd (not-rights (sym e))
 shown-bad false p false w t n e = refl
 
-shown-rights : (l p g : Bool) (w : ℕ) (t : PoolWord) (n r : ℕ) → shown l p g w t n ≡ Rights r → (r ≡ w) × (cond l p g ≡ true) × (l ≡ false)
+shown-rights : (l p g : Bool) (w : ℕ) (t : PoolWord) (n r : ℕ) → shown l p g w t n ≡ Rights r → (r ≡ w)
+    × (cond l p g ≡ true) × (l ≡ false)
 shown-rights true true g w t n r e = absurd (never-both (sym e))
 shown-rights true false g w t n r e = absurd (not-rights e)
 shown-rights false p true w t n r e = (cc, refl, refl)
@@ -106,16 +109,19 @@ module _ (from long n nth w : ℕ) where
   upperGood = cond (ltb w 2147483648) (isPlace from long n w) (goodRights w)
 
   upper-bad : upper ≡ Bad → upperGood ≡ false
-  upper-bad = shown-bad (ltb w 2147483648) (isPlace from long n w) (goodRights w) w (record { 0 = w }) (nth + (w - from) / long)
+  upper-bad = shown-bad (ltb w 2147483648) (isPlace from long n w) (goodRights w) w (record { 0 = w })
+      (nth + (w - from) / long)
 
   upper-rights : (r : ℕ) → upper ≡ Rights r → (r ≡ w) × (upperGood ≡ true) × (ltb w 2147483648 ≡ false)
-  upper-rights = shown-rights (ltb w 2147483648) (isPlace from long n w) (goodRights w) w (record { 0 = w }) (nth + (w - from) / long)
+  upper-rights = shown-rights (ltb w 2147483648) (isPlace from long n w) (goodRights w) w (record { 0 = w })
+      (nth + (w - from) / long)
 
   upper-leads : (t : PoolWord) (m : ℕ) → upper ≡ Leads t m
       → (t .0 ≡ w) × (m ≡ nth + (w - from) / long) × (upperGood ≡ true) × (ltb w 2147483648 ≡ true)
       × (from ≤ w) × (w < from + long * n) × ((w - from) % long ≡ 0)
   upper-leads t m e =
-      let (u, q, g, l, p) = shown-leads (ltb w 2147483648) (isPlace from long n w) (goodRights w) w (record { 0 = w }) (nth + (w - from) / long) t m e in
+      let (u, q, g, l, p) = shown-leads (ltb w 2147483648) (isPlace from long n w) (goodRights w) w (record { 0 = w })
+      (nth + (w - from) / long) t m e in
       let (x, y, z) = is-place from long n w p in
       (ap (λ v. v .0) u, q, g, l, x, y, z)
 

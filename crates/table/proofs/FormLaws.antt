@@ -4,7 +4,8 @@ use mathlib.Core.Path.{_≡_, refl, sym, ap, _∙_}
 use mathlib.Core.Bool.{Bool, true, false, _&&_, false≢true, and-eq-true-iff}
 use native.Mathlib.Omega.{arith}
 use native.Mathlib.Decide.{decLt}
-use native.Mathlib.Nat.{div-add-mod, div-lt-iff-lt-mul, mul-comm, mul-lt-mul-of-pos-left, add-sub-cancel-left, mul-mod-right}
+use native.Mathlib.Nat.{div-add-mod, div-lt-iff-lt-mul, mul-comm, mul-lt-mul-of-pos-left, add-sub-cancel-left}
+use native.Mathlib.Nat.{mul-mod-right}
 use lib.Dec.{ltb}
 use borrow.Author.Tests.{lt-ltb, le-ltb, ltb-true, le-leb, leb-true, eq-eqb, eqb-true}
 use Rattle.theory.specs.Settled.{Together, Says}
@@ -15,7 +16,8 @@ use Rattle.words.proofs.RightsLaws.{good-low, digits-equal, good-digits-equal}
 use Rattle.table.specs.Shape.{firstMiddle, firstLeaf, firstPlace, places}
 use Rattle.table.specs.Map.{addresses, block, part, parts, size, index, leads, isPlace, good, zone, form}
 use Rattle.table.specs.Wants.{wordAt, wordsIn}
-use Rattle.table.proofs.BlockLaws.{block-together, first-word, word-below, word-block, word-number, entryAt, entry-below}
+use Rattle.table.proofs.BlockLaws.{block-together, first-word, word-below, word-block, word-number, entryAt}
+use Rattle.table.proofs.BlockLaws.{entry-below}
 use Rattle.table.proofs.BlockLaws.{entry-block, entry-index}
 use Rattle.table.proofs.EntryLaws.{index-below}
 
@@ -25,7 +27,8 @@ both-and a b x y = and-eq-true-iff a b .1 (x, y)
 
 -- The test of a place: it is the first word of the `p`-th of the `n` places, counted from 0.
 
-pub place-nth : (from long n w : ℕ) → 0 < long → isPlace from long n w ≡ true → (p : ℕ) × (p < n) × (w ≡ from + long * p)
+pub place-nth : (from long n w : ℕ) → 0 < long → isPlace from long n w ≡ true → (p : ℕ) × (p < n)
+    × (w ≡ from + long * p)
 place-nth from long n w b e =
     let (f, z) = and-both _ _ e in
     let (lo, hi) = and-both _ _ f in
@@ -39,7 +42,8 @@ place-nth from long n w b e =
 pub nth-place : (from long n p : ℕ) → 0 < long → p < n → isPlace from long n (from + long * p) ≡ true
 nth-place from long n p b h =
     let m = mul-lt-mul-of-pos-left h b in
-    both-and _ _ (both-and _ _ (le-leb from (from + long * p) (omega arith)) (lt-ltb (from + long * p) (from + long * n) (omega arith)))
+    both-and _ _ (both-and _ _ (le-leb from (from + long * p) (omega arith))
+    (lt-ltb (from + long * p) (from + long * n) (omega arith)))
     (eq-eqb _ 0 (ap (λ x. x % long) (add-sub-cancel-left from (long * p)) ∙ mul-mod-right long p))
 
 module _ (D M L : ℕ) where
@@ -56,7 +60,8 @@ module _ (D M L : ℕ) where
 
   -- .. and each such word below 2^31 is one.
   pub place-leads : (h p : ℕ) → h < 2 → p < places D M L h → firstPlace D M L h + size h * p < 2147483648
-      → (good D M L (suc h) (firstPlace D M L h + size h * p) ≡ true) × (leads (suc h) (firstPlace D M L h + size h * p) ≡ true)
+      → (good D M L (suc h) (firstPlace D M L h + size h * p) ≡ true)
+      × (leads (suc h) (firstPlace D M L h + size h * p) ≡ true)
   place-leads zero p hi b low =
       let l = lt-ltb (firstLeaf D M + 64 * p) 2147483648 low in
       (rw l (nth-place (firstLeaf D M) 64 L p (omega arith) b), l)
@@ -95,12 +100,14 @@ module _ (D M L : ℕ) where
   zone-leaf : (i : ℕ) → firstLeaf D M ≤ i → zone D M L i ≡ 0
   zone-leaf i h = rw (le-ltb i (firstMiddle D) (omega arith), le-ltb i (firstLeaf D M) h)
 
-  zone-place : (h p i : ℕ) → h < 2 → p < places D M L h → i < size h → zone D M L (firstPlace D M L h + size h * p + i) ≡ h
+  zone-place : (h p i : ℕ) → h < 2 → p < places D M L h → i < size h
+      → zone D M L (firstPlace D M L h + size h * p + i) ≡ h
   zone-place zero p i hi b c = zone-leaf _ (omega arith)
   zone-place (suc zero) p i hi b c = zone-middle _ (omega arith) (omega arith)
   zone-place (suc (suc h)) p i hi b c = absurd (omega arith)
 
-  places-apart : (h f p i q j : ℕ) → i < size h → j < size h → f + size h * p + i ≡ f + size h * q + j → f + size h * p ≡ f + size h * q
+  places-apart : (h f p i q j : ℕ) → i < size h → j < size h → f + size h * p + i ≡ f + size h * q + j
+      → f + size h * p ≡ f + size h * q
   places-apart zero f p i q j b c e = omega arith
   places-apart (suc h) f p i q j b c e = omega arith
 
@@ -125,7 +132,8 @@ module _ (D M L : ℕ) where
       → rightAt w i ≡ R (wordAt h a i j)
   says-word h a i j w R ba bi bj s =
       ap (rightAt w) (sym (word-number h a i j bi bj))
-      ∙ s .each (wordAt h a i j) (word-below h a i j ba bi bj) (block-together D M L h a _ (sym (word-block h a i j bi bj)))
+      ∙ s .each (wordAt h a i j) (word-below h a i j ba bi bj)
+      (block-together D M L h a _ (sym (word-block h a i j bi bj)))
 
   rights-settle : (h w x : ℕ) → good D M L h w ≡ true → leads h w ≡ false → good D M L h x ≡ true → leads h x ≡ false
       → ((i : ℕ) → i < parts h → rightAt w i ≡ rightAt x i) → w ≡ x
@@ -138,7 +146,8 @@ module _ (D M L : ℕ) where
       rights-low : (y : ℕ) → goodRights y ≡ true → y < addresses
       rights-low y r = let z = eqb-true (y / 2147483648) 1 (and-both _ _ r .0) in omega arith
 
-  at-entry : (h a i : ℕ) → a < addresses → i < size h → (b : ℕ) × (b < addresses) × Together (form D M L) (suc h) a b × (index h b ≡ i)
+  at-entry : (h a i : ℕ) → a < addresses → i < size h → (b : ℕ) × (b < addresses) × Together (form D M L) (suc h) a b
+      × (index h b ≡ i)
   at-entry h a i ba bi = elim (decLt h 2) [
     | yes hi ↦ (
       entryAt h a i,
@@ -150,7 +159,8 @@ module _ (D M L : ℕ) where
   ]
     where
       -- Above a root there is nothing to lie together in.
-      above-all : (h : ℕ) → 2 ≤ h → i < size h → (b : ℕ) × (b < addresses) × Together (form D M L) (suc h) a b × (index h b ≡ i)
+      above-all : (h : ℕ) → 2 ≤ h → i < size h → (b : ℕ) × (b < addresses) × Together (form D M L) (suc h) a b
+          × (index h b ≡ i)
       above-all zero lo bi = absurd (omega arith)
       above-all (suc zero) lo bi = absurd (omega arith)
       above-all (suc (suc h)) lo bi = (4194304 * i, omega arith, λ j up hi. absurd (omega arith), omega arith)

@@ -12,7 +12,8 @@ use Rattle.table.specs.declared.Made.the-variants.{Done, Refused}
 use Rattle.table.specs.Shape.{fitsOf}
 use Rattle.table.specs.Fresh.{freshPool, MakesFresh}
 
--- A list whose first `r` elements were filled with `v` and then its others with `z`: what the second fill, of the part from `r` on, leaves.
+-- A list whose first `r` elements were filled with `v` and then its others with `z`: what the second fill, of the
+-- part from `r` on, leaves.
 module _ (r v z : ℕ) (p a b : List ℕ) (h : r ≤ length p) (ea : a ≡ replicate (length (take r p)) v)
     (eb : b ≡ replicate (length (take (length (a ++ drop r p) - r) (drop r (a ++ drop r p)))) z) where
   first-long : length a ≡ r
@@ -24,11 +25,14 @@ module _ (r v z : ℕ) (p a b : List ℕ) (h : r ≤ length p) (ea : a ≡ repli
   rest-long : length (a ++ drop r p) - r ≡ length (drop r p)
   rest-long = let x = length-append a (drop r p) in let y = first-long in omega arith
 
-  pub filled : take r (a ++ drop r p) ++ (b ++ drop (length (a ++ drop r p) - r) (drop r (a ++ drop r p))) ≡ replicate r v ++ replicate (length p - r) z
+  pub filled : take r (a ++ drop r p) ++ (b ++ drop (length (a ++ drop r p) - r) (drop r (a ++ drop r p)))
+      ≡ replicate r v ++ replicate (length p - r) z
   filled =
-      let e1 : take r (a ++ drop r p) ≡ replicate r v = take-at a (drop r p) r first-long ∙ ea ∙ ap (λ n. replicate n v) (length-take-le r p h) in
+      let e1 : take r (a ++ drop r p) ≡ replicate r v = take-at a (drop r p) r first-long ∙ ea
+      ∙ ap (λ n. replicate n v) (length-take-le r p h) in
       let e2 : b ≡ replicate (length p - r) z = eb ∙ ap (λ n. replicate n z)
-      (ap length (ap (take (length (a ++ drop r p) - r)) rest) ∙ length-take-le _ (drop r p) (let y = rest-long in omega arith) ∙ rest-long ∙ length-drop r p) in
+      (ap length (ap (take (length (a ++ drop r p) - r)) rest) ∙ length-take-le _ (drop r p)
+      (let y = rest-long in omega arith) ∙ rest-long ∙ length-drop r p) in
       let e3 : drop (length (a ++ drop r p) - r) (drop r (a ++ drop r p)) ≡ [] =
       ap (drop (length (a ++ drop r p) - r)) rest ∙ ap (λ n. drop n (drop r p)) rest-long ∙ drop-length (drop r p) in
       rw (e1, e3, append-nil b, e2)
@@ -42,5 +46,6 @@ pub makes-fresh : (s : Shape) (p q : List ℕ) → fitsOf s (length p) ≡ true 
 makes-fresh s p q e f = record { answer = rw e; pool = rw e f }
 
 -- There is one outcome.
-pub one-fresh : {s : Shape} {p : List ℕ} {x y : Made} {q r : List ℕ} → MakesFresh s p x q → MakesFresh s p y r → (x ≡ y) × (q ≡ r)
+pub one-fresh : {s : Shape} {p : List ℕ} {x y : Made} {q r : List ℕ} → MakesFresh s p x q → MakesFresh s p y r
+    → (x ≡ y) × (q ≡ r)
 one-fresh a b = (a .answer ∙ sym (b .answer), a .pool ∙ sym (b .pool))

@@ -23,9 +23,11 @@ use Rattle.table.proofs.FormLaws.{exact}
 -- Word `j` of `n` times `v`, and zeros after it.
 padded-word : (n m v j : ℕ) → getD (replicate n v ++ replicate m 0) j 0 ≡ cond (ltb j n) v 0
 padded-word n m v j = elim (decLt j n) [
-  | yes h ↦ List·getD-append (replicate n v) (replicate m 0) 0 j (rw (length-replicate n v) h) ∙ getD-replicate n j v 0 h
+  | yes h ↦ List·getD-append (replicate n v) (replicate m 0) 0 j (rw (length-replicate n v) h)
+      ∙ getD-replicate n j v 0 h
       ∙ ap (λ t. cond t v 0) (sym (lt-ltb j n h))
-  | no h ↦ ap (λ k. getD (replicate n v ++ replicate m 0) k 0) (past (omega arith)) ∙ getD-append-add (replicate n v) (replicate m 0) (j - n) 0
+  | no h ↦ ap (λ k. getD (replicate n v ++ replicate m 0) k 0) (past (omega arith)) ∙ getD-append-add (replicate n v)
+      (replicate m 0) (j - n) 0
       ∙ zeros 0 (j - n) ∙ ap (λ t. cond t v 0) (sym (le-ltb j n (omega arith)))
 ]
   where
@@ -46,7 +48,8 @@ module _ (D M L : ℕ) (P : ℕ → ℕ) (none : (j : ℕ) → j < 1024 * D → 
   entry-none : (d a : ℕ) → d < D → P (entry (form D M L) d a) ≡ 2147483648
   entry-none d a bd = none _ (omega arith)
 
-  stays : (d a : ℕ) {m j : ℕ} → d < D → Visits (form D M L) P a 2 (entry (form D M L) d a) m j → (m ≡ 2) × (P j ≡ 2147483648)
+  stays : (d a : ℕ) {m j : ℕ} → d < D → Visits (form D M L) P a 2 (entry (form D M L) d a) m j → (m ≡ 2)
+      × (P j ≡ 2147483648)
   stays d a bd here = (refl, entry-none d a bd)
   stays d a bd (next {m} {j} v l) =
       let (_, e) = stays d a bd v in

@@ -1,4 +1,5 @@
--- What a lookup answers, case by case; that the answer is the table's right, on the whole block of the deciding entry; and that there is one answer.
+-- What a lookup answers, case by case; that the answer is the table's right, on the whole block of the deciding
+-- entry; and that there is one answer.
 use Prim.Native.Nat.{ℕ, zero, suc, _+_, _-_, _≤_, _<_}
 use mathlib.Core.Path.{_≡_, refl, sym, ap, _∙_}
 use mathlib.Core.Bool.{Bool, true, false, cond}
@@ -77,10 +78,12 @@ found-decides F P a (decides h k) x w n e = (h, k, refl, cc, cc, cc)
 
 module _ (p : List ℕ) (s : Shape) (d a x w n : ℕ) (e : lookupOf p s d a ≡ Right x w n) where
   -- An answer that is a right comes from the end of a walk.
-  pub right-found : (h : ℕ) × (k : ℕ) × (end p s d a ≡ decides h k) × (x ≡ formOf s .says h (words p k) a) × (w ≡ words p k) × (n ≡ 3 - h)
+  pub right-found : (h : ℕ) × (k : ℕ) × (end p s d a ≡ decides h k) × (x ≡ formOf s .says h (words p k) a)
+      × (w ≡ words p k) × (n ≡ 3 - h)
   right-found = by-cases (fitsOf s (length p))
       (λ f. by-cases (ltb d (s .domains))
-      (λ l. found-decides (formOf s) (words p) a (end p s d a) x w n (sym (lookup-walks p s d a f (ltb-true d (s .domains) l)) ∙ e))
+      (λ l. found-decides (formOf s) (words p) a (end p s d a) x w n
+      (sym (lookup-walks p s d a f (ltb-true d (s .domains) l)) ∙ e))
       (λ l. absurd (refused-right (sym (lookup-no-domain p s d a f (ltb-false d (s .domains) l)) ∙ e))))
       (λ f. absurd (refused-right (sym (lookup-misfit p s d a f) ∙ e)))
 
@@ -98,7 +101,8 @@ module _ (p : List ℕ) (s : Shape) (d a x w n : ℕ) (e : lookupOf p s d a ≡ 
       q ∙ sym (decides-right (formOf s) (words p) a (λ v. refl) 2 (entry (formOf s) d a) z)
 
   -- The deciding entry gives the table's right on every word of its whole block.
-  pub right-block : (b : ℕ) → b < addresses → Together (formOf s) (3 - n) a b → rightOf (formOf s) (words p) d b ≡ formOf s .says (3 - n) w b
+  pub right-block : (b : ℕ) → b < addresses → Together (formOf s) (3 - n) a b → rightOf (formOf s) (words p) d b
+      ≡ formOf s .says (3 - n) w b
   right-block b lo t =
       let (h, k, z, _, q, o) = right-found in
       let hi = decides-low (formOf s) (words p) a (λ v. refl) 2 (entry (formOf s) d a) z in
@@ -115,12 +119,15 @@ pub one-lookup : {p : List ℕ} {s : Shape} {d a : ℕ} {q r : Found} → LooksU
 one-lookup x y = x .answer ∙ sym (y .answer)
 
 -- In a sound pool a lookup for a domain below D never refuses.
-pub sound-lookup : (p : List ℕ) (s : Shape) (d a : ℕ) → SoundPool (formOf s) (words p) → Fits s (length p) → d < s .domains
+pub sound-lookup : (p : List ℕ) (s : Shape) (d a : ℕ) → SoundPool (formOf s) (words p) → Fits s (length p)
+    → d < s .domains
     → (w : ℕ) × (n : ℕ) × (lookupOf p s d a ≡ Right (rightOf (formOf s) (words p) d a) w n)
 sound-lookup p s d a q f h =
-    let (m, k, z) = sound-decides (formOf s) (words p) a (lawful _ _ _) q 2 (entry (formOf s) d a) (entry-reach (formOf s) (lawful _ _ _) d a h) in (
+    let (m, k, z) = sound-decides (formOf s) (words p) a (lawful _ _ _) q 2 (entry (formOf s) d a)
+    (entry-reach (formOf s) (lawful _ _ _) d a h) in (
       words p k,
       3 - m,
       lookup-walks p s d a (fits-test s (length p) f) h ∙ ap (foundAt (formOf s) (words p) a) z
-          ∙ ap (λ x. Right x (words p k) (3 - m)) (sym (decides-right (formOf s) (words p) a (λ v. refl) 2 (entry (formOf s) d a) z)),
+          ∙ ap (λ x. Right x (words p k) (3 - m)) (sym
+          (decides-right (formOf s) (words p) a (λ v. refl) 2 (entry (formOf s) d a) z)),
     )

@@ -15,10 +15,22 @@ test-fits s n e =
     let (e3, mids) = and-both _ _ e2 in
     let (some, doms) = and-both _ _ e3 in
     record {
-      range = record { some-domain = leb-true _ _ some; domains = leb-true _ _ doms; middles = leb-true _ _ mids; leaves = leb-true _ _ leaf };
+      range = record {
+        some-domain = leb-true _ _ some;
+        domains = leb-true _ _ doms;
+        middles = leb-true _ _ mids;
+        leaves = leb-true _ _ leaf;
+      };
       long = eqb-true _ _ long;
     }
 
 pub fits-test : (s : Shape) (n : ℕ) → Fits s n → fitsOf s n ≡ true
 fits-test s n f =
-    simp (le-leb _ _ (f .range .some-domain), le-leb _ _ (f .range .domains), le-leb _ _ (f .range .middles), le-leb _ _ (f .range .leaves), eq-eqb _ _ (f .long))
+    simp (
+      le-leb _ _ (f .range .some-domain),
+      le-leb _ _ (f .range .domains),
+      le-leb _ _ (f .range .middles),
+      le-leb _
+          _ (f .range .leaves),
+      eq-eqb _ _ (f .long),
+    )

@@ -1,4 +1,5 @@
--- Laws of wanting: a block of the paper's form wants a table exactly where no entry can say its rights, and the test over its words tells which.
+-- Laws of wanting: a block of the paper's form wants a table exactly where no entry can say its rights, and the test
+-- over its words tells which.
 use Prim.Native.Nat.{ℕ, zero, suc, _+_, _*_, _/_, _%_, _≤_, _<_}
 use mathlib.Core.Path.{_≡_, refl, sym, ap, _∙_}
 use mathlib.Core.Logic.{_≢_, inl, inr}
@@ -19,8 +20,10 @@ use Rattle.words.specs.declared.Region.{Region}
 use Rattle.words.proofs.RightsLaws.{right-small, pack-digit, pack-range, pack-good, pack-same}
 use Rattle.table.specs.Map.{addresses, block, part, parts, size, index, leads, Divided, form}
 use Rattle.table.specs.Wants.{any, wordAt, wordsIn, mixed, wantsOf, above, saidOf, WordRights}
-use Rattle.table.proofs.BlockLaws.{block-above, block-together, together-block, part-in-block, number-below, part-above}
-use Rattle.table.proofs.BlockLaws.{byte-part, byte-block, first-word, word-below, word-block, word-part, which-word}
+use Rattle.table.proofs.BlockLaws.{block-above, block-together, together-block, part-in-block, number-below}
+use Rattle.table.proofs.BlockLaws.{part-above}
+use Rattle.table.proofs.BlockLaws.{byte-part, byte-block, first-word, word-below, word-block, word-part}
+use Rattle.table.proofs.BlockLaws.{which-word}
 use Rattle.table.proofs.FormLaws.{eight-good, exact}
 
 -- A search over the first `n` numbers.
@@ -59,7 +62,8 @@ any-same f g (suc n) e = rw (e n (omega arith), any-same f g n (λ i h. e i (ome
 -- The paper's words: some sub-block has two different rights.
 
 -- What wants a table lies in a block that wants one.
-pub divided-up : (h a : ℕ) (R : ℕ → ℕ) → h < 2 → Divided (block h) (part h) R a → Divided (block (suc h)) (part (suc h)) R a
+pub divided-up : (h a : ℕ) (R : ℕ → ℕ) → h < 2 → Divided (block h) (part h) R a → Divided (block (suc h))
+    (part (suc h)) R a
 divided-up h a R hi (b, c, bb, bc, e, f, d) =
     (b, c, bb, bc, block-above (suc h) h b a (omega arith) hi e, part-above h b c hi f, d)
 
@@ -73,13 +77,15 @@ divided-unsaid D M L h a w R (b, c, bb, bc, e, f, d) s =
 -- The test over the words of a block.
 
 module _ (R : ℕ → ℕ) (h a : ℕ) where
-  pub mixed-which : (i : ℕ) → mixed R h a i ≡ true → (j : ℕ) × (j < wordsIn h) × (R (wordAt h a i j) ≢ R (wordAt h a i 0))
+  pub mixed-which : (i : ℕ) → mixed R h a i ≡ true → (j : ℕ) × (j < wordsIn h)
+      × (R (wordAt h a i j) ≢ R (wordAt h a i 0))
   mixed-which i e =
       let (j, bj, x) = any-which (λ j. not (eqb (R (wordAt h a i j)) (R (wordAt h a i 0)))) (wordsIn h) e in
       (j, bj, eqb-false _ _ (not-true _ x))
 
   pub mixed-none : (i j : ℕ) → mixed R h a i ≡ false → j < wordsIn h → R (wordAt h a i j) ≡ R (wordAt h a i 0)
-  mixed-none i j e bj = eqb-true _ _ (not-false _ (any-none (λ k. not (eqb (R (wordAt h a i k)) (R (wordAt h a i 0)))) (wordsIn h) j e bj))
+  mixed-none i j e bj = eqb-true _ _ (not-false _
+      (any-none (λ k. not (eqb (R (wordAt h a i k)) (R (wordAt h a i 0)))) (wordsIn h) j e bj))
 
   -- What the test finds are two different rights in one sub-block ..
   pub wants-divided : a < addresses → wantsOf R h a ≡ true → Divided (block h) (part h) R a
@@ -98,10 +104,12 @@ module _ (R : ℕ → ℕ) (h a : ℕ) where
 
   module _ (S : WordRights R) where
     -- Where it finds none, a word's right is that of the first word of its sub-block.
-    pub wants-first : wantsOf R h a ≡ false → (b : ℕ) → a / block h ≡ b / block h → R b ≡ R (wordAt h a (b / part h % parts h) 0)
+    pub wants-first : wantsOf R h a ≡ false → (b : ℕ) → a / block h ≡ b / block h → R b
+        ≡ R (wordAt h a (b / part h % parts h) 0)
     wants-first e b t =
         let (j, bj, x) = which-word h a b t in
-        S .word b ∙ ap R x ∙ mixed-none (b / part h % parts h) j (any-none (mixed R h a) (parts h) _ e (number-below h b)) bj
+        S .word b ∙ ap R x ∙ mixed-none (b / part h % parts h) j
+        (any-none (mixed R h a) (parts h) _ e (number-below h b)) bj
 
     -- .. and it finds them all.
     pub divided-wants : Divided (block h) (part h) R a → wantsOf R h a ≡ true
@@ -112,7 +120,8 @@ module _ (R : ℕ → ℕ) (h a : ℕ) where
         ∙ sym (wants-first x c (sym e ∙ part-in-block h b c f)))))
 
 -- What wants a table lies in a block that wants one; a leaf's entry wants none.
-pub wants-up : (R : ℕ → ℕ) (h a : ℕ) → WordRights R → a < addresses → h < 2 → wantsOf R h a ≡ true → wantsOf R (suc h) a ≡ true
+pub wants-up : (R : ℕ → ℕ) (h a : ℕ) → WordRights R → a < addresses → h < 2 → wantsOf R h a ≡ true
+    → wantsOf R (suc h) a ≡ true
 wants-up R h a S ba hi e = divided-wants R (suc h) a S (divided-up h a R hi (wants-divided R h a ba e))
 
 pub wants-leaf : (R : ℕ → ℕ) (a : ℕ) → wantsOf R 0 a ≡ false
@@ -129,7 +138,8 @@ pub wants-block : (R : ℕ → ℕ) (h a b : ℕ) → a / block h ≡ b / block 
 wants-block R h a b e = any-same _ _ (parts h) (λ i bi. ap (λ n.
     any (λ j. not (eqb (R (n * block h + part h * i + 4 * j)) (R (n * block h + part h * i + 4 * 0)))) (wordsIn h)) e)
 
-pub wants-together : (D M L : ℕ) (R : ℕ → ℕ) (h a b : ℕ) → h ≤ 2 → a < addresses → b < addresses → Together (form D M L) h a b
+pub wants-together : (D M L : ℕ) (R : ℕ → ℕ) (h a b : ℕ) → h ≤ 2 → a < addresses → b < addresses
+    → Together (form D M L) h a b
     → wantsOf R h a ≡ wantsOf R h b
 wants-together D M L R h a b hi ba bb t = wants-block R h a b (together-block D M L h a b hi ba bb t)
 
@@ -167,7 +177,8 @@ module _ (D M L : ℕ) (R : ℕ → ℕ) (h a : ℕ) where
         good-said : (h : ℕ) → h ≤ 2 → ((i : ℕ) → i < parts h → R (wordAt h a i 0) < 4)
             → (form D M L .good h (saidOf R h a) ≡ true) × (leads h (saidOf R h a) ≡ false)
         good-said zero hi b = (lt-ltb (saidOf R 0 a) addresses (pack-range 0 16 (λ i. R (wordAt 0 a i 0)) b .1), refl)
-        good-said (suc h) hi b = eight-good D M L h (saidOf R (suc h) a) (omega arith) (pack-good (λ i. R (wordAt (suc h) a i 0)) b)
+        good-said (suc h) hi b = eight-good D M L h (saidOf R (suc h) a) (omega arith)
+            (pack-good (λ i. R (wordAt (suc h) a i 0)) b)
 
     pub says-said : (w : ℕ) → Says (form D M L) h R a w → w ≡ saidOf R h a
     says-said w s = by-cases (wantsOf R h a)
@@ -179,10 +190,12 @@ module _ (D M L : ℕ) (R : ℕ → ℕ) (h a : ℕ) where
 pub none-rights : WordRights (λ a. 0)
 none-rights = record { small = λ a ba. omega arith; word = λ a. refl }
 
-pub painted-rights : (g : Region) (r : ℕ) (R : ℕ → ℕ) → r < 4 → WordRights R → WordRights (λ a. cond (covered g a) r (R a))
+pub painted-rights : (g : Region) (r : ℕ) (R : ℕ → ℕ) → r < 4 → WordRights R
+    → WordRights (λ a. cond (covered g a) r (R a))
 painted-rights g r R h S = record {
   small = λ a ba. one (covered g a) (R a) (S .small a ba);
-  word = λ a. ap (λ n. cond (leb (g .lo) n && ltb n (g .hi)) r (R a)) (same a) ∙ ap (λ x. cond (covered g (a / 4 * 4)) r x) (S .word a);
+  word = λ a. ap (λ n. cond (leb (g .lo) n && ltb n (g .hi)) r (R a)) (same a)
+      ∙ ap (λ x. cond (covered g (a / 4 * 4)) r x) (S .word a);
 }
   where
     one : (t : Bool) (x : ℕ) → x < 4 → cond t r x < 4
@@ -206,17 +219,20 @@ module _ (D M L : ℕ) (P : ℕ → ℕ) where
   index-byte h a = ap (λ x. x % size h) (byte-block h a)
 
   right-byte : (h k a : ℕ) → right (form D M L) P h k a ≡ right (form D M L) P h k (a / 4 * 4)
-  right-byte zero k a = right-last (form D M L) P k a ∙ says-byte 0 (P k) a ∙ sym (right-last (form D M L) P k (a / 4 * 4))
+  right-byte zero k a = right-last (form D M L) P k a ∙ says-byte 0 (P k) a
+      ∙ sym (right-last (form D M L) P k (a / 4 * 4))
   right-byte (suc h) k a = by-cases (leads (suc h) (P k))
       (λ l. right-down (form D M L) P h k a l ∙ right-byte h _ a
       ∙ ap (λ i. right (form D M L) P h (P k + i) (a / 4 * 4)) (index-byte h a)
       ∙ sym (right-down (form D M L) P h k (a / 4 * 4) l))
-      (λ l. right-says (form D M L) P (suc h) k a l ∙ says-byte (suc h) (P k) a ∙ sym (right-says (form D M L) P (suc h) k (a / 4 * 4) l))
+      (λ l. right-says (form D M L) P (suc h) k a l ∙ says-byte (suc h) (P k) a
+      ∙ sym (right-says (form D M L) P (suc h) k (a / 4 * 4) l))
 
   pub pool-rights : (d : ℕ) → WordRights (rightOf (form D M L) P d)
   pool-rights d = record {
     small = λ a ba. right-low 2 (entry (form D M L) d a) a;
-    word = λ a. right-byte 2 (entry (form D M L) d a) a ∙ ap (λ i. right (form D M L) P 2 (1024 * d + i) (a / 4 * 4)) (index-byte 2 a);
+    word = λ a. right-byte 2 (entry (form D M L) d a) a ∙ ap (λ i. right (form D M L) P 2 (1024 * d + i) (a / 4 * 4))
+        (index-byte 2 a);
   }
 
 -- The paper's form wants a table exactly where no entry can say the rights.
@@ -233,7 +249,8 @@ wanting D M L = record {
 }
 
 -- The test tells the blocks that want a table, for any rights of words.
-pub tells-wants : (D M L : ℕ) (R : ℕ → ℕ → ℕ) → ((d : ℕ) → d < D → WordRights (R d)) → TellsWants (form D M L) (λ h d a. wantsOf (R d) h a) R
+pub tells-wants : (D M L : ℕ) (R : ℕ → ℕ → ℕ) → ((d : ℕ) → d < D → WordRights (R d)) → TellsWants (form D M L)
+    (λ h d a. wantsOf (R d) h a) R
 tells-wants D M L R S = record {
   last = λ d a bd ba. wants-leaf (R d) a;
   is = λ h d a bd ba hi x. divided-wants (R d) (suc h) a (S d bd) x;

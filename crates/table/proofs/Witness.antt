@@ -1,5 +1,6 @@
--- The record of a finished pool can be met by a change that makes two middle tables and two leaves in one domain: from a fresh pool, right 2
--- on the 8 bytes from 0x3FFFFC on, which are the last word of the first 4 MB and the first word after it.
+-- The record of a finished pool can be met by a change that makes two middle tables and two leaves in one domain:
+-- from a fresh pool, right 2 on the 8 bytes from 0x3FFFFC on, which are the last word of the first 4 MB and the first
+-- word after it.
 use Prim.Native.Nat.{ℕ, zero, suc, _+_, _*_, _-_, _/_, _%_, _≤_, _<_}
 use mathlib.Core.Path.{_≡_, refl, sym, ap, _∙_}
 use mathlib.Core.Logic.{_≢_, ⊎-elim}
@@ -34,7 +35,8 @@ F = form 1 2 2
 abbrev pub painted : ℕ → ℕ → ℕ
 painted d a = cond (covered (rounded 0x3FFFFC 8) a) 2 0
 
--- The finished pool: blocks 0 and 1 have the middle tables at 1024 and 2048, pages 1023 and 1024 the leaves at 3072 and 3136.
+-- The finished pool: blocks 0 and 1 have the middle tables at 1024 and 2048, pages 1023 and 1024 the leaves at 3072
+-- and 3136.
 unfoldable pub after : ℕ → ℕ
 after j =
     cond (eqb j 0) 1024 (cond (eqb j 1) 2048 (cond (eqb j 2047) 3072 (cond (eqb j 2048) 3136
@@ -80,11 +82,15 @@ near-range h n e =
     (leb-true (first h) n a, leb-true n (suc (first h)) b)
 
 range-near : (h n : ℕ) → first h ≤ n → n ≤ suc (first h) → near h n ≡ true
-range-near h n a b = and-eq-true-iff (leb (first h) n) (leb n (suc (first h))) .1 (le-leb (first h) n a, le-leb n (suc (first h)) b)
+range-near h n a b = and-eq-true-iff (leb (first h) n) (leb n (suc (first h))) .1
+    (le-leb (first h) n a, le-leb n (suc (first h)) b)
 
 far : (h n : ℕ) → near h n ≡ false → (n ≢ first h) × (n ≢ suc (first h))
-far h n e =
-    (λ x. true≢false (sym (range-near h n (omega arith) (omega arith)) ∙ e), λ x. true≢false (sym (range-near h n (omega arith) (omega arith)) ∙ e))
+far h n e = (
+  λ x. true≢false (sym (range-near h n (omega arith) (omega arith)) ∙ e),
+  λ x. true≢false
+      (sym (range-near h n (omega arith) (omega arith)) ∙ e),
+)
 
 covered-range : (a : ℕ) → covered (rounded 0x3FFFFC 8) a ≡ true → (0x3FFFFC ≤ a) × (a < 0x400004)
 covered-range a e =
@@ -116,7 +122,8 @@ divided-near h d a (b, c, bb, bc, e, f, z) = by-cases (near h (a / block h))
     (λ x. absurd (z (quiet h a b x (sym e) d ∙ sym (quiet h a c x (sym e ∙ part-in-block h b c f) d))))
 
 -- Beside each of the two words lies, in its sub-block, one that has no right.
-near-divided : (h d a : ℕ) → h < 2 → near (suc h) (a / block (suc h)) ≡ true → Divided (block (suc h)) (part (suc h)) (painted d) a
+near-divided : (h d a : ℕ) → h < 2 → near (suc h) (a / block (suc h)) ≡ true → Divided (block (suc h)) (part (suc h))
+    (painted d) a
 near-divided zero d a hi e =
     let r = near-range 1 (a / 4096) e in
     elim (ℕ-discrete (a / 4096) 1023) [
@@ -156,7 +163,8 @@ covered-gets : (h d a : ℕ) → covered (rounded 0x3FFFFC 8) a ≡ true → Get
 covered-gets h d a e zero lo hi = absurd (omega arith)
 covered-gets h d a e (suc i) lo hi = covered-near (suc i) a e
 
-place-apart : (h d a e b : ℕ) → h < 2 → Gets F want h d a → Gets F want h e b → place h d a ≡ place h e b → a / block (suc h) ≡ b / block (suc h)
+place-apart : (h d a e b : ℕ) → h < 2 → Gets F want h d a → Gets F want h e b → place h d a ≡ place h e b
+    → a / block (suc h) ≡ b / block (suc h)
 place-apart zero d a e b hi g k x = let r = pages d a g in let s = pages e b k in omega arith
 place-apart (suc zero) d a e b hi g k x = omega arith
 place-apart (suc (suc h)) d a e b hi g k x = absurd (omega arith)
@@ -165,11 +173,14 @@ placing : Placing F want place
 placing = record {
   root = λ d a bd ba. refl;
   block = one-place;
-  apart = λ h d a e b bd ba be bb hi g k x. (omega arith, block-together 1 2 2 (suc h) a b (place-apart h d a e b hi g k x));
+  apart = λ h d a e b bd ba be bb hi g k x.
+      (omega arith, block-together 1 2 2 (suc h) a b (place-apart h d a e b hi g k x));
 }
   where
-    one-place : (h d a b : ℕ) → d < 1 → a < addresses → b < addresses → Together F (suc h) a b → place h d a ≡ place h d b
-    one-place zero d a b bd ba bb t = ap (λ x. 3072 + 64 * (x - 1023)) (together-block 1 2 2 1 a b (omega arith) ba bb t)
+    one-place : (h d a b : ℕ) → d < 1 → a < addresses → b < addresses → Together F (suc h) a b → place h d a
+        ≡ place h d b
+    one-place zero d a b bd ba bb t = ap (λ x. 3072 + 64 * (x - 1023))
+        (together-block 1 2 2 1 a b (omega arith) ba bb t)
     one-place (suc zero) d a b bd ba bb t = ap (λ x. 1024 + 1024 * x) (together-block 1 2 2 2 a b (omega arith) ba bb t)
     one-place (suc (suc h)) d a b bd ba bb t = refl
 
@@ -190,16 +201,19 @@ at-leads : (h w k t : ℕ) → after k ≡ w → F .good (suc h) w ≡ true → 
 at-leads h w k t e g l p = (ap (F .good (suc h)) e ∙ g, ap (leads (suc h)) e ∙ l, e ∙ p)
 
 pointers : (h d a : ℕ) → d < 1 → a < addresses → h < 2 → Gets F want h d a
-    → (F .good (suc h) (after (spot F want place (suc h) d a)) ≡ true) × (leads (suc h) (after (spot F want place (suc h) d a)) ≡ true)
+    → (F .good (suc h) (after (spot F want place (suc h) d a)) ≡ true)
+    × (leads (suc h) (after (spot F want place (suc h) d a)) ≡ true)
     × (after (spot F want place (suc h) d a) ≡ place h d a)
 unfolding after
 pointers zero d a bd ba hi g =
     let r = pages d a g in
     elim (ℕ-discrete (a / 4096) 1023) [
-      | yes x ↦ at-leads 0 3072 (spot F want place 1 d a) _ (ap after (middle-spot d a ∙ ap (λ n. 1024 + n) x)) refl refl (omega arith)
+      | yes x ↦ at-leads 0 3072 (spot F want place 1 d a) _ (ap after (middle-spot d a ∙ ap (λ n. 1024 + n) x)) refl
+          refl (omega arith)
       | no x ↦
           let y : a / 4096 ≡ 1024 = omega arith in
-          at-leads 0 3136 (spot F want place 1 d a) _ (ap after (middle-spot d a ∙ ap (λ n. 1024 + n) y)) refl refl (omega arith)
+          at-leads 0 3136 (spot F want place 1 d a) _ (ap after (middle-spot d a ∙ ap (λ n. 1024 + n) y)) refl refl
+          (omega arith)
     ]
 pointers (suc zero) d a bd ba hi g =
     let r = blocks d a g in
@@ -212,16 +226,19 @@ pointers (suc zero) d a bd ba hi g =
 pointers (suc (suc h)) d a bd ba hi g = absurd (omega arith)
 
 -- A word that says none, of a block with none of the two words.
-says-none : (h d a w : ℕ) → h ≤ 2 → a < addresses → F .good h w ≡ true → leads h w ≡ false → ((i : ℕ) → i < parts h → rightAt w i ≡ 0)
+says-none : (h d a w : ℕ) → h ≤ 2 → a < addresses → F .good h w ≡ true → leads h w ≡ false
+    → ((i : ℕ) → i < parts h → rightAt w i ≡ 0)
     → near h (a / block h) ≡ false → Says F h (painted d) a w
 says-none h d a w hi ba g l z e = record {
   good = g;
   rights = l;
-  each = λ b bb t. z (b / part h % parts h) (number-below h b) ∙ sym (quiet h a b e (together-block 1 2 2 h a b hi ba bb t) d);
+  each = λ b bb t. z (b / part h % parts h) (number-below h b)
+      ∙ sym (quiet h a b e (together-block 1 2 2 h a b hi ba bb t) d);
 }
 
 -- The two leaf entries with a right.
-says-two : (d a n w k : ℕ) → a < addresses → a / 64 ≡ n → after k ≡ w → pack 0 16 (λ i. painted d (n * 64 + 4 * i + 4 * 0)) ≡ w
+says-two : (d a n w k : ℕ) → a < addresses → a / 64 ≡ n → after k ≡ w
+    → pack 0 16 (λ i. painted d (n * 64 + 4 * i + 4 * 0)) ≡ w
     → Says F 0 (painted d) a (after k)
 says-two d a n w k ba x e p =
     let r = painted-rights (rounded 0x3FFFFC 8) 2 (λ x. 0) (omega arith) none-rights in
@@ -254,12 +271,14 @@ entries (suc zero) d a bd ba hi g e =
     let r = blocks d a g in
     let s = middle-spot d a in
     let (x, z) = far 1 (a / 4096) e in
-    let y = after-upper (spot F want place 1 d a) (omega arith) (λ u. omega arith) (λ u. omega arith) (λ u. omega arith) (λ u. omega arith) in
+    let y = after-upper (spot F want place 1 d a) (omega arith) (λ u. omega arith) (λ u. omega arith)
+    (λ u. omega arith) (λ u. omega arith) in
     rw y (says-none 1 d a 0x80000000 hi ba refl refl (λ i b. eight-right 0 i (omega arith) b) e)
 entries (suc (suc zero)) d a bd ba hi g e =
     let s = root-spot d a bd ba in
     let (x, z) = far 2 (a / 4194304) e in
-    let y = after-upper (spot F want place 2 d a) (omega arith) (λ u. omega arith) (λ u. omega arith) (λ u. omega arith) (λ u. omega arith) in
+    let y = after-upper (spot F want place 2 d a) (omega arith) (λ u. omega arith) (λ u. omega arith)
+    (λ u. omega arith) (λ u. omega arith) in
     rw y (says-none 2 d a 0x80000000 hi ba refl refl (λ i b. eight-right 0 i (omega arith) b) e)
 entries (suc (suc (suc h))) d a bd ba hi g e = absurd (omega arith)
 
@@ -268,7 +287,8 @@ encodes = record { leads = pointers; says = entries }
 
 -- The places follow the rules.
 
-module _ (P : ℕ → ℕ) (fresh : (j : ℕ) → P j ≡ cond (ltb j 1024) 0x80000000 0) (bare : (d a h t : ℕ) → d < 1 → Led F P d a h t → ⊥) where
+module _ (P : ℕ → ℕ) (fresh : (j : ℕ) → P j ≡ cond (ltb j 1024) 0x80000000 0)
+    (bare : (d a h t : ℕ) → d < 1 → Led F P d a h t → ⊥) where
   in-order : (h d a b : ℕ) → h < 2 → a < b → place h d a ≤ place h d b
   in-order zero d a b hi lt = omega arith
   in-order (suc zero) d a b hi lt = omega arith
@@ -287,17 +307,21 @@ module _ (P : ℕ → ℕ) (fresh : (j : ℕ) → P j ≡ cond (ltb j 1024) 0x80
   first-place (suc (suc h)) d a x hi g q lt = absurd (omega arith)
 
   -- Every word that changes is one of a walk.
-  unchanged : (j : ℕ) → ((h d a : ℕ) → d < 1 → a < addresses → h ≤ 2 → Gets F want h d a → j ≡ spot F want place h d a → ⊥) → after j ≡ P j
+  unchanged : (j : ℕ) → ((h d a : ℕ) → d < 1 → a < addresses → h ≤ 2 → Gets F want h d a → j ≡ spot F want place h d a
+      → ⊥) → after j ≡ P j
   unchanged j un = elim (decLt j 3072) [
     | yes h ↦ elim (decLt j 1024) [
       | yes k ↦ elim (decLt j 2) [
-        | yes l ↦ absurd (un 2 0 (4194304 * j) (omega arith) (omega arith) (omega arith) (λ i lo hi. absurd (omega arith)) (omega arith))
+        | yes l ↦ absurd (un 2 0 (4194304 * j) (omega arith) (omega arith) (omega arith)
+            (λ i lo hi. absurd (omega arith)) (omega arith))
         | no l ↦ after-upper j h (λ e. omega arith) (λ e. omega arith) (λ e. omega arith) (λ e. omega arith)
             ∙ sym (fresh j ∙ ap (λ t. cond t 0x80000000 0) (lt-ltb j 1024 k))
       ]
-      | no k ↦ absurd (un 1 0 (4096 * (j - 1024)) (omega arith) (omega arith) (omega arith) (in-block (omega arith) h) (omega arith))
+      | no k ↦ absurd (un 1 0 (4096 * (j - 1024)) (omega arith) (omega arith) (omega arith) (in-block (omega arith) h)
+          (omega arith))
     ]
-    | no h ↦ after-lower j (omega arith) (λ e. un 0 0 0x3FFFFC (omega arith) (omega arith) (omega arith) (covered-gets 0 0 0x3FFFFC refl) e)
+    | no h ↦ after-lower j (omega arith) (λ e. un 0 0 0x3FFFFC (omega arith) (omega arith) (omega arith)
+        (covered-gets 0 0 0x3FFFFC refl) e)
         (λ e. un 0 0 0x400000 (omega arith) (omega arith) (omega arith) (covered-gets 0 0 0x400000 refl) e)
         ∙ sym (fresh j ∙ ap (λ t. cond t 0x80000000 0) (le-ltb j 1024 (omega arith)))
   ]
@@ -323,7 +347,8 @@ abbrev pub shape : Shape
 shape = record { domains = 1; middles = 2; leaves = 2 }
 
 -- What is asked for: the new right on the covered words, and the old one on all others.
-pub painted-fresh : (d a : ℕ) → d < 1 → painted d a ≡ cond (covered (rounded 0x3FFFFC 8) a) 2 (rightOf (form 1 2 2) (words (freshPool shape)) d a)
+pub painted-fresh : (d a : ℕ) → d < 1 → painted d a ≡ cond (covered (rounded 0x3FFFFC 8) a) 2
+    (rightOf (form 1 2 2) (words (freshPool shape)) d a)
 painted-fresh d a bd = ap (λ x. cond (covered (rounded 0x3FFFFC 8) a) 2 x) (sym (fresh-right shape d a bd))
 
 pub two-of-each-finished : Finished (form 1 2 2) (words (freshPool shape)) painted after

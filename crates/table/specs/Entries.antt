@@ -10,7 +10,8 @@ use Rattle.table.specs.declared.Entry.the-variants.{Rights, Leads, Bad}
 use Rattle.table.specs.Shape.{firstMiddle, firstLeaf, maxMiddles}
 use Rattle.table.specs.Map.{isPlace}
 
--- The word `w` leads to one of `n` places of `long` words from `from` on, which are numbered from `nth` on; or it is bad.
+-- The word `w` leads to one of `n` places of `long` words from `from` on, which are numbered from `nth` on; or it is
+-- bad.
 abbrev pub leadsTo : ℕ → ℕ → ℕ → ℕ → ℕ → Entry
 leadsTo from long n nth w = cond (isPlace from long n w) (Leads (record { 0 = w }) (nth + (w - from) / long)) Bad
 

@@ -27,7 +27,8 @@ abbrev pub numbers : Found → Numbers
 numbers (Right r w n) = record { refusal = 0; right = r; entry = w; loads = n }
 numbers (Refused n) = record { refusal = n; right = 0; entry = 0; loads = 0 }
 
--- What the end of a walk answers: 6 for a bad word, else what the deciding word says, after 1, 2 or 3 loads by its level.
+-- What the end of a walk answers: 6 for a bad word, else what the deciding word says, after 1, 2 or 3 loads by its
+-- level.
 abbrev pub foundAt : Form → (ℕ → ℕ) → ℕ → End → Found
 foundAt F P a bad = Refused 6
 foundAt F P a (decides h k) = Right (F .says h (P k) a) (P k) (3 - h)

@@ -1,4 +1,5 @@
--- The map: the paper's form of entries, as one of the forms of the theory. Heights count from below: 0 a leaf, 1 a middle table, 2 a root.
+-- The map: the paper's form of entries, as one of the forms of the theory. Heights count from below: 0 a leaf, 1 a
+-- middle table, 2 a root.
 use Prim.Native.Nat.{ℕ, zero, suc, _+_, _*_, _-_, _/_, _%_, _<_}
 use mathlib.Core.Path.{_≡_}
 use mathlib.Core.Logic.{_≢_}
@@ -44,7 +45,8 @@ abbrev pub leads : ℕ → ℕ → Bool
 leads zero w = false
 leads (suc h) w = ltb w 2147483648
 
--- The word `w` is the number of the first word of one of `n` places of `long` words, the first of which begins at `from`.
+-- The word `w` is the number of the first word of one of `n` places of `long` words, the first of which begins at
+-- `from`.
 abbrev pub isPlace : ℕ → ℕ → ℕ → ℕ → Bool
 isPlace from long n w = leb from w && ltb w (from + long * n) && eqb ((w - from) % long) 0
 
@@ -54,8 +56,8 @@ Divided n s R a =
     (b : ℕ) × (c : ℕ) × (b < addresses) × (c < addresses) × (b / n ≡ a / n) × (b / s ≡ c / s) × (R b ≢ R c)
 
 module _ (D M L : ℕ) where
-  -- A word is good: any word in a leaf; in a middle table eight rights or the first word of a leaf place; in a root eight rights or the
-  -- first word of a middle place.
+  -- A word is good: any word in a leaf; in a middle table eight rights or the first word of a leaf place; in a root
+  -- eight rights or the first word of a middle place.
   abbrev pub good : ℕ → ℕ → Bool
   good zero w = ltb w 4294967296
   good (suc zero) w = cond (ltb w 2147483648) (isPlace (firstLeaf D M) 64 L w) (goodRights w)

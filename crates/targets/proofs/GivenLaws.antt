@@ -37,18 +37,21 @@ module _ (P : ℕ → ℕ) where
 
   module _ (R : ℕ → ℕ) where
     -- An entry that leads gives what the entries of its table give.
-    pub gives-down : (h e n i : ℕ) → h < 2 → leads (suc h) e ≡ true → i < size h → Gives P (suc h) e n R → Gives P h (P (e + i)) (n * size h + i) R
+    pub gives-down : (h e n i : ℕ) → h < 2 → leads (suc h) e ≡ true → i < size h → Gives P (suc h) e n R
+        → Gives P h (P (e + i)) (n * size h + i) R
     gives-down h e n i hi l b g a q =
         let (up, at) = number h a n i hi b q in
         g a up ∙ given-leads h e a l ∙ ap (λ k. given P h (P (e + k)) a) at
       where
-        number : (h a n i : ℕ) → h < 2 → i < size h → a / block h ≡ n * size h + i → (a / block (suc h) ≡ n) × (index h a ≡ i)
+        number : (h a n i : ℕ) → h < 2 → i < size h → a / block h ≡ n * size h + i → (a / block (suc h) ≡ n)
+            × (index h a ≡ i)
         number zero a n i hi b q = (omega arith, omega arith)
         number (suc zero) a n i hi b q = (omega arith, omega arith)
         number (suc (suc h)) a n i hi b q = absurd (omega arith)
 
     -- One that does not gives each sub-block its right.
-    pub gives-parts : (h e n i : ℕ) → i < parts h → leads h e ≡ false → Gives P h e n R → Plain R (partWord h n i) (wordsIn h) (rightAt e i)
+    pub gives-parts : (h e n i : ℕ) → i < parts h → leads h e ≡ false → Gives P h e n R → Plain R (partWord h n i)
+        (wordsIn h) (rightAt e i)
     gives-parts h e n i b l g j m =
         let (up, at) = number h n i j b m in
         g _ up ∙ given-rights h e _ l ∙ ap (rightAt e) at

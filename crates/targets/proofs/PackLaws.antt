@@ -7,7 +7,8 @@ use native.Mathlib.Nat.{mul-le-mul-left}
 use lib.Pow.{pow-mono}
 use borrow.Author.Tests.{eqb-true}
 use Rattle.words.specs.Rights.{rightAt, goodRights, pack}
-use Rattle.words.proofs.RightsLaws.{right-small, digits-equal, good-digits-equal, pack-digit, pack-range, pack-good, pack-same}
+use Rattle.words.proofs.RightsLaws.{right-small, digits-equal, good-digits-equal, pack-digit, pack-range, pack-good}
+use Rattle.words.proofs.RightsLaws.{pack-same}
 use Rattle.theory.proofs.Logic.{and-both}
 
 -- A loop from the last of `m` rights down to number `i` has packed those from `i` on.

@@ -48,7 +48,8 @@ module _ (p : Paint) (x : ℕ) where
 module _ (p : Paint) (R : ℕ → ℕ) (x : ℕ) where
   pub painted-at : painted p R (4 * x) ≡ cond (inside p x) (p .right) (R (4 * x))
   unfolding inside painted
-  painted-at = let e : 4 * x / 4 ≡ x = omega arith in ap (λ y. cond (leb (p .lo) y && ltb y (p .hi)) (p .right) (R (4 * x))) e
+  painted-at = let e : 4 * x / 4 ≡ x = omega arith in
+      ap (λ y. cond (leb (p .lo) y && ltb y (p .hi)) (p .right) (R (4 * x))) e
 
   pub painted-in : inside p x ≡ true → painted p R (4 * x) ≡ p .right
   painted-in h = painted-at ∙ ap (λ t. cond t (p .right) (R (4 * x))) h
@@ -67,7 +68,8 @@ module _ (p : Paint) (R : ℕ → ℕ) (a : ℕ) where
   painted-uncovered h = ap (λ t. cond t (p .right) (R a)) h
 
 -- Where a right is still the old one or already the painted one, painting again ends the same.
-pub painted-again : (p : Paint) (R T : ℕ → ℕ) (a : ℕ) → (T a ≡ R a) ⊎ (T a ≡ painted p R a) → painted p T a ≡ painted p R a
+pub painted-again : (p : Paint) (R T : ℕ → ℕ) (a : ℕ) → (T a ≡ R a) ⊎ (T a ≡ painted p R a) → painted p T a
+    ≡ painted p R a
 painted-again p R T a h = by-cases (covered (region p) a)
     (λ c. painted-covered p T a c ∙ sym (painted-covered p R a c))
     (λ c. painted-uncovered p T a c ∙ ⊎-elim (λ e. e ∙ sym (painted-uncovered p R a c)) (λ e. e) h)
@@ -110,7 +112,8 @@ module _ (p : Paint) (R : ℕ → ℕ) (s n : ℕ) where
 
     pub half-two : (o ≡ p .right → ⊥) → Half p s n → (u : ℕ) → Plain (painted p R) s n u → ⊥
     half-two d h u f =
-        d (sym (plain (h .miss) (h .miss-below)) ∙ sym (painted-out p R (s + h .miss) (h .miss-is)) ∙ f (h .miss) (h .miss-below)
+        d (sym (plain (h .miss) (h .miss-below)) ∙ sym (painted-out p R (s + h .miss) (h .miss-is))
+        ∙ f (h .miss) (h .miss-below)
         ∙ sym (f (h .hit) (h .hit-below)) ∙ painted-in p R (s + h .hit) (h .hit-is))
 
 -- A leaf entry.
@@ -130,9 +133,11 @@ module _ (p : Paint) (w n : ℕ) where
       ∙ ap (λ x. cond (inside p (n * 16 + i)) (p .right) x) (g (4 * (n * 16 + i)) (omega arith) ∙ ap (rightAt w) q))
 
   pub after-apart : w < 4294967296 → CoverIs Apart p n 16 → w ≡ pack 0 16 (rightAfter p w n)
-  after-apart b h = leaf-packed w b ∙ pack-same 0 16 (rightAt w) (rightAfter p w n) (λ i l. ap (λ t. cond t (p .right) (rightAt w i)) (sym (h i l)))
+  after-apart b h = leaf-packed w b ∙ pack-same 0 16 (rightAt w) (rightAfter p w n)
+      (λ i l. ap (λ t. cond t (p .right) (rightAt w i)) (sym (h i l)))
 
   pub after-whole : CoverIs Whole p n 16 → sixteenOf (p .right) ≡ pack 0 16 (rightAfter p w n)
   after-whole h =
       sym (sixteen-pack (p .right))
-      ∙ pack-same 0 16 (λ i. p .right) (rightAfter p w n) (λ i l. ap (λ t. cond t (p .right) (rightAt w i)) (sym (h i l)))
+      ∙ pack-same 0 16 (λ i. p .right) (rightAfter p w n)
+      (λ i l. ap (λ t. cond t (p .right) (rightAt w i)) (sym (h i l)))

@@ -39,7 +39,8 @@ part-below (suc zero) i j a b = omega arith
 part-below (suc (suc h)) i j a b = omega arith
 
 -- Each word of a block is one of a sub-block.
-word-part-of : (h j : ℕ) → j < block h / 4 → (i : ℕ) × (k : ℕ) × (i < parts h) × (k < wordsIn h) × (j ≡ wordsIn h * i + k)
+word-part-of : (h j : ℕ) → j < block h / 4 → (i : ℕ) × (k : ℕ) × (i < parts h) × (k < wordsIn h)
+    × (j ≡ wordsIn h * i + k)
 word-part-of zero j l = (j, 0, omega arith, omega arith, omega arith)
 word-part-of (suc zero) j l = (j / 128, j % 128, omega arith, omega arith, omega arith)
 word-part-of (suc (suc h)) j l = (j / 131072, j % 131072, omega arith, omega arith, omega arith)
@@ -67,7 +68,8 @@ module _ (R : ℕ → ℕ) (h n : ℕ) where
   even-part-is i e j l = ap R (part-word h n i j) ∙ mixed-none R h at i j e l
 
   -- Where each sub-block has one right, the entry says these.
-  pub parts-target : (f : ℕ → ℕ) → ((i : ℕ) → i < parts h → PartIs i (f i)) → targetOf R h at ≡ Says (pack (above h) (parts h) f)
+  pub parts-target : (f : ℕ → ℕ) → ((i : ℕ) → i < parts h → PartIs i (f i)) → targetOf R h at ≡ Says
+      (pack (above h) (parts h) f)
   parts-target f g =
       unwanted-said R h at (any-never (mixed R h at) (parts h) (λ i l. part-even i (f i) (g i l)))
       ∙ ap Says (pack-same (above h) (parts h) _ f (λ i l. part-right i (f i) 0 (g i l) (first-word h)))
@@ -79,7 +81,8 @@ module _ (R : ℕ → ℕ) (h n : ℕ) where
       (λ e. absurd (g _ (even-part-is i e)))))
 
   -- A block with one right throughout ..
-  pub plain-target : (u : ℕ) → Plain R (n * (block h / 4)) (block h / 4) u → targetOf R h at ≡ Says (pack (above h) (parts h) (λ i. u))
+  pub plain-target : (u : ℕ) → Plain R (n * (block h / 4)) (block h / 4) u → targetOf R h at ≡ Says
+      (pack (above h) (parts h) (λ i. u))
   plain-target u f = parts-target (λ i. u) (λ i l j m.
       let e : partWord h n i + j ≡ n * (block h / 4) + (wordsIn h * i + j) = omega arith in
       ap (λ x. R (4 * x)) e ∙ f (wordsIn h * i + j) (part-below h i j l m))
@@ -87,7 +90,8 @@ module _ (R : ℕ → ℕ) (h n : ℕ) where
   module _ (small : (a : ℕ) → R a < 4) (x : ℕ) (e : targetOf R h at ≡ Says x) where
     target-right : (i : ℕ) → i < parts h → R (wordAt h at i 0) ≡ rightAt x i
     target-right i l =
-        sym (pack-digit (above h) (parts h) i (λ i. R (wordAt h at i 0)) (λ i m. small _) l) ∙ ap (λ v. rightAt v i) (sym (said-unwanted R h at e .1))
+        sym (pack-digit (above h) (parts h) i (λ i. R (wordAt h at i 0)) (λ i m. small _) l) ∙ ap (λ v. rightAt v i)
+        (sym (said-unwanted R h at e .1))
 
     -- The first word of a block has its entry's first right ..
     pub target-first : R (4 * (n * (block h / 4))) ≡ rightAt x 0

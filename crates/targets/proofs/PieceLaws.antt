@@ -26,7 +26,8 @@ plain-longer R s a b u f g j l = elim (decLt j a) [
   | no h ↦ let e : s + j ≡ s + a + (j - a) = omega arith in rw e (g (j - a) (omega arith))
 ]
 
--- The pieces from the block of height `h` with the number `m` on; `same` is the entry that says the right `d` throughout.
+-- The pieces from the block of height `h` with the number `m` on; `same` is the entry that says the right `d`
+-- throughout.
 module _ (R : ℕ → ℕ) (h m d same : ℕ) (is : pack (above h) (parts h) (λ i. d) ≡ same) where
   abbrev first : ℕ
   first = m * (block h / 4)
@@ -50,7 +51,8 @@ module _ (R : ℕ → ℕ) (h m d same : ℕ) (is : pack (above h) (parts h) (λ
       (λ i l. ap (λ w. rightAt w i) (sym is) ∙ pack-digit (above h) (parts h) i (λ i. d) (λ j l. b) l))))
 
   -- A piece whose entry is another: the stretch, whose first word has the right `d`, has two.
-  pub piece-two : (k n : ℕ) → 0 < n → block h / 4 * (k + 1) ≤ n → R (4 * first) ≡ d → (targetOf R h ((m + k) * block h) ≡ Says same → ⊥)
+  pub piece-two : (k n : ℕ) → 0 < n → block h / 4 * (k + 1) ≤ n → R (4 * first) ≡ d
+      → (targetOf R h ((m + k) * block h) ≡ Says same → ⊥)
       → (u : ℕ) → Plain R first n u → ⊥
   piece-two k n some l e no-same u f =
       let z : first + 0 ≡ first = omega arith in

@@ -1,4 +1,5 @@
--- Laws for users: the entries by which the walk of a domain goes give the domain's rights, and in a sound pool they are readable.
+-- Laws for users: the entries by which the walk of a domain goes give the domain's rights, and in a sound pool they
+-- are readable.
 use Prim.Native.Nat.{ℕ, zero, suc, _+_, _*_, _/_, _%_, _≤_, _<_}
 use mathlib.Core.Path.{_≡_, refl, sym, ap, _∙_}
 use mathlib.Core.Bool.{true, false}
@@ -39,10 +40,12 @@ module _ (P : ℕ → ℕ) (R : ℕ → ℕ) (e n : ℕ) where
   middle-gives i l b g = gives-down P R 1 e n i (omega arith) l b g
 
   -- .. and one that is rights: so does the page's virtual entry.
-  pub virtual-gives : (page : ℕ) → leads 2 e ≡ false → page / 1024 ≡ n → Gives P 2 e n R → Gives P 1 (eightOf (rightAt e (page / 128 % 8))) page R
+  pub virtual-gives : (page : ℕ) → leads 2 e ≡ false → page / 1024 ≡ n → Gives P 2 e n R
+      → Gives P 1 (eightOf (rightAt e (page / 128 % 8))) page R
   virtual-gives page l q g a p =
       let o = rightAt e (page / 128 % 8) in
-      let b : leads 1 (eightOf o) ≡ false = FormLaws.eight-good 1 0 0 0 (eightOf o) (omega arith) (eight-good o (right-small e _)) .1 in
+      let b : leads 1 (eightOf o) ≡ false = FormLaws.eight-good 1 0 0 0 (eightOf o) (omega arith)
+      (eight-good o (right-small e _)) .1 in
       let x : a / 524288 % 8 ≡ page / 128 % 8 = omega arith in
       g a (omega arith) ∙ given-rights P 2 e a l ∙ ap (rightAt e) x
       ∙ sym (given-rights P 1 (eightOf o) a b ∙ eight-right o (a / 512 % 8) (right-small e _) (omega arith))

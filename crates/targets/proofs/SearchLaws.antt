@@ -22,7 +22,8 @@ use Rattle.targets.specs.Paints.{region}
 use Rattle.targets.specs.Targets.{painted, targetOf, given, Gives}
 use Rattle.targets.specs.Steps.{CoverIs, Plain, OneIs}
 use Rattle.targets.proofs.PaintLaws.{whole-plain, apart-plain, painted-agree, painted-covered, painted-uncovered}
-use Rattle.targets.proofs.PartLaws.{partWord, part-below, plain-small, parts-target, two-target, plain-target, target-agree}
+use Rattle.targets.proofs.PartLaws.{partWord, part-below, plain-small, parts-target, two-target, plain-target}
+use Rattle.targets.proofs.PartLaws.{target-agree}
 use Rattle.targets.proofs.GivenLaws.{gives-parts}
 
 module _ (p : Paint) (R : ℕ → ℕ) (h n : ℕ) where
@@ -43,7 +44,8 @@ module _ (p : Paint) (R : ℕ → ℕ) (h n : ℕ) where
 
     -- What the entry gives is all that counts.
     pub given-target : targetOf (painted p (given P h e)) h (n * block h) ≡ targetOf (painted p R) h (n * block h)
-    given-target = target-agree (painted p (given P h e)) h n (painted p R) (λ a q. painted-agree p (given P h e) R a (sym (g a q)))
+    given-target = target-agree (painted p (given P h e)) h n (painted p R)
+        (λ a q. painted-agree p (given P h e) R a (sym (g a q)))
 
 -- The same by addresses, for whoever knows what the region covers without searching.
 module _ (p : Paint) (R : ℕ → ℕ) (h n : ℕ) where
@@ -51,7 +53,8 @@ module _ (p : Paint) (R : ℕ → ℕ) (h n : ℕ) where
   pub covered-target : ((a : ℕ) → a / block (suc h) ≡ n → covered (region p) a ≡ true)
       → targetOf (painted p R) (suc h) (n * block (suc h)) ≡ Says (eightOf (p .right))
   covered-target c =
-      plain-target (painted p R) (suc h) n (p .right) (λ j l. painted-covered p R _ (c _ (number h j l))) ∙ ap Says (eight-pack (p .right))
+      plain-target (painted p R) (suc h) n (p .right) (λ j l. painted-covered p R _ (c _ (number h j l)))
+      ∙ ap Says (eight-pack (p .right))
     where
       number : (h j : ℕ) → j < block (suc h) / 4 → 4 * (n * (block (suc h) / 4) + j) / block (suc h) ≡ n
       number zero j l = omega arith
@@ -80,7 +83,8 @@ module _ (R : ℕ → ℕ) (h n : ℕ) where
       ]
 
   module _ (work : List ℕ) (i : ℕ) (o : One) (l : i < 8) (f : OneIs o R (partWord h n i) (wordsIn h)) where
-    pub gathers-more : (u : ℕ) → ((a : ℕ) → R a < 4) → o ≡ Right u → Gathers R h n work i → Gathers R h n (set work i u) (i + 1)
+    pub gathers-more : (u : ℕ) → ((a : ℕ) → R a < 4) → o ≡ Right u → Gathers R h n work i
+        → Gathers R h n (set work i u) (i + 1)
     gathers-more u low e g =
         let here : Plain R (partWord h n i) (wordsIn h) u = rw e at f in
         let z : i < length work = rw (g .eight) l in
@@ -88,7 +92,8 @@ module _ (R : ℕ → ℕ) (h n : ℕ) where
           upto = omega arith;
           eight = length-set work i u ∙ g .eight;
           small = λ k. elim (ℕ-discrete k i) [
-            | yes q ↦ rw (q, getD-set-same work i u 0 z) (plain-small R (partWord h n i) (wordsIn h) u low (first-word h) here)
+            | yes q ↦ rw (q, getD-set-same work i u 0 z)
+                (plain-small R (partWord h n i) (wordsIn h) u low (first-word h) here)
             | no q ↦ rw (getD-set-other work i k u 0 q) (g .small k)
           ];
           each = λ k b. elim (ℕ-discrete k i) [
@@ -102,4 +107,5 @@ module _ (R : ℕ → ℕ) (h n : ℕ) where
 
 pub gathers-all : (R : ℕ → ℕ) (h n : ℕ) (work : List ℕ) (i w : ℕ) → 8 ≤ i → w ≡ pack 32768 8 (λ k. getD work k 0)
     → Gathers R (suc h) n work i → Says w ≡ targetOf R (suc h) (n * block (suc h))
-gathers-all R h n work i w l e g = ap Says e ∙ sym (parts-target R (suc h) n (λ k. getD work k 0) (λ k b. g .each k (omega arith)))
+gathers-all R h n work i w l e g = ap Says e
+    ∙ sym (parts-target R (suc h) n (λ k. getD work k 0) (λ k b. g .each k (omega arith)))

@@ -36,4 +36,5 @@ module _ (R : ℕ → ℕ) (h a : ℕ) where
 -- Every address of a block has its target.
 pub target-block : (R : ℕ → ℕ) (h a b : ℕ) → a / block h ≡ b / block h → targetOf R h a ≡ targetOf R h b
 target-block R h a b e =
-    ap (λ t. cond t Mixed (Says (saidOf R h a))) (wants-block R h a b e) ∙ ap (λ w. cond (wantsOf R h b) Mixed (Says w)) (said-block R h a b e)
+    ap (λ t. cond t Mixed (Says (saidOf R h a))) (wants-block R h a b e)
+    ∙ ap (λ w. cond (wantsOf R h b) Mixed (Says w)) (said-block R h a b e)

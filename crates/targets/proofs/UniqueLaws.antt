@@ -16,11 +16,13 @@ TargetPromise p P h e n r = (R : ℕ → ℕ) → Gives P h e n R → r ≡ targ
 abbrev WordPromise : Paint → ℕ → ℕ → ℕ → Type 0
 WordPromise p w n r = (R : ℕ → ℕ) → GivesLeaf w n R → r ≡ saidOf (painted p R) 0 (n * 64)
 
-pub one-target : (p : Paint) (P : ℕ → ℕ) (h e n : ℕ) (q r : Target) → TargetPromise p P h e n q → TargetPromise p P h e n r → q ≡ r
+pub one-target : (p : Paint) (P : ℕ → ℕ) (h e n : ℕ) (q r : Target) → TargetPromise p P h e n q
+    → TargetPromise p P h e n r → q ≡ r
 one-target p P h e n q r x y = x (given P h e) (λ a f. refl) ∙ sym (y (given P h e) (λ a f. refl))
 
 pub one-word : (p : Paint) (w n q r : ℕ) → WordPromise p w n q → WordPromise p w n r → q ≡ r
-one-word p w n q r x y = x (λ a. rightAt w (a / 4 % 16)) (λ a f. refl) ∙ sym (y (λ a. rightAt w (a / 4 % 16)) (λ a f. refl))
+one-word p w n q r x y = x (λ a. rightAt w (a / 4 % 16)) (λ a f. refl)
+    ∙ sym (y (λ a. rightAt w (a / 4 % 16)) (λ a f. refl))
 
 pub one-test : (A : Type 0) (q r : Bool) → Decides q A → Decides r A → q ≡ r
 one-test A true r x y = sym (y .passes (x .holds refl))

@@ -36,7 +36,8 @@ use Rattle.targets.proofs.PartLaws.{target-agree}
 use Rattle.targets.proofs.PoolLaws.{root-gives, middle-gives, reached-readable}
 
 -- With nothing painted, the target is that of the rights as they are.
-pub unpainted-target : (p : Paint) (R : ℕ → ℕ) (h n : ℕ) → p .hi ≤ p .lo → targetOf (painted p R) h (n * block h) ≡ targetOf R h (n * block h)
+pub unpainted-target : (p : Paint) (R : ℕ → ℕ) (h n : ℕ) → p .hi ≤ p .lo → targetOf (painted p R) h (n * block h)
+    ≡ targetOf R h (n * block h)
 unpainted-target p R h n none = target-agree (painted p R) h n R (λ a e. painted-none p R a none)
 
 mixed-wants : (R : ℕ → ℕ) (h a : ℕ) → isMixed (targetOf R h a) ≡ wantsOf R h a
@@ -47,7 +48,8 @@ mixed-wants R h a = by-cases (wantsOf R h a)
 -- So the test of it tells whether a table is wanted.
 pub unpainted-wants : (p : Paint) (R : ℕ → ℕ) (h n : ℕ) (t : Target) (r : Bool) → p .hi ≤ p .lo → r ≡ isMixed t
     → t ≡ targetOf (painted p R) h (n * block h) → r ≡ wantsOf R h (n * block h)
-unpainted-wants p R h n t r none e f = e ∙ ap isMixed (f ∙ unpainted-target p R h n none) ∙ mixed-wants R h (n * block h)
+unpainted-wants p R h n t r none e f = e ∙ ap isMixed (f ∙ unpainted-target p R h n none)
+    ∙ mixed-wants R h (n * block h)
 
 -- The entry of a block gives it the rights of its domain ..
 pub entry-gives : (s : Shape) (P : ℕ → ℕ) (h i : ℕ) → h < 2 → old P h i ≡ true
@@ -56,7 +58,8 @@ entry-gives s P zero i hi o =
     let (l, _) = and-both (oldMiddle P (i / 1024)) (ltb (P (entryOf P 0 i)) 2147483648) o in
     let e : 1024 * (i / 1048576) + i / 1024 % 1024 ≡ i / 1024 = omega arith in
     let n : i / 1024 % 1024 * 1024 + i % 1024 ≡ i % 1048576 = omega arith in
-    rw n at (middle-gives P (rightOf (formOf s) P (i / 1048576)) (P (i / 1024)) (i / 1024 % 1024) (i % 1024) l (omega arith)
+    rw n at (middle-gives P (rightOf (formOf s) P (i / 1048576)) (P (i / 1024)) (i / 1024 % 1024) (i % 1024) l
+    (omega arith)
     (rw e at (root-gives (s .domains) (s .middles) (s .leaves) P (i / 1048576) (i / 1024 % 1024) (omega arith))))
 entry-gives s P (suc zero) i hi o =
     let e : 1024 * (i / 1024) + i % 1024 ≡ i = omega arith in
@@ -65,23 +68,27 @@ entry-gives s P (suc (suc h)) i hi o = absurd (omega arith)
 
 -- The tables at the places from `n` on are wanted.
 abbrev pub WantedFrom : List ℕ → Shape → List ℕ → ℕ → Type 0
-WantedFrom p s o n = (m : ℕ) → n ≤ m → m < maxPlaces → taken o m ≡ true → want (rightOf (formOf s) (words p)) (placeHeight m) (getD o m 0) ≡ true
+WantedFrom p s o n = (m : ℕ) → n ≤ m → m < maxPlaces → taken o m ≡ true → want (rightOf (formOf s) (words p))
+    (placeHeight m) (getD o m 0) ≡ true
 
 -- .. and so from one place further down.
 pub wanted-more : (p : List ℕ) (s : Shape) (o : List ℕ) (n : ℕ) → WantedFrom p s o n
-    → (taken o (n - 1) ≡ true → want (rightOf (formOf s) (words p)) (placeHeight (n - 1)) (getD o (n - 1) 0) ≡ true) → WantedFrom p s o (n - 1)
+    → (taken o (n - 1) ≡ true → want (rightOf (formOf s) (words p)) (placeHeight (n - 1)) (getD o (n - 1) 0) ≡ true)
+    → WantedFrom p s o (n - 1)
 wanted-more p s o n w one m lo hi t = elim (ℕ-discrete m (n - 1)) [
   | yes e ↦ rw e (one (rw e at t))
   | no e ↦ w m (omega arith) hi t
 ]
 
 -- A wanted leaf lies in a block whose table is wanted.
-pub leaf-wants-table : (R : ℕ → ℕ → ℕ) (i : ℕ) → ((d : ℕ) → WordRights (R d)) → want R 0 i ≡ true → want R 1 (i / 1024) ≡ true
+pub leaf-wants-table : (R : ℕ → ℕ → ℕ) (i : ℕ) → ((d : ℕ) → WordRights (R d)) → want R 0 i ≡ true
+    → want R 1 (i / 1024) ≡ true
 leaf-wants-table R i S w =
     let d : i / 1024 / 1024 ≡ i / 1048576 = omega arith in
     let a = i % 1048576 * 4096 in
     let b : i / 1024 % 1024 * 4194304 / 4194304 ≡ a / 4194304 = omega arith in
-    rw d (wants-block (R (i / 1048576)) 2 (i / 1024 % 1024 * 4194304) a b ∙ wants-up (R (i / 1048576)) 1 a (S (i / 1048576)) (omega arith) (omega arith) w)
+    rw d (wants-block (R (i / 1048576)) 2 (i / 1024 % 1024 * 4194304) a b ∙ wants-up (R (i / 1048576)) 1 a
+    (S (i / 1048576)) (omega arith) (omega arith) w)
 
 module _ (p : List ℕ) (s : Shape) (fits : Fits s (length p)) (q : SoundPool (formOf s) (words p)) where
   abbrev R : ℕ → ℕ → ℕ
@@ -90,10 +97,13 @@ module _ (p : List ℕ) (s : Shape) (fits : Fits s (length p)) (q : SoundPool (f
   -- .. and can be read.
   pub entry-readable : (h i : ℕ) → h < 2 → i < blocks h * s .domains → old (words p) h i ≡ true
       → Readable p (suc h) (words p (entryOf (words p) h i))
-  entry-readable h i hi b o = reached-readable s p fits q (suc h) (entryOf (words p) h i) (old-reached p s h i hi b o .0)
+  entry-readable h i hi b o = reached-readable s p fits q (suc h) (entryOf (words p) h i)
+      (old-reached p s h i hi b o .0)
 
-  -- The table of block `i` at place `n`, by the numbers that a program makes of them: the height `h`, the entry `e` and the block's number `m`.
-  module _ (n i h e m : ℕ) (x : StandsAt p s n i) (eh : h ≡ placeHeight n) (ee : e ≡ placeWord s n) (em : m ≡ i % blocks h) where
+  -- The table of block `i` at place `n`, by the numbers that a program makes of them: the height `h`, the entry `e`
+  -- and the block's number `m`.
+  module _ (n i h e m : ℕ) (x : StandsAt p s n i) (eh : h ≡ placeHeight n) (ee : e ≡ placeWord s n)
+      (em : m ≡ i % blocks h) where
     has : old (words p) h i ≡ true
     has = rw eh (x .table)
 
@@ -118,13 +128,15 @@ module _ (p : List ℕ) (s : Shape) (fits : Fits s (length p)) (q : SoundPool (f
         → ((T : ℕ → ℕ) → Gives (words p) (h + 1) e m T → t ≡ targetOf (painted paint T) (h + 1) (m * block (h + 1)))
         → r ≡ isMixed t → r ≡ want R (placeHeight n) i
     place-wants paint t r empty told is =
-        let g : Gives (words p) (h + 1) e m (R (domainOf h i)) = rw (add-one, em, ← there) (entry-gives s (words p) h i low has) in
+        let g : Gives (words p) (h + 1) e m (R (domainOf h i)) = rw (add-one, em, ← there)
+        (entry-gives s (words p) h i low has) in
         unpainted-wants paint (R (domainOf h i)) (h + 1) m t r empty is (told (R (domainOf h i)) g)
         ∙ rw (add-one, em, eh) refl
 
   module _ (o : List ℕ) (own : Owners p s o) where
     -- A table with a leaf is wanted where its leaves are.
-    pub leaf-wanted : (n m : ℕ) → m ≤ n + 1 → n < maxPlaces → taken o n ≡ true → LeafIn o n (getD o n 0) → WantedFrom p s o m
+    pub leaf-wanted : (n m : ℕ) → m ≤ n + 1 → n < maxPlaces → taken o n ≡ true → LeafIn o n (getD o n 0)
+        → WantedFrom p s o m
         → want R (placeHeight n) (getD o n 0) ≡ true
     leaf-wanted n m le b t l w =
         let x = middle-number s n (l .middle) in
@@ -139,7 +151,8 @@ module _ (p : List ℕ) (s : Shape) (fits : Fits s (length p)) (q : SoundPool (f
         (λ d. pool-rights (s .domains) (s .middles) (s .leaves) (words p) d) (rw (y .height) at f)))
 
     -- Where all are, every block that has a table wants it, and the pool is settled ..
-    old-wanted : WantedFrom p s o 0 → (h i : ℕ) → h < 2 → i < blocks h * s .domains → old (words p) h i ≡ true → want R h i ≡ true
+    old-wanted : WantedFrom p s o 0 → (h i : ℕ) → h < 2 → i < blocks h * s .domains → old (words p) h i ≡ true
+        → want R h i ≡ true
     old-wanted w h i hi b x =
         let (e, c, t) = was-taken p s fits q o own h hi i b x in
         rw (e, was-owner p s fits q o own h hi i b x) at (w _ (omega arith) c t)
@@ -154,5 +167,6 @@ module _ (p : List ℕ) (s : Shape) (fits : Fits s (length p)) (q : SoundPool (f
     settled-wanted z m a b t = ⊎-elim
         (λ e. absurd (true≢false (sym t ∙ ap not (eq-eqb (getD o m 0) none e))))
         (λ x. sym (Exists.settled-table (s .domains) (s .middles) (s .leaves) (λ d a bd ba. refl)
-        (λ d bd. pool-rights (s .domains) (s .middles) (s .leaves) (words p) d) z (placeHeight m) (getD o m 0) (place-low s m) (x .block)) ∙ x .table)
+        (λ d bd. pool-rights (s .domains) (s .middles) (s .leaves) (words p) d) z (placeHeight m) (getD o m 0)
+        (place-low s m) (x .block)) ∙ x .table)
         (own .stands m b)

@@ -18,18 +18,20 @@ use Rattle.targets.specs.Paints.{region}
 unfoldable pub painted : Paint → (ℕ → ℕ) → ℕ → ℕ
 painted p R a = cond (covered (region p) a) (p .right) (R a)
 
--- What the entry of height `h` of the block around `a` should be, with the rights `R`: a pointer where a table is wanted, else rights.
+-- What the entry of height `h` of the block around `a` should be, with the rights `R`: a pointer where a table is
+-- wanted, else rights.
 abbrev pub targetOf : (ℕ → ℕ) → ℕ → ℕ → Target
 targetOf R h a = cond (wantsOf R h a) Mixed (Says (saidOf R h a))
 
--- How many blocks of a height there are.
-abbrev pub blocks : ℕ → ℕ
-blocks h = addresses / block h
+-- How many blocks there are that an entry of a height may have.
+abbrev pub entryBlocks : ℕ → ℕ
+entryBlocks h = addresses / block h
 
 -- The right that the entry `e` of a height, in the pool `P`, gives to an address.
 unfoldable pub given : (ℕ → ℕ) → ℕ → ℕ → ℕ → ℕ
 given P zero e a = rightAt e (a / part zero % parts zero)
-given P (suc h) e a = cond (leads (suc h) e) (given P h (P (e + index h a)) a) (rightAt e (a / part (suc h) % parts (suc h)))
+given P (suc h) e a = cond (leads (suc h) e) (given P h (P (e + index h a)) a)
+    (rightAt e (a / part (suc h) % parts (suc h)))
 
 -- On the block of height `h` that has the number `n`, the rights `R` are those that the entry `e` gives.
 abbrev pub Gives : (ℕ → ℕ) → ℕ → ℕ → ℕ → (ℕ → ℕ) → Type 0
@@ -45,7 +47,8 @@ pub record ReadableOver (p : List ℕ) (h : ℕ) (Below : ℕ → Type 0) (e : �
   pub table : leads (suc h) e ≡ true → e + size h ≤ length p
   pub entries : leads (suc h) e ≡ true → (i : ℕ) → i < size h → Below (words p (e + i))
 
--- The entry `e` of a height is readable: any word of a leaf; above, eight rights, or one that leads to a table of readable entries.
+-- The entry `e` of a height is readable: any word of a leaf; above, eight rights, or one that leads to a table of
+-- readable entries.
 abbrev pub Readable : List ℕ → ℕ → ℕ → Type 0
 Readable p zero e = Unit {0}
 Readable p (suc h) e = ReadableOver p h (Readable p h) e

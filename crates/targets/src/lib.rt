@@ -7,7 +7,7 @@ ghost use Rattle.theory.specs.Pool.{words};
 ghost use Rattle.words.specs.Rights.{rightAt, pack, eightOf};
 ghost use Rattle.table.specs.Map.{block, parts, size};
 ghost use Rattle.table.specs.Wants.{wordsIn, above, saidOf};
-ghost use Rattle.targets.specs.Targets.{blocks, painted, targetOf, given, Gives, GivesLeaf, Readable};
+ghost use Rattle.targets.specs.Targets.{entryBlocks, painted, targetOf, given, Gives, GivesLeaf, Readable};
 ghost use Rattle.targets.specs.Steps.{CoverIs, rightAfter, Plain, OneIs, PartIs, GoodRights, SaysIs, ToldIs};
 
 mod wanted; // wanted.rt: whether tables are wanted, and a pool settled
@@ -192,7 +192,7 @@ fn same_entry(height: u32, right: u32) -> u32
 // sub-blocks that are searched are mostly made of these.
 fn at_once(paint: Paint, height: u32, e: u32, n: u32) -> Told
     requires { ⌜ GoodRights height e ⌝ }
-    requires { ⌜ (height ≤ 2) × (n < blocks height) × (paint .right < 4) ⌝ }
+    requires { ⌜ (height ≤ 2) × (n < entryBlocks height) × (paint .right < 4) ⌝ }
     ensures { λ r. ⌜ ToldIs r paint height e n ⌝ }
 {
     let long = block_words(height);
@@ -237,7 +237,7 @@ fn stands(paint: Paint, height: u32, e: u32, n: u32, same: u32) -> bool
 // Whether it is known to be `same`.
 fn says(paint: Paint, height: u32, e: u32, n: u32, same: u32) -> bool
     requires { ⌜ GoodRights height e ⌝ }
-    requires { ⌜ (height ≤ 2) × (n < blocks height) × (paint .right < 4) ⌝ }
+    requires { ⌜ (height ≤ 2) × (n < entryBlocks height) × (paint .right < 4) ⌝ }
     ensures { λ r. ⌜ (r ≡ true → SaysIs paint height e n same) ⌝ }
 {
     if stands(paint, height, e, n, same) {
@@ -255,7 +255,7 @@ fn says(paint: Paint, height: u32, e: u32, n: u32, same: u32) -> bool
 
 // Whether sub-block `i` of a block whose entry is rights has one right after the painting.
 fn rights_part(paint: Paint, below: u32, e: u32, n: u32, i: u32) -> One
-    requires { ⌜ (0x80000000 ≤ e) × (below < 2) × (n < blocks (suc below)) × (i < 8) ⌝ }
+    requires { ⌜ (0x80000000 ≤ e) × (below < 2) × (n < entryBlocks (suc below)) × (i < 8) ⌝ }
     ensures { λ r. ⌜ ((P : ℕ → ℕ) → PartIs P paint (suc below) e n i r) ⌝ }
 {
     let o = words::right_at(e, i);
@@ -283,7 +283,7 @@ fn pack_eight(work: [u32; 8]) -> u32
 // may come back here.
 fn part(pool: &[u32], paint: Paint, below: u32, e: u32, n: u32, i: u32) -> One
     requires { ⌜ Readable (now pool) (suc below) e ⌝ }
-    requires { ⌜ (below < 2) × (n < blocks (suc below)) × (i < 8) × (paint .right < 4) ⌝ }
+    requires { ⌜ (below < 2) × (n < entryBlocks (suc below)) × (i < 8) × (paint .right < 4) ⌝ }
     ensures { λ r. ⌜ PartIs (words (now (pool .entry))) paint (suc below) e n i r ⌝ }
 {
     if e >= 0x8000_0000 {
@@ -323,7 +323,7 @@ fn part(pool: &[u32], paint: Paint, below: u32, e: u32, n: u32, i: u32) -> One
 // The block's target, sub-block by sub-block.
 fn search(pool: &[u32], paint: Paint, below: u32, e: u32, n: u32) -> Target
     requires { ⌜ Readable (now pool) (suc below) e ⌝ }
-    requires { ⌜ (below < 2) × (n < blocks (suc below)) × (paint .right < 4) ⌝ }
+    requires { ⌜ (below < 2) × (n < entryBlocks (suc below)) × (paint .right < 4) ⌝ }
     ensures { λ r. ⌜ r ≡ targetOf (painted paint (given (words (now (pool .entry))) (suc below) e)) (suc below)
         (n * block (suc below)) ⌝ }
 {
@@ -344,7 +344,7 @@ fn search(pool: &[u32], paint: Paint, below: u32, e: u32, n: u32) -> Target
 // call each other, the height falling.
 fn entry_target(pool: &[u32], paint: Paint, height: u32, e: u32, n: u32) -> Target
     requires { ⌜ Readable (now pool) height e ⌝ }
-    requires { ⌜ (height ≤ 2) × (n < blocks height) × (paint .right < 4) ⌝ }
+    requires { ⌜ (height ≤ 2) × (n < entryBlocks height) × (paint .right < 4) ⌝ }
     ensures { λ r. ⌜ ((R : ℕ → ℕ) → Gives (words (now (pool .entry))) height e n R
         → r ≡ targetOf (painted paint R) height (n * block height)) ⌝ }
 {

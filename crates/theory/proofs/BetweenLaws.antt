@@ -1,4 +1,5 @@
--- A pool between two sound pools: at each of the three stages of stores it is sound, and each right is the old one or the new one. For any form.
+-- A pool between two sound pools: at each of the three stages of stores it is sound, and each right is the old one or
+-- the new one. For any form.
 use Prim.Native.Nat.{ℕ, zero, suc, _+_, _<_}
 use mathlib.Core.Path.{_≡_, refl, sym, ap, _∙_}
 use mathlib.Core.Logic.{_≢_, _⊎_, inl, inr, ⊎-elim}
@@ -9,14 +10,16 @@ use lib.ListN.{length, set}
 use Rattle.theory.specs.Form.{Form}
 use Rattle.theory.specs.Pool.{words, Reach, start, step, SoundPool, right, Roots, Table, entry, rightOf}
 use Rattle.theory.specs.Lawful.{Lawful}
-use Rattle.theory.specs.Stores.{Kept, top, down, Cut, Giving, Filling, Linking, Stage, giving, filling, linking, Next, give, fill, link, Ready}
+use Rattle.theory.specs.Stores.{Kept, top, down, Cut, Giving, Filling, Linking, Stage, giving, filling}
+use Rattle.theory.specs.Stores.{linking, Next, give, fill, link, Ready}
 use Rattle.theory.proofs.ReachLaws.{through}
 use Rattle.theory.proofs.Logic.{by-cases}
 use Rattle.theory.proofs.RightLaws.{right-last, right-down, right-says, right-same}
 use Rattle.theory.proofs.StoreLaws.{Store, store-set}
 use Rattle.theory.proofs.KeptLaws.{kept-reach, kept-swap, kept-zone, hangs-not-kept}
 
--- `X` has on each kept word the old or the new one, and below a word that is to change, or has changed, the table that this word leads to.
+-- `X` has on each kept word the old or the new one, and below a word that is to change, or has changed, the table
+-- that this word leads to.
 pub record Mixed (F : Form) (P Q X : ℕ → ℕ) : Type 0 where
   pub kept : {m j : ℕ} → Kept F P Q m j → X j ≡ P j ⊎ X j ≡ Q j
   pub old : {h k m j : ℕ} → Kept F P Q (suc h) k → P k ≢ Q k → X k ≡ P k → F .leads (suc h) (P k) ≡ true
@@ -47,9 +50,11 @@ abbrev Either : Form → (P Q X : ℕ → ℕ) → ℕ → ℕ → ℕ → Type 
 Either F P Q X m j a = (right F X m j a ≡ right F P m j a) ⊎ (right F X m j a ≡ right F Q m j a)
 
 -- The kept word is to change: one of the two halves.
-either : (F : Form) → Lawful F → {P Q X : ℕ → ℕ} → Mixed F P Q X → (m j a : ℕ) → Kept F P Q m j → P j ≢ Q j → Either F P Q X m j a
+either : (F : Form) → Lawful F → {P Q X : ℕ → ℕ} → Mixed F P Q X → (m j a : ℕ) → Kept F P Q m j → P j ≢ Q j
+    → Either F P Q X m j a
 either F L x m j a c d =
-    ⊎-elim (λ e. inl (half F L x m j a c d e)) (λ e. inr (half F L (mixed-swap F x) m j a (kept-swap F c) (λ q. d (sym q)) e)) (x .kept c)
+    ⊎-elim (λ e. inl (half F L x m j a c d e))
+    (λ e. inr (half F L (mixed-swap F x) m j a (kept-swap F c) (λ q. d (sym q)) e)) (x .kept c)
 
 -- The kept word is the same in both pools, so it is in `X`.
 pub agreed : (F : Form) {P Q X : ℕ → ℕ} → Mixed F P Q X → {m j : ℕ} → Kept F P Q m j → P j ≡ Q j → X j ≡ P j
@@ -64,10 +69,13 @@ pass F P X m j a w e f l q =
     ∙ sym (right-down F P m j a (rw f l) ∙ ap (λ y. right F P m (F .target (suc m) y + F .index m a) a) f)
 
 either-step : (F : Form) (P Q X : ℕ → ℕ) (m j a : ℕ) → P j ≡ Q j → X j ≡ P j
-    → (F .leads (suc m) (P j) ≡ true → Either F P Q X m (F .target (suc m) (P j) + F .index m a) a) → Either F P Q X (suc m) j a
+    → (F .leads (suc m) (P j) ≡ true → Either F P Q X m (F .target (suc m) (P j) + F .index m a) a)
+    → Either F P Q X (suc m) j a
 either-step F P Q X m j a e f ih = by-cases (F .leads (suc m) (P j))
-    (λ l. ⊎-elim (λ q. inl (pass F P X m j a (P j) f refl l q)) (λ q. inr (pass F Q X m j a (P j) f (sym e) l q)) (ih l))
-    (λ l. inl (right-says F X (suc m) j a (rw f l) ∙ ap (λ w. F .says (suc m) w a) f ∙ sym (right-says F P (suc m) j a l)))
+    (λ l. ⊎-elim (λ q. inl (pass F P X m j a (P j) f refl l q)) (λ q. inr (pass F Q X m j a (P j) f (sym e) l q))
+    (ih l))
+    (λ l. inl (right-says F X (suc m) j a (rw f l) ∙ ap (λ w. F .says (suc m) w a) f
+    ∙ sym (right-says F P (suc m) j a l)))
 
 -- Each right is the old one or the new one.
 pub mixed-right : (F : Form) → Lawful F → {P Q X : ℕ → ℕ} → Mixed F P Q X → (m j a : ℕ) → Kept F P Q m j
@@ -77,7 +85,8 @@ mixed-right F L {P} {Q} {X} x zero j a c = elim (ℕ-discrete (P j) (Q j)) [
   | no d ↦ either F L x zero j a c d
 ]
 mixed-right F L {P} {Q} {X} x (suc m) j a c = elim (ℕ-discrete (P j) (Q j)) [
-  | yes e ↦ either-step F P Q X m j a e (agreed F x c e) (λ l. mixed-right F L x m _ a (down (F .index m a) c e l (L .index-below m a)))
+  | yes e ↦ either-step F P Q X m j a e (agreed F x c e)
+      (λ l. mixed-right F L x m _ a (down (F .index m a) c e l (L .index-below m a)))
   | no d ↦ either F L x (suc m) j a c d
 ]
 
@@ -93,7 +102,8 @@ module _ (F : Form) {P Q X : ℕ → ℕ} (x : Mixed F P Q X) (sP : SoundPool F 
   mixed-reach (start r) = inl (top r)
   mixed-reach (step {m} {j} i r l b) = go (mixed-reach r)
     where
-      go : Kept F P Q (suc m) j ⊎ Hangs (suc m) j → Kept F P Q m (F .target (suc m) (X j) + i) ⊎ Hangs m (F .target (suc m) (X j) + i)
+      go : Kept F P Q (suc m) j ⊎ Hangs (suc m) j → Kept F P Q m (F .target (suc m) (X j) + i)
+          ⊎ Hangs m (F .target (suc m) (X j) + i)
       go (inl c) =
           let e : X j ≡ P j = links m j c l in
           let lP : F .leads (suc m) (P j) ≡ true = rw e at l in
@@ -114,7 +124,8 @@ module _ (F : Form) {P Q X : ℕ → ℕ} (x : Mixed F P Q X) (sP : SoundPool F 
   mixed-word (inr (h, k, c, d, e, p, q)) l = x .old c d e p q
 
   mixed-good : {m j : ℕ} → Kept F P Q m j ⊎ Hangs m j → F .good m (X j) ≡ true
-  mixed-good (inl c) = ⊎-elim (λ e. rw e (sP .good (kept-reach F c))) (λ e. rw e (sQ .good (kept-reach F (kept-swap F c)))) (x .kept c)
+  mixed-good (inl c) = ⊎-elim (λ e. rw e (sP .good (kept-reach F c)))
+      (λ e. rw e (sQ .good (kept-reach F (kept-swap F c)))) (x .kept c)
   mixed-good (inr (h, k, c, d, e, p, q)) = rw (x .old c d e p q) (sP .good (through F (kept-reach F c) p q))
 
   pub mixed-sound : SoundPool F X
@@ -132,18 +143,21 @@ module _ (F : Form) (L : Lawful F) {P Q X : ℕ → ℕ} (sP : SoundPool F P) (s
   stage-mixed (giving g) = record {
     kept = λ {m} {j} c. ⊎-elim inl (λ q. inr (q .0)) (g .kept m j c);
     old = λ {j = j} c d e l r. g .rest j (hangs-not-kept F L sP c l d r);
-    new = λ {h} {k} c d e l r. absurd (⊎-elim (λ q. d (sym q ∙ e)) (λ q. d (keeps (suc h) k c (q .1) l)) (g .kept (suc h) k c));
+    new = λ {h} {k} c d e l r. absurd (⊎-elim (λ q. d (sym q ∙ e)) (λ q. d (keeps (suc h) k c (q .1) l))
+        (g .kept (suc h) k c));
   }
   stage-mixed (filling g) = record {
     kept = λ {m} {j} c. by-cases (F .leads m (P j)) (λ l. inr (g .gave m j c l)) (λ l. inl (g .kept m j c l));
     old = λ {h} {k} c d e l r. absurd (d (sym e ∙ g .gave (suc h) k c l));
     new = λ {h} {k} c d e l r.
-        absurd (by-cases (F .leads (suc h) (P k)) (λ p. d (keeps (suc h) k c p l)) (λ p. d (sym (g .kept (suc h) k c p) ∙ e)));
+        absurd (by-cases (F .leads (suc h) (P k)) (λ p. d (keeps (suc h) k c p l))
+        (λ p. d (sym (g .kept (suc h) k c p) ∙ e)));
   }
   stage-mixed (linking g) = record {
     kept = λ {m} {j} c. g .kept m j c;
     old = λ {h} {k} c d e l r. absurd (d (sym e ∙ g .gave (suc h) k c l));
-    new = λ {j = j} c d e l r. g .rest j (λ n q. hangs-not-kept F L sQ (kept-swap F c) l (λ p. d (sym p)) r n (kept-swap F q));
+    new = λ {j = j} c d e l r. g .rest j (λ n q. hangs-not-kept F L sQ (kept-swap F c) l (λ p. d (sym p)) r n
+        (kept-swap F q));
   }
 
   pub stage-sound : Stage F P Q X → SoundPool F X
@@ -154,9 +168,11 @@ module _ (F : Form) (L : Lawful F) {P Q X : ℕ → ℕ} (sP : SoundPool F P) (s
       (λ p. g .gave (suc m) j c p ∙ sym (keeps (suc m) j c p (rw (g .gave (suc m) j c p) at l)))
       (λ p. g .kept (suc m) j c p))
   stage-sound (linking g) = mixed-sound F (mixed-swap F (stage-mixed (linking g))) sQ sP
-      (λ m j c l. ⊎-elim (λ q. g .gave (suc m) j (kept-swap F c) (rw q at l)) (λ q. q) (g .kept (suc m) j (kept-swap F c)))
+      (λ m j c l. ⊎-elim (λ q. g .gave (suc m) j (kept-swap F c) (rw q at l)) (λ q. q)
+      (g .kept (suc m) j (kept-swap F c)))
 
-  pub stage-right : Stage F P Q X → (d a : ℕ) → d < F .domains → (rightOf F X d a ≡ rightOf F P d a) ⊎ (rightOf F X d a ≡ rightOf F Q d a)
+  pub stage-right : Stage F P Q X → (d a : ℕ) → d < F .domains → (rightOf F X d a ≡ rightOf F P d a)
+      ⊎ (rightOf F X d a ≡ rightOf F Q d a)
   stage-right g d a h = mixed-right F L (stage-mixed g) (F .top) (entry F d a) a
       (top (d, F .index (F .top) a, refl, refl, h, L .index-below (F .top) a))
 
@@ -165,39 +181,40 @@ module _ (F : Form) (L : Lawful F) {P Q X : ℕ → ℕ} (sP : SoundPool F P) (s
   stage-cut g = record { sound = stage-sound g; rights = λ d a bd ba. stage-right g d a bd }
 
 -- One store of a finished word leaves the pool at its stage.
-module _ (F : Form) (L : Lawful F) (P Q : ℕ → ℕ) {X Y : ℕ → ℕ} (sP : SoundPool F P) {k : ℕ} (st : Store X Y k (Q k)) where
-  kept-height : {m n j : ℕ} → Kept F P Q m k → Kept F P Q n j → j ≡ k → n ≡ m
-  kept-height c d e = sym (kept-zone F L sP d) ∙ ap (F .zone) e ∙ kept-zone F L sP c
+module _ (F : Form) (L : Lawful F) (P Q : ℕ → ℕ) {X Y : ℕ → ℕ} (sP : SoundPool F P) {k : ℕ} (st : Store X Y k (Q k))
+  where
+    kept-height : {m n j : ℕ} → Kept F P Q m k → Kept F P Q n j → j ≡ k → n ≡ m
+    kept-height c d e = sym (kept-zone F L sP d) ∙ ap (F .zone) e ∙ kept-zone F L sP c
 
-  stored : {j : ℕ} → j ≡ k → Y j ≡ Q j
-  stored e = ap Y e ∙ st .at ∙ ap Q (sym e)
+    stored : {j : ℕ} → j ≡ k → Y j ≡ Q j
+    stored e = ap Y e ∙ st .at ∙ ap Q (sym e)
 
-  pub give-store : (m : ℕ) → Kept F P Q m k → F .leads m (P k) ≡ true → Giving F P Q X → Giving F P Q Y
-  give-store m c l g = record {
-    kept = λ n j d. elim (ℕ-discrete j k) [
-      | yes e ↦ inr (stored e, rw (kept-height c d e, e) l)
-      | no o ↦ rw (st .off j o) (g .kept n j d)
-    ];
-    rest = λ j away. st .off j (λ e. away m (rw e c)) ∙ g .rest j away;
-  }
+    pub give-store : (m : ℕ) → Kept F P Q m k → F .leads m (P k) ≡ true → Giving F P Q X → Giving F P Q Y
+    give-store m c l g = record {
+      kept = λ n j d. elim (ℕ-discrete j k) [
+        | yes e ↦ inr (stored e, rw (kept-height c d e, e) l)
+        | no o ↦ rw (st .off j o) (g .kept n j d)
+      ];
+      rest = λ j away. st .off j (λ e. away m (rw e c)) ∙ g .rest j away;
+    }
 
-  pub fill-store : ((n : ℕ) → Kept F P Q n k → ⊥) → Filling F P Q X → Filling F P Q Y
-  fill-store away g = record {
-    gave = λ m j c l. st .off j (λ e. away m (rw e at c)) ∙ g .gave m j c l;
-    kept = λ m j c l. st .off j (λ e. away m (rw e at c)) ∙ g .kept m j c l;
-  }
+    pub fill-store : ((n : ℕ) → Kept F P Q n k → ⊥) → Filling F P Q X → Filling F P Q Y
+    fill-store away g = record {
+      gave = λ m j c l. st .off j (λ e. away m (rw e at c)) ∙ g .gave m j c l;
+      kept = λ m j c l. st .off j (λ e. away m (rw e at c)) ∙ g .kept m j c l;
+    }
 
-  pub link-store : (m : ℕ) → Kept F P Q m k → Linking F P Q X → Linking F P Q Y
-  link-store m c g = record {
-    kept = λ n j d. elim (ℕ-discrete j k) [ yes e ↦ inr (stored e) | no o ↦ rw (st .off j o) (g .kept n j d) ];
-    gave = λ n j d l. elim (ℕ-discrete j k) [ yes e ↦ stored e | no o ↦ st .off j o ∙ g .gave n j d l ];
-    rest = λ j away. st .off j (λ e. away m (rw e c)) ∙ g .rest j away;
-  }
+    pub link-store : (m : ℕ) → Kept F P Q m k → Linking F P Q X → Linking F P Q Y
+    link-store m c g = record {
+      kept = λ n j d. elim (ℕ-discrete j k) [ yes e ↦ inr (stored e) | no o ↦ rw (st .off j o) (g .kept n j d) ];
+      gave = λ n j d l. elim (ℕ-discrete j k) [ yes e ↦ stored e | no o ↦ st .off j o ∙ g .gave n j d l ];
+      rest = λ j away. st .off j (λ e. away m (rw e c)) ∙ g .rest j away;
+    }
 
-  pub next-stage : Next F P Q X k → Stage F P Q Y
-  next-stage (give m c l g) = giving (give-store m c l g)
-  next-stage (fill away g) = filling (fill-store away g)
-  next-stage (link m c g) = linking (link-store m c g)
+    pub next-stage : Next F P Q X k → Stage F P Q Y
+    next-stage (give m c l g) = giving (give-store m c l g)
+    next-stage (fill away g) = filling (fill-store away g)
+    next-stage (link m c g) = linking (link-store m c g)
 
 -- The old pool is at the first stage, and the finished one at the last.
 pub giving-old : (F : Form) (P Q : ℕ → ℕ) → Giving F P Q P
@@ -213,10 +230,12 @@ next-now F P Q (fill away g) = filling g
 next-now F P Q (link m c g) = linking g
 
 -- A store that is ready leaves what a cut leaves ..
-pub store-cut : (F : Form) → Lawful F → (P Q : ℕ → ℕ) {X Y : ℕ → ℕ} {k : ℕ} → Ready F P Q X k → Store X Y k (Q k) → Cut F P Q Y
+pub store-cut : (F : Form) → Lawful F → (P Q : ℕ → ℕ) {X Y : ℕ → ℕ} {k : ℕ} → Ready F P Q X k → Store X Y k (Q k)
+    → Cut F P Q Y
 store-cut F L P Q r st = stage-cut F L (r .old) (r .finished) (r .keeps) (next-stage F L P Q (r .old) st (r .next))
 
 -- .. and so does one to a lent memory.
-pub put-cut : (F : Form) → Lawful F → (x : List ℕ) (k v : ℕ) → k < length x → (P Q : ℕ → ℕ) → Ready F P Q (words x) k → v ≡ Q k
+pub put-cut : (F : Form) → Lawful F → (x : List ℕ) (k v : ℕ) → k < length x → (P Q : ℕ → ℕ) → Ready F P Q (words x) k
+    → v ≡ Q k
     → Cut F P Q (words (set x k v))
 put-cut F L x k v h P Q r e = rw e (store-cut F L P Q r (store-set x k (Q k) h))

@@ -1,4 +1,5 @@
--- Laws of blocks: in a sound pool a word is met by the walks of one domain and one block of addresses alone. For any form.
+-- Laws of blocks: in a sound pool a word is met by the walks of one domain and one block of addresses alone. For any
+-- form.
 use Prim.Native.Nat.{ℕ, zero, suc, _+_, _-_, _≤_, _<_}
 use mathlib.Core.Path.{_≡_, refl, sym, ap, _∙_}
 use mathlib.Core.Bool.{true}
@@ -56,12 +57,15 @@ step-back F L {P} {S} s {m} {n} {j} {k} i o w r l b q p c e = go (rw w at q) (rw
     go : Reach F P S (suc m) k → F .leads (suc m) (P k) ≡ true → o < F .size m
         → F .target (suc m) (P j) + i ≡ F .target (suc m) (P k) + o → (j ≡ k) × (i ≡ o)
     go q p c e =
-        let t : F .target (suc m) (P j) ≡ F .target (suc m) (P k) = L .target-apart m (P j) i (P k) o (s .good r) l (s .good q) p b c e in
+        let t : F .target (suc m) (P j) ≡ F .target (suc m) (P k) = L .target-apart m (P j) i (P k) o (s .good r) l
+        (s .good q) p b c e in
         (s .once r l q p t, omega arith)
 
-module _ (F : Form) (L : Lawful F) {P : ℕ → ℕ} (s : SoundPool F P) {d e a b : ℕ} (bd : d < F .domains) (be : e < F .domains) where
+module _ (F : Form) (L : Lawful F) {P : ℕ → ℕ} (s : SoundPool F P) {d e a b : ℕ} (bd : d < F .domains)
+    (be : e < F .domains) where
   -- Two walks that come to one word are of one domain and one block.
-  pub one-block : {m n j k : ℕ} → Visits F P a (F .top) (entry F d a) m j → Visits F P b (F .top) (entry F e b) n k → m ≡ n → j ≡ k
+  pub one-block : {m n j k : ℕ} → Visits F P a (F .top) (entry F d a) m j → Visits F P b (F .top) (entry F e b) n k
+      → m ≡ n → j ≡ k
       → (d ≡ e) × Together F m a b
   one-block here here p q =
       let i = F .index (F .top) a in
@@ -79,7 +83,8 @@ module _ (F : Form) (L : Lawful F) {P : ℕ → ℕ} (s : SoundPool F P) {d e a 
       (y .0, together-below F m a b (y .1) (x .1 ∙ ap (λ i. F .index i b) (sym p)))
 
 -- The other way round: of two addresses in one block, the walks come to the same word.
-pub together-visits : (F : Form) {P : ℕ → ℕ} (d a b : ℕ) {m j : ℕ} → Visits F P a (F .top) (entry F d a) m j → Together F m a b
+pub together-visits : (F : Form) {P : ℕ → ℕ} (d a b : ℕ) {m j : ℕ} → Visits F P a (F .top) (entry F d a) m j
+    → Together F m a b
     → Visits F P b (F .top) (entry F d b) m j
 together-visits F d a b here t = rw (t (F .top) (omega arith) (omega arith)) here
 together-visits F {P} d a b (next {m} {j} v l) t =
@@ -107,7 +112,8 @@ module _ (F : Form) (P : ℕ → ℕ) where
   led-low d a h (k, v, l, e) = visits-down F P a v
 
 -- Two walks led to one table are of one domain and block.
-pub one-owner : (F : Form) → Lawful F → {P : ℕ → ℕ} → SoundPool F P → (d a e b h t : ℕ) → d < F .domains → e < F .domains
+pub one-owner : (F : Form) → Lawful F → {P : ℕ → ℕ} → SoundPool F P → (d a e b h t : ℕ) → d < F .domains
+    → e < F .domains
     → Led F P d a h t → Led F P e b h t → (d ≡ e) × Together F (suc h) a b
 one-owner F L {P} s d a e b h t bd be (k, v, l, p) (j, w, q, r) =
     one-block F L s bd be v w refl (s .once (visited-reach F L d a bd v) l (visited-reach F L e b be w) q (p ∙ sym r))
@@ -129,5 +135,6 @@ met-by F E {P} (step {m} {j} i r l c) =
     turn d b bd lo e (next (together-visits F d a b v t) l)
   where
     turn : (d b : ℕ) → d < F .domains → b < F .span → F .index m b ≡ i
-        → Visits F P b (F .top) (entry F d b) m (F .target (suc m) (P j) + F .index m b) → Met F P m (F .target (suc m) (P j) + i)
+        → Visits F P b (F .top) (entry F d b) m (F .target (suc m) (P j) + F .index m b)
+        → Met F P m (F .target (suc m) (P j) + i)
     turn d b bd lo e v = (d, b, bd, lo, rw e at v)

@@ -1,4 +1,5 @@
--- The check of entries, tables and roots says fine exactly where they are sound, and meets exactly the tables that are led to. For any form.
+-- The check of entries, tables and roots says fine exactly where they are sound, and meets exactly the tables that
+-- are led to. For any form.
 use Prim.Native.Nat.{ℕ, zero, suc, _+_, _≤_, _<_}
 use mathlib.Core.Path.{_≡_, refl, sym, _∙_}
 use mathlib.Core.Logic.{_⊎_, inl, inr, ⊎-elim}
@@ -13,7 +14,8 @@ use Rattle.theory.specs.Check.{Finding, refused, met, mark, entryCheck, 
 use Rattle.theory.specs.Lawful.{Lawful}
 use Rattle.theory.proofs.ReachLaws.{through, sound-of, table-low}
 use Rattle.theory.proofs.Logic.{by-cases}
-use Rattle.theory.proofs.CheckedLaws.{not-refused, same-met, Only, LedTo, Checked, Checks, checks-met, led-height, none-checks, then-checks, each-checks}
+use Rattle.theory.proofs.CheckedLaws.{not-refused, same-met, Only, LedTo, Checked, Checks, checks-met}
+use Rattle.theory.proofs.CheckedLaws.{led-height, none-checks, then-checks, each-checks}
 
 or-right : (a b : Bool) → b ≡ true → (a || b) ≡ true
 or-right true b e = refl
@@ -58,7 +60,8 @@ RootsTo F n m j = (d : ℕ) × (i : ℕ) × (m ≡ F .top) × (j ≡ F .root d +
 
 module _ (F : Form) (P : ℕ → ℕ) where
   -- An entry that leads nowhere.
-  module _ (h k : ℕ) (s : ℕ → Bool) (g : F .good h (P k) ≡ true) (stop : (m : ℕ) → suc m ≡ h → F .leads (suc m) (P k) ≡ true → ⊥) where
+  module _ (h k : ℕ) (s : ℕ → Bool) (g : F .good h (P k) ≡ true)
+      (stop : (m : ℕ) → suc m ≡ h → F .leads (suc m) (P k) ≡ true → ⊥) where
     stays : {m j : ℕ} → Reach F P (Only h k) m j → (m ≡ h) × (j ≡ k)
     stays (start x) = x
     stays (step {m} {j} i r l b) = let x = stays r in absurd (stop m (x .0) (rw (x .1) at l))
@@ -71,7 +74,11 @@ module _ (F : Form) (P : ℕ → ℕ) where
 
     stays-checked : Checked F P (Only h k) s s
     stays-checked = record {
-      sound = record { good = λ r. stays-good r; once = λ {m} {j} {k} r l q p e. absurd (stays-led (m, j, r, l, refl)) };
+      sound = record {
+        good = λ r. stays-good r;
+        once = λ {m} {j} {k} r l q p e. absurd
+            (stays-led (m, j, r, l, refl));
+      };
       grows = λ x y. y;
       fresh = λ x d. absurd (stays-led d);
       marks = λ x d. absurd (stays-led d);
@@ -159,7 +166,8 @@ module _ (F : Form) (P : ℕ → ℕ) where
           (λ l. ⊎-elim
           (λ b. true≢false (sym b ∙ new _ (h, k, start (refl, refl), l, refl)))
           (λ y. below _ .takes _
-          (sound-of F P (λ m j z. rw (z .1, z .2) (step (z .0) (start (refl, refl)) l (z .3))) g) (under-new h k s g l new) y)
+          (sound-of F P (λ m j z. rw (z .1, z .2) (step (z .0) (start (refl, refl)) l (z .3))) g)
+          (under-new h k s g l new) y)
           (refused-unless (s (F .target (suc h) (P k))) _ (rw l at x)))
           (λ l. not-refused (sym (rw l at x))))
           (refused-if (F .good (suc h) (P k)) _ e)
@@ -172,7 +180,8 @@ module _ (F : Form) (P : ℕ → ℕ) where
           let (g, x) = met-if (F .good zero (P k)) (met s) u e in
           rw (← same-met x) (stays-checked zero k s g (λ m p l. omega arith));
       takes = λ s g new e. ⊎-elim
-          (λ b. true≢false (sym (g .good (start (refl, refl))) ∙ b)) (λ x. not-refused (sym x)) (refused-if (F .good zero (P k)) (met s) e);
+          (λ b. true≢false (sym (g .good (start (refl, refl))) ∙ b)) (λ x. not-refused (sym x))
+          (refused-if (F .good zero (P k)) (met s) e);
     }
     entry-checks (suc h) k =
         let below : (t : ℕ) → Checks F P (Table F h t) (tableCheck F P h t) =
@@ -209,7 +218,12 @@ module _ (F : Form) (L : Lawful F) (P : ℕ → ℕ) where
   pub roots-check-sound : (u : ℕ → Bool) → rootsCheck F P (F .domains) (λ x. false) ≡ met u → CheckedPool F P u
   roots-check-sound u e =
       let c = roots-checks F P L (F .domains) (omega arith) .finds (λ x. false) u e in
-      record { sound = c .sound; marks = c .marks; only = λ x h. ⊎-elim (λ y. absurd (false≢true y)) (λ y. y) (c .only x h) }
+      record {
+        sound = c .sound;
+        marks = c .marks;
+        only = λ x h. ⊎-elim (λ y. absurd (false≢true y)) (λ y. y)
+            (c .only x h);
+      }
 
   pub roots-check-refused : rootsCheck F P (F .domains) (λ x. false) ≡ refused → SoundPool F P → ⊥
   roots-check-refused e s = roots-checks F P L (F .domains) (omega arith) .takes (λ x. false) s (λ x d. refl) e

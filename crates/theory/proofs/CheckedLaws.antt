@@ -21,7 +21,8 @@ pub not-true-false : (b : Bool) → (b ≡ true → ⊥) → b ≡ false
 not-true-false true f = absurd (f refl)
 not-true-false false f = refl
 
-met-then : (x : Finding) (f : (ℕ → Bool) → Finding) (u : ℕ → Bool) → andThen x f ≡ met u → (s : ℕ → Bool) × (x ≡ met s) × (f s ≡ met u)
+met-then : (x : Finding) (f : (ℕ → Bool) → Finding) (u : ℕ → Bool) → andThen x f ≡ met u → (s : ℕ → Bool)
+    × (x ≡ met s) × (f s ≡ met u)
 met-then refused f u e = absurd (not-refused e)
 met-then (met s) f u e = (s, refl, e)
 
@@ -35,7 +36,8 @@ Range h t n m j = (i : ℕ) × (m ≡ h) × (j ≡ t + i) × (i < n)
 module _ (F : Form) (P : ℕ → ℕ) where
   -- A word reached from the starts `S` leads to the table that begins at `x`.
   abbrev pub LedTo : (ℕ → ℕ → Type 0) → ℕ → Type 0
-  LedTo S x = (m : ℕ) × (j : ℕ) × Reach F P S (suc m) j × (F .leads (suc m) (P j) ≡ true) × (F .target (suc m) (P j) ≡ x)
+  LedTo S x = (m : ℕ) × (j : ℕ) × Reach F P S (suc m) j × (F .leads (suc m) (P j) ≡ true)
+      × (F .target (suc m) (P j) ≡ x)
 
   -- What holds when the starts `S` were checked and found fine, with `s` met before and `u` after.
   pub record Checked (S : ℕ → ℕ → Type 0) (s u : ℕ → Bool) : Type 0 where
@@ -60,10 +62,13 @@ module _ (F : Form) (P : ℕ → ℕ) where
       go (met u) e = (u, e)
 
   -- Two words that lead to one table stand at one height.
-  pub led-height : Lawful F → {S : ℕ → ℕ → Type 0} → Sound F P S → {m n j i : ℕ} → Reach F P S (suc m) j → F .leads (suc m) (P j) ≡ true
-      → Reach F P S (suc n) i → F .leads (suc n) (P i) ≡ true → F .target (suc m) (P j) ≡ F .target (suc n) (P i) → m ≡ n
+  pub led-height : Lawful F → {S : ℕ → ℕ → Type 0} → Sound F P S → {m n j i : ℕ} → Reach F P S (suc m) j
+      → F .leads (suc m) (P j) ≡ true
+      → Reach F P S (suc n) i → F .leads (suc n) (P i) ≡ true → F .target (suc m) (P j) ≡ F .target (suc n) (P i) → m
+      ≡ n
   led-height L s {m} {n} {j} {i} r l q p e =
-      sym (L .target-zone m (P j) 0 (s .good r) l (some m)) ∙ ap (λ x. F .zone (x + 0)) e ∙ L .target-zone n (P i) 0 (s .good q) p (some n)
+      sym (L .target-zone m (P j) 0 (s .good r) l (some m)) ∙ ap (λ x. F .zone (x + 0)) e ∙ L .target-zone n (P i) 0
+      (s .good q) p (some n)
     where
       some : (h : ℕ) → 0 < F .size h
       some h = omega (arith, L .index-below h 0)
@@ -122,7 +127,8 @@ module _ (F : Form) (P : ℕ → ℕ) where
         once = λ r l q p e. join-once a b (reach-part r) l (reach-part q) p e;
       };
       grows = λ x h. b .grows x (a .grows x h);
-      fresh = λ x d. ⊎-elim (λ y. a .fresh x y) (λ y. not-true-false (s x) (λ h. true≢false (sym (a .grows x h) ∙ b .fresh x y))) (led-part d);
+      fresh = λ x d. ⊎-elim (λ y. a .fresh x y)
+          (λ y. not-true-false (s x) (λ h. true≢false (sym (a .grows x h) ∙ b .fresh x y))) (led-part d);
       marks = λ x d. ⊎-elim (λ y. b .grows x (a .marks x y)) (λ y. b .marks x y) (led-part d);
       only = λ x h. ⊎-elim
           (λ y. ⊎-elim inl (λ (m, j, r, l, e). inr (m, j, from-left r, l, e)) (a .only x y))
@@ -159,7 +165,8 @@ module _ (F : Form) (P : ℕ → ℕ) where
         takes = λ s o new e. go s o new (f s) refl e;
       }
         where
-          go : (s : ℕ → Bool) → Sound F P U → ((x : ℕ) → LedTo U x → s x ≡ false) → (y : Finding) → f s ≡ y → andThen y g ≡ refused → ⊥
+          go : (s : ℕ → Bool) → Sound F P U → ((x : ℕ) → LedTo U x → s x ≡ false) → (y : Finding) → f s ≡ y
+              → andThen y g ≡ refused → ⊥
           go s o new refused p e = a .takes s (sound-of F P (λ m j y. start (left m j y)) o)
               (λ x (m, j, r, l, q). new x (m, j, from-left r, l, q)) p
           go s o new (met u) p e = b .takes u (sound-of F P (λ m j y. start (rest m j y)) o)

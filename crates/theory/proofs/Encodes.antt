@@ -1,4 +1,5 @@
--- A pool that holds the rights `R`, with a table for each block that wants one, at the place that `place` gives it. For any form.
+-- A pool that holds the rights `R`, with a table for each block that wants one, at the place that `place` gives it.
+-- For any form.
 use Prim.Native.Nat.{ℕ, zero, suc, _+_, _≤_, _<_}
 use mathlib.Core.Path.{_≡_}
 use mathlib.Core.Bool.{Bool, true, false}
@@ -12,8 +13,10 @@ module _ (F : Form) (want : ℕ → ℕ → ℕ → Bool) where
   -- The test tells exactly the blocks that want a table, for the rights `R`.
   pub record TellsWants (R : ℕ → ℕ → ℕ) : Type 0 where
     pub last : (d a : ℕ) → d < F .domains → a < F .span → want zero d a ≡ false
-    pub is : (h d a : ℕ) → d < F .domains → a < F .span → h < F .top → F .Wants (suc h) (R d) a → want (suc h) d a ≡ true
-    pub are : (h d a : ℕ) → d < F .domains → a < F .span → h < F .top → want (suc h) d a ≡ true → F .Wants (suc h) (R d) a
+    pub is : (h d a : ℕ) → d < F .domains → a < F .span → h < F .top → F .Wants (suc h) (R d) a → want (suc h) d a
+        ≡ true
+    pub are : (h d a : ℕ) → d < F .domains → a < F .span → h < F .top → want (suc h) d a ≡ true
+        → F .Wants (suc h) (R d) a
 
   -- The walk comes down to height `h`: every block above wants a table.
   abbrev pub Gets : ℕ → ℕ → ℕ → Type 0
@@ -28,8 +31,10 @@ module _ (F : Form) (want : ℕ → ℕ → ℕ → Bool) where
     -- Roots are where they are, a table is for a whole block, and no two tables stand at one place.
     pub record Placing : Type 0 where
       pub root : (d a : ℕ) → d < F .domains → a < F .span → place (F .top) d a ≡ F .root d
-      pub block : (h d a b : ℕ) → d < F .domains → a < F .span → b < F .span → Together F (suc h) a b → place h d a ≡ place h d b
-      pub apart : (h d a e b : ℕ) → d < F .domains → a < F .span → e < F .domains → b < F .span → h < F .top → Gets h d a → Gets h e b
+      pub block : (h d a b : ℕ) → d < F .domains → a < F .span → b < F .span → Together F (suc h) a b → place h d a
+          ≡ place h d b
+      pub apart : (h d a e b : ℕ) → d < F .domains → a < F .span → e < F .domains → b < F .span → h < F .top
+          → Gets h d a → Gets h e b
           → place h d a ≡ place h e b → (d ≡ e) × Together F (suc h) a b
 
     -- Each word that walks come to leads to its table, or says the rights of its block.
@@ -47,9 +52,12 @@ module _ (F : Form) (want : ℕ → ℕ → ℕ → Bool) where
     -- The rules for places, and for idle words, from the old pool `P`.
     pub record Follows (P Q : ℕ → ℕ) : Type 0 where
       pub keeps : (h d a s : ℕ) → d < F .domains → a < F .span → Gets h d a → Led F P d a h s → place h d a ≡ s
-      pub order : (h d a e b : ℕ) → d < F .domains → a < F .span → e < F .domains → b < F .span → h < F .top → Fresh P h d a → Fresh P h e b
+      pub order : (h d a e b : ℕ) → d < F .domains → a < F .span → e < F .domains → b < F .span → h < F .top
+          → Fresh P h d a → Fresh P h e b
           → Before d a e b → place h d a ≤ place h e b
       -- Below a new table no place is left over.
-      pub lowest : (h d a x : ℕ) → d < F .domains → a < F .span → h < F .top → Fresh P h d a → Place F h x → x < place h d a
+      pub lowest : (h d a x : ℕ) → d < F .domains → a < F .span → h < F .top → Fresh P h d a → Place F h x
+          → x < place h d a
           → (e : ℕ) × (b : ℕ) × (e < F .domains) × (b < F .span) × Gets h e b × (place h e b ≡ x)
-      pub idle : (j : ℕ) → ((h d a : ℕ) → d < F .domains → a < F .span → h ≤ F .top → Gets h d a → j ≡ spot h d a → ⊥) → Q j ≡ P j
+      pub idle : (j : ℕ) → ((h d a : ℕ) → d < F .domains → a < F .span → h ≤ F .top → Gets h d a → j ≡ spot h d a → ⊥)
+          → Q j ≡ P j

@@ -1,4 +1,5 @@
--- A pool that encodes rights is settled and has them; where the places follow the rules it is the finished one. For any form.
+-- A pool that encodes rights is settled and has them; where the places follow the rules it is the finished one. For
+-- any form.
 use Prim.Native.Nat.{ℕ, zero, suc, _+_, _-_, _≤_, _<_}
 use mathlib.Core.Path.{_≡_, sym, ap, _∙_}
 use mathlib.Core.Bool.{Bool, true, true≢false}
@@ -26,16 +27,19 @@ module _ (F : Form) (want : ℕ → ℕ → ℕ → Bool) where
   gets-above h d a g i lo hi = g i (omega arith) hi
 
   -- What wants a table lies in blocks that want one, so its walk comes down to it.
-  module _ (W : Wanting F) {R : ℕ → ℕ → ℕ} (T : TellsWants F want R) (d a : ℕ) (bd : d < F .domains) (ba : a < F .span) where
+  module _ (W : Wanting F) {R : ℕ → ℕ → ℕ} (T : TellsWants F want R) (d a : ℕ) (bd : d < F .domains)
+      (ba : a < F .span) where
     wants-from : (n h : ℕ) → suc h + n ≡ F .top → F .Wants (suc h) (R d) a → Gets F want h d a
     wants-from zero h e x = gets-next h d a (λ i lo hi. absurd (omega arith)) (T .is h d a bd ba (omega arith) x)
     wants-from (suc n) h e x =
-        gets-next h d a (wants-from n (suc h) (omega arith) (W .up h a (R d) ba (omega arith) x)) (T .is h d a bd ba (omega arith) x)
+        gets-next h d a (wants-from n (suc h) (omega arith) (W .up h a (R d) ba (omega arith) x))
+        (T .is h d a bd ba (omega arith) x)
 
     pub wants-gets : (h : ℕ) → h < F .top → F .Wants (suc h) (R d) a → Gets F want h d a
     wants-gets h hi x = wants-from (F .top - suc h) h (omega arith) x
 
-module _ (F : Form) (L : Lawful F) (E : Exact F) (want : ℕ → ℕ → ℕ → Bool) (place : ℕ → ℕ → ℕ → ℕ) {R : ℕ → ℕ → ℕ} {Q : ℕ → ℕ}
+module _ (F : Form) (L : Lawful F) (E : Exact F) (want : ℕ → ℕ → ℕ → Bool)
+    (place : ℕ → ℕ → ℕ → ℕ) {R : ℕ → ℕ → ℕ} {Q : ℕ → ℕ}
     (T : TellsWants F want R) (p : Placing F want place) (c : Encodes F want place R Q) where
   abbrev at : ℕ → ℕ → ℕ → ℕ
   at = spot F want place
@@ -64,10 +68,12 @@ module _ (F : Form) (L : Lawful F) (E : Exact F) (want : ℕ → ℕ → ℕ →
       let (g, e) = visits-gets d a bd ba v in
       let b = visits-down F Q a v in
       by-cases (want (suc m) d a)
-      (λ w. let n = gets-next F want m d a g w in (n, rw e (ap (λ t. t + F .index m a) (c .leads m d a bd ba (omega arith) n .2))))
+      (λ w. let n = gets-next F want m d a g w in
+      (n, rw e (ap (λ t. t + F .index m a) (c .leads m d a bd ba (omega arith) n .2))))
       (λ w. absurd (true≢false (sym l ∙ rw e (c .says (suc m) d a bd ba b g w .rights))))
 
-  pub gets-led : (h d a : ℕ) → d < F .domains → a < F .span → h < F .top → Gets F want h d a → Led F Q d a h (place h d a)
+  pub gets-led : (h d a : ℕ) → d < F .domains → a < F .span → h < F .top → Gets F want h d a
+      → Led F Q d a h (place h d a)
   gets-led h d a bd ba hi g =
       let (_, l, t) = c .leads h d a bd ba hi g in
       (at (suc h) d a, gets-visits (suc h) d a bd ba hi (gets-above F want h d a g), l, t)
@@ -79,17 +85,24 @@ module _ (F : Form) (L : Lawful F) (E : Exact F) (want : ℕ → ℕ → ℕ →
       (λ w. gets-next F want h d a g w)
       (λ w. absurd (true≢false (sym l ∙ c .says (suc h) d a bd ba hi g w .rights)))
 
-  pub led-gets : (h d a t : ℕ) → d < F .domains → a < F .span → Led F Q d a h t → (h < F .top) × Gets F want h d a × (place h d a ≡ t)
+  pub led-gets : (h d a t : ℕ) → d < F .domains → a < F .span → Led F Q d a h t → (h < F .top) × Gets F want h d a
+      × (place h d a ≡ t)
   led-gets h d a t bd ba (k, v, l, e) =
       let hi : h < F .top = visits-down F Q a v in
       let (g, o) = visits-gets d a bd ba v in
       let n = leads-gets h d a bd ba hi g (rw o at l) in
       (hi, n, sym (c .leads h d a bd ba hi n .2) ∙ (rw o at e))
 
-  one-spot : (h d a b : ℕ) → d < F .domains → a < F .span → b < F .span → h ≤ F .top → Together F h a b → at h d a ≡ at h d b
-  one-spot h d a b bd ba bb hi t = rw (p .block h d a b bd ba bb (together-above F h (suc h) a b (omega arith) t), t h (omega arith) hi)
+  one-spot : (h d a b : ℕ) → d < F .domains → a < F .span → b < F .span → h ≤ F .top → Together F h a b → at h d a
+      ≡ at h d b
+  one-spot h d a b bd ba bb hi t = rw (
+    p .block h d a b bd ba bb (together-above F h (suc h) a b (omega arith) t),
+    t h
+        (omega arith) hi,
+  )
 
-  good-at : (m d a : ℕ) → d < F .domains → a < F .span → m ≤ F .top → Gets F want m d a → F .good m (Q (at m d a)) ≡ true
+  good-at : (m d a : ℕ) → d < F .domains → a < F .span → m ≤ F .top → Gets F want m d a → F .good m (Q (at m d a))
+      ≡ true
   good-at zero d a bd ba hi g = c .says zero d a bd ba hi g (T .last d a bd ba) .good
   good-at (suc m) d a bd ba hi g = by-cases (want (suc m) d a)
       (λ w. c .leads m d a bd ba (omega arith) (gets-next F want m d a g w) .0)
@@ -111,7 +124,8 @@ module _ (F : Form) (L : Lawful F) (E : Exact F) (want : ℕ → ℕ → ℕ →
       let n = leads-gets m d a bd ba hi g (rw e at l) in
       (d, a, bd, ba, hi, n, e, ap (λ x. F .target (suc m) (Q x)) e ∙ c .leads m d a bd ba hi n .2)
 
-  reach-once : {m j k : ℕ} → Reach F Q (Roots F) (suc m) j → F .leads (suc m) (Q j) ≡ true → Reach F Q (Roots F) (suc m) k
+  reach-once : {m j k : ℕ} → Reach F Q (Roots F) (suc m) j → F .leads (suc m) (Q j) ≡ true
+      → Reach F Q (Roots F) (suc m) k
       → F .leads (suc m) (Q k) ≡ true → F .target (suc m) (Q j) ≡ F .target (suc m) (Q k) → j ≡ k
   reach-once {m} {j} {k} r l q n e =
       let (d, a, bd, ba, hi, g, o, t) = reach-led r l in
@@ -122,7 +136,8 @@ module _ (F : Form) (L : Lawful F) (E : Exact F) (want : ℕ → ℕ → ℕ →
   pub encodes-sound : SoundPool F Q
   encodes-sound = record { good = λ r. reach-good r; once = λ r l q n e. reach-once r l q n e }
 
-  right-at : (h d a : ℕ) → d < F .domains → a < F .span → h ≤ F .top → Gets F want h d a → right F Q h (at h d a) a ≡ R d a
+  right-at : (h d a : ℕ) → d < F .domains → a < F .span → h ≤ F .top → Gets F want h d a → right F Q h (at h d a) a
+      ≡ R d a
   right-at zero d a bd ba hi g =
       let s = c .says zero d a bd ba hi g (T .last d a bd ba) in
       right-says F Q zero _ a (s .rights) ∙ s .each a ba (together-refl F zero a)
@@ -153,7 +168,8 @@ module _ (F : Form) (L : Lawful F) (E : Exact F) (want : ℕ → ℕ → ℕ →
 
     module _ {P : ℕ → ℕ} (f : Follows F want place P Q) where
       finished-keeps : {d a h s t : ℕ} → d < F .domains → a < F .span → Led F P d a h s → Led F Q d a h t → s ≡ t
-      finished-keeps {d} {a} {h} {s} {t} bd ba o n = let (_, g, e) = led-gets h d a t bd ba n in sym (f .keeps h d a s bd ba g o) ∙ e
+      finished-keeps {d} {a} {h} {s} {t} bd ba o n = let (_, g, e) = led-gets h d a t bd ba n in sym
+          (f .keeps h d a s bd ba g o) ∙ e
 
       finished-order : {d a e b h s t : ℕ} → New F P Q d a h s → New F P Q e b h t → Before d a e b → s ≤ t
       finished-order {d} {a} {e} {b} {h} {s} {t} (bd, ba, m, no-m) (be, bb, n, no-n) o =
@@ -177,5 +193,6 @@ module _ (F : Form) (L : Lawful F) (E : Exact F) (want : ℕ → ℕ → ℕ →
         keeps = λ bd ba o n. finished-keeps bd ba o n;
         order = λ m n o. finished-order m n o;
         lowest = λ x m y lt free. finished-lowest x m y lt free;
-        idle = λ j un. f .idle j (λ h d a bd ba hi g e. un h (rw e (visited-reach F L d a bd (gets-visits h d a bd ba hi g))));
+        idle = λ j un. f .idle j (λ h d a bd ba hi g e. un h
+            (rw e (visited-reach F L d a bd (gets-visits h d a bd ba hi g))));
       }

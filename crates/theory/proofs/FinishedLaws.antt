@@ -29,25 +29,31 @@ in-order d a e b = elim (ℕ-discrete d e) [
 ]
 
 -- Where a good word leads there is a place.
-pub led-place : (F : Form) → Lawful F → {Q : ℕ → ℕ} → SoundPool F Q → (d a h : ℕ) {t : ℕ} → d < F .domains → Led F Q d a h t → Place F h t
+pub led-place : (F : Form) → Lawful F → {Q : ℕ → ℕ} → SoundPool F Q → (d a h : ℕ) {t : ℕ} → d < F .domains
+    → Led F Q d a h t → Place F h t
 led-place F L {Q} s d a h bd (k, v, l, e) = (Q k, s .good (visited-reach F L d a bd v), l, e)
 
 module _ (F : Form) (L : Lawful F) (W : Wanting F) (P : ℕ → ℕ) (R : ℕ → ℕ → ℕ) where
   -- Of two finished pools, one leads where the other does.
-  led-other : {Q T : ℕ → ℕ} → Finished F P R Q → Finished F P R T → (d a h : ℕ) {t : ℕ} → d < F .domains → a < F .span → Led F Q d a h t
+  led-other : {Q T : ℕ → ℕ} → Finished F P R Q → Finished F P R T → (d a h : ℕ) {t : ℕ} → d < F .domains → a < F .span
+      → Led F Q d a h t
       → (s : ℕ) × Led F T d a h s
   led-other q f d a h {t} bd ba x =
-      same-shape F W (q .settled) (f .settled) d a h bd ba (λ b lo. q .rights d b bd lo ∙ sym (f .rights d b bd lo)) (t, x)
+      same-shape F W (q .settled) (f .settled) d a h bd ba (λ b lo. q .rights d b bd lo ∙ sym (f .rights d b bd lo))
+      (t, x)
 
-  new-other : {Q T : ℕ → ℕ} → Finished F P R Q → Finished F P R T → (d a h : ℕ) {t : ℕ} → New F P Q d a h t → (s : ℕ) × New F P T d a h s
+  new-other : {Q T : ℕ → ℕ} → Finished F P R Q → Finished F P R T → (d a h : ℕ) {t : ℕ} → New F P Q d a h t → (s : ℕ)
+      × New F P T d a h s
   new-other q f d a h (bd, ba, x, no-old) = let y = led-other q f d a h bd ba x in (y .0, (bd, ba, y .1, no-old))
 
   -- The new tables at places below `x` are the same ones.
   abbrev SameBelow : (Q T : ℕ → ℕ) → ℕ → ℕ → Type 0
-  SameBelow Q T h x = (y d a : ℕ) → y < x → (New F P Q d a h y → New F P T d a h y) × (New F P T d a h y → New F P Q d a h y)
+  SameBelow Q T h x = (y d a : ℕ) → y < x → (New F P Q d a h y → New F P T d a h y)
+      × (New F P T d a h y → New F P Q d a h y)
 
   -- No table of both stands where a new one does.
-  new-free : {Q T : ℕ → ℕ} → Finished F P R Q → Finished F P R T → (d a h x : ℕ) → New F P Q d a h x → Stays F P T h x → ⊥
+  new-free : {Q T : ℕ → ℕ} → Finished F P R Q → Finished F P R T → (d a h x : ℕ) → New F P Q d a h x → Stays F P T h x
+      → ⊥
   new-free {Q} {T} q f d a h x (bd, ba, n, no-old) (e, b, be, bb, o, m) =
       let y = led-other f q e b h be bb m in
       let z : x ≡ y .0 = q .keeps be bb o (y .1) in
@@ -77,7 +83,8 @@ module _ (F : Form) (L : Lawful F) (W : Wanting F) (P : ℕ → ℕ) (R : ℕ �
 
         higher : (e b : ℕ) → New F P T e b h x → Before d a e b ⊎ (((d ≡ e) × (a ≡ b)) ⊎ Before e b d a) → ⊥
         higher e b w (inl p) = let z : y ≤ x = f .order m w p in omega arith
-        higher e b w (inr (inl (p, r))) = let z : x ≡ y = one-table F T e b h (w .2) (rw (p, r) at (m .2)) in omega arith
+        higher e b w (inr (inl (p, r))) = let z : x ≡ y = one-table F T e b h (w .2) (rw (p, r) at (m .2)) in
+            omega arith
         higher e b w (inr (inr p)) = let v = new-other f q e b h w in clash e b w (v .0) (v .1) (q .order (v .1) n p)
 
     -- So it stands at the same place.
@@ -116,18 +123,22 @@ module _ (F : Form) (L : Lawful F) (W : Wanting F) (P : ℕ → ℕ) (R : ℕ �
       let x = same-led q f d a m (F .target (suc m) (Q j)) bd ba (j, v, l, refl) in
       rw (← x .3) (next (x .1) (x .2))
 
-  module _ (E : Exact F) {Q T : ℕ → ℕ} (q : Finished F P R Q) (f : Finished F P R T) (d a : ℕ) (bd : d < F .domains) (ba : a < F .span) where
-    good-at : {X : ℕ → ℕ} → Finished F P R X → {m j : ℕ} → Visits F X a (F .top) (entry F d a) m j → F .good m (X j) ≡ true
+  module _ (E : Exact F) {Q T : ℕ → ℕ} (q : Finished F P R Q) (f : Finished F P R T) (d a : ℕ) (bd : d < F .domains)
+      (ba : a < F .span) where
+    good-at : {X : ℕ → ℕ} → Finished F P R X → {m j : ℕ} → Visits F X a (F .top) (entry F d a) m j → F .good m (X j)
+        ≡ true
     good-at {X} x v = x .settled .sound .good (visited-reach F L d a bd v)
 
     -- Both words decide.
-    both-say : {m j : ℕ} → Visits F Q a (F .top) (entry F d a) m j → F .leads m (Q j) ≡ false → F .leads m (T j) ≡ false → Q j ≡ T j
+    both-say : {m j : ℕ} → Visits F Q a (F .top) (entry F d a) m j → F .leads m (Q j) ≡ false → F .leads m (T j)
+        ≡ false → Q j ≡ T j
     both-say {m} {j} v l n =
         let w = same-visits q f d a bd ba v in
         let x = says-at F L Q (q .settled .sound) d a m j bd v l in
         let y = says-at F L T (f .settled .sound) d a m j bd w n in
         E .says-exact m a (Q j) (T j) (rightOf F Q d) ba x
-        (says-same F m (rightOf F T d) (rightOf F Q d) a (T j) (λ b lo. f .rights d b bd lo ∙ sym (q .rights d b bd lo)) y)
+        (says-same F m (rightOf F T d) (rightOf F Q d) a (T j)
+        (λ b lo. f .rights d b bd lo ∙ sym (q .rights d b bd lo)) y)
 
     same-word : (m j : ℕ) → Visits F Q a (F .top) (entry F d a) m j → Q j ≡ T j
     same-word zero j v = both-say v (E .last (Q j)) (E .last (T j))
@@ -145,7 +156,8 @@ module _ (F : Form) (L : Lawful F) (W : Wanting F) (P : ℕ → ℕ) (R : ℕ �
         absurd (true≢false (sym (rw o at p) ∙ l)))
         (λ n. both-say v l n))
 
-  same-reached : Exact F → {Q T : ℕ → ℕ} → Finished F P R Q → Finished F P R T → {m j : ℕ} → Reach F Q (Roots F) m j → Q j ≡ T j
+  same-reached : Exact F → {Q T : ℕ → ℕ} → Finished F P R Q → Finished F P R T → {m j : ℕ} → Reach F Q (Roots F) m j
+      → Q j ≡ T j
   same-reached E q f {m} {j} r = let (d, a, bd, ba, v) = met-by F E r in same-word E q f d a bd ba m j v
 
   -- There is one finished pool.
@@ -166,7 +178,8 @@ finished-same F P R S e f = record {
 }
 
 -- Pools that are equal word by word are finished alike.
-pub finished-words : (F : Form) (P : ℕ → ℕ) (R : ℕ → ℕ → ℕ) {Q T : ℕ → ℕ} → ((j : ℕ) → Q j ≡ T j) → Finished F P R Q → Finished F P R T
+pub finished-words : (F : Form) (P : ℕ → ℕ) (R : ℕ → ℕ → ℕ) {Q T : ℕ → ℕ} → ((j : ℕ) → Q j ≡ T j) → Finished F P R Q
+    → Finished F P R T
 finished-words F P R e f = rw (fun-ext e) at f
 
 -- A settled pool is finished already, for its own rights.

@@ -1,4 +1,5 @@
--- Laws of kept words, which two pools reach by the same words, and of what hangs below a kept word that is to change. For any form.
+-- Laws of kept words, which two pools reach by the same words, and of what hangs below a kept word that is to change.
+-- For any form.
 use Prim.Native.Nat.{ℕ, suc, _≤_}
 use mathlib.Core.Path.{_≡_, refl, sym, ap, _∙_}
 use mathlib.Core.Logic.{_≢_}
@@ -33,10 +34,12 @@ module _ (F : Form) (L : Lawful F) {P Q : ℕ → ℕ} (s : SoundPool F P) {h k 
   below : {m j n i : ℕ} → Reach F P (Table F h (F .target (suc h) (P k))) m j → Kept F P Q n i → m ≡ n → j ≡ i → ⊥
   below r (top x) p q = let z = table-low F P h _ r in let y = kept-low F c in omega arith
   below (start x) (down {m} {j} i b e f g) p q = d
-      (let z : k ≡ j = step-back F L s (x .0) i (sym p ∙ x .1) (kept-reach F c) l (x .3) (kept-reach F b) f g (sym (x .2) ∙ q) .0 in
+      (let z : k ≡ j = step-back F L s (x .0) i (sym p ∙ x .1) (kept-reach F c) l (x .3) (kept-reach F b) f g
+      (sym (x .2) ∙ q) .0 in
       rw z e)
   below (step {m = m} {j = j} i r f b) (down {m = n} {j = o} i′ b′ e′ f′ g′) p q =
-      below r b′ (ap suc p) (step-back F L s i i′ (sym p) (through F (kept-reach F c) l r) f b (kept-reach F b′) f′ g′ q .0)
+      below r b′ (ap suc p) (step-back F L s i i′ (sym p) (through F (kept-reach F c) l r) f b (kept-reach F b′) f′ g′
+      q .0)
 
   pub hangs-not-kept : {m j : ℕ} → Reach F P (Table F h (F .target (suc h) (P k))) m j → (n : ℕ) → Kept F P Q n j → ⊥
   hangs-not-kept r n q =

@@ -11,7 +11,8 @@ use Rattle.theory.specs.Form.{Form}
 use Rattle.theory.specs.Pool.{SoundPool}
 use Rattle.theory.specs.Finished.{Finished}
 use Rattle.theory.specs.Lawful.{Lawful, Exact}
-use Rattle.theory.specs.Stores.{Kept, Cut, Giving, Filling, Linking, Stage, giving, filling, linking, Next, give, fill, link, Ready}
+use Rattle.theory.specs.Stores.{Kept, Cut, Giving, Filling, Linking, Stage, giving, filling, linking, Next}
+use Rattle.theory.specs.Stores.{give, fill, link, Ready}
 use Rattle.theory.specs.Phase.{phase, midway, Tells}
 use Rattle.theory.proofs.Logic.{by-cases}
 use Rattle.theory.proofs.KeptLaws.{kept-zone}
@@ -82,10 +83,15 @@ module _ (F : Form) (L : Lawful F) {P Q : ℕ → ℕ} (sP : SoundPool F P) (kep
   pub midway-stage : (c k : ℕ) → Stage F P Q (midway P Q (phase F P kept) c k)
   midway-stage c k = elim (decLt c 2) [
     | yes b ↦ giving (giving-at c k b)
-    | no b ↦ elim (ℕ-discrete c 2) [ yes e ↦ rw e (filling (filling-at k)) | no e ↦ linking (linking-at c k (omega arith)) ]
+    | no b ↦ elim (ℕ-discrete c 2) [
+      | yes e ↦ rw e (filling (filling-at k))
+      | no e ↦ linking
+          (linking-at c k (omega arith))
+    ]
   ]
 
-  -- On the way to a finished pool each word is safe to store at its turn, and at any time the pool is one that a cut leaves.
+  -- On the way to a finished pool each word is safe to store at its turn, and at any time the pool is one that a cut
+  -- leaves.
   module _ (E : Exact F) {R : ℕ → ℕ → ℕ} (f : Finished F P R Q) where
     pub phase-ready : (k : ℕ) → Ready F P Q (midway P Q (phase F P kept) (phase F P kept k) k) k
     phase-ready k = finished-ready F L E sP f k (phase-next k)

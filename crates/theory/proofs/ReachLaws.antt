@@ -13,7 +13,8 @@ module _ (F : Form) (P : ℕ → ℕ) (a : ℕ) where
   visits-down here = omega arith
   visits-down (next v l) = let b = visits-down v in omega arith
 
-  pub visits-reach : {h k m j : ℕ} {S : ℕ → ℕ → Type 0} → Lawful F → Reach F P S h k → Visits F P a h k m j → Reach F P S m j
+  pub visits-reach : {h k m j : ℕ} {S : ℕ → ℕ → Type 0} → Lawful F → Reach F P S h k → Visits F P a h k m j
+      → Reach F P S m j
   visits-reach L r here = r
   visits-reach L r (next {m} v l) = step (F .index m a) (visits-reach L r v) l (L .index-below m a)
 
@@ -22,7 +23,8 @@ module _ (F : Form) (P : ℕ → ℕ) (a : ℕ) where
   visits-on v here = v
   visits-on v (next w l) = next (visits-on v w) l
 
-pub entry-reach : (F : Form) → Lawful F → {P : ℕ → ℕ} (d a : ℕ) → d < F .domains → Reach F P (Roots F) (F .top) (entry F d a)
+pub entry-reach : (F : Form) → Lawful F → {P : ℕ → ℕ} (d a : ℕ) → d < F .domains → Reach F P (Roots F) (F .top)
+    (entry F d a)
 entry-reach F L d a b = start (d, F .index (F .top) a, refl, refl, b, L .index-below (F .top) a)
 
 -- What the walk of a domain comes to is reached.
@@ -36,14 +38,16 @@ pub reach-of : (F : Form) (P : ℕ → ℕ) {S T : ℕ → ℕ → Type 0} → (
 reach-of F P f (start {m} {j} x) = f m j x
 reach-of F P f (step i r l b) = step i (reach-of F P f r) l b
 
-pub sound-of : (F : Form) (P : ℕ → ℕ) {S T : ℕ → ℕ → Type 0} → ((m j : ℕ) → S m j → Reach F P T m j) → Sound F P T → Sound F P S
+pub sound-of : (F : Form) (P : ℕ → ℕ) {S T : ℕ → ℕ → Type 0} → ((m j : ℕ) → S m j → Reach F P T m j) → Sound F P T
+    → Sound F P S
 sound-of F P f s = record {
   good = λ r. s .good (reach-of F P f r);
   once = λ r l q p e. s .once (reach-of F P f r) l (reach-of F P f q) p e;
 }
 
 -- What is reached from starts of no more than a height is no higher.
-pub reach-low : (F : Form) (P : ℕ → ℕ) {S : ℕ → ℕ → Type 0} (h : ℕ) → ((m j : ℕ) → S m j → m ≤ h) → {m j : ℕ} → Reach F P S m j → m ≤ h
+pub reach-low : (F : Form) (P : ℕ → ℕ) {S : ℕ → ℕ → Type 0} (h : ℕ) → ((m j : ℕ) → S m j → m ≤ h) → {m j : ℕ}
+    → Reach F P S m j → m ≤ h
 reach-low F P h low (start {m} {j} x) = low m j x
 reach-low F P h low (step i r l b) = let q = reach-low F P h low r in omega arith
 
@@ -51,7 +55,8 @@ pub table-low : (F : Form) (P : ℕ → ℕ) (h t : ℕ) {m j : ℕ} → Reach F
 table-low F P h t = reach-low F P h (λ m j x. omega arith)
 
 -- What is reached from the table of a reached word is reached.
-pub through : (F : Form) {P : ℕ → ℕ} {S : ℕ → ℕ → Type 0} {h k : ℕ} → Reach F P S (suc h) k → F .leads (suc h) (P k) ≡ true → {m j : ℕ}
+pub through : (F : Form) {P : ℕ → ℕ} {S : ℕ → ℕ → Type 0} {h k : ℕ} → Reach F P S (suc h) k → F .leads (suc h) (P k)
+    ≡ true → {m j : ℕ}
     → Reach F P (Table F h (F .target (suc h) (P k))) m j → Reach F P S m j
 through F {P} r l = reach-of F P (λ m j x. rw (x .1, x .2) (step (x .0) r l (x .3)))
 
@@ -68,7 +73,8 @@ pub zone-of : (F : Form) → Lawful F → {P : ℕ → ℕ} {S : ℕ → ℕ →
 zone-of F L z s (start {m} {j} x) = z m j x
 zone-of F L {P} z s (step {m} {j} i r l b) = L .target-zone m (P j) i (s .good r) l b
 
-pub reach-zone : (F : Form) → Lawful F → {P : ℕ → ℕ} → SoundPool F P → {m j : ℕ} → Reach F P (Roots F) m j → F .zone j ≡ m
+pub reach-zone : (F : Form) → Lawful F → {P : ℕ → ℕ} → SoundPool F P → {m j : ℕ} → Reach F P (Roots F) m j → F .zone j
+    ≡ m
 reach-zone F L s r = zone-of F L (roots-zoned F L) s r
 
 -- Where two pools agree on what is reached in the first, the second reaches the same.

@@ -26,7 +26,8 @@ kept-met F E {P} {Q} {m} {j} (top x) =
 kept-met F E {P} {Q} (down {m} {j} i k e l b) =
     let (d, a, bd, ba, v, w) = kept-met F E k in
     let (c, lo, t, o) = E .at-index m a i ba b in
-    turn d c bd lo o (next (together-visits F d a c v t) l) (rw (← e) at (next (together-visits F d a c w t) (rw e at l)))
+    turn d c bd lo o (next (together-visits F d a c v t) l)
+    (rw (← e) at (next (together-visits F d a c w t) (rw e at l)))
   where
     turn : (d b : ℕ) → d < F .domains → b < F .span → F .index m b ≡ i
         → Visits F P b (F .top) (entry F d b) m (F .target (suc m) (P j) + F .index m b)
@@ -34,13 +35,15 @@ kept-met F E {P} {Q} (down {m} {j} i k e l b) =
         → MetInBoth F P Q m (F .target (suc m) (P j) + i)
     turn d b bd bb o v w = (d, b, bd, bb, rw o at v, rw o at w)
 
-module _ (F : Form) (L : Lawful F) (E : Exact F) {P Q : ℕ → ℕ} {R : ℕ → ℕ → ℕ} (sP : SoundPool F P) (f : Finished F P R Q) where
+module _ (F : Form) (L : Lawful F) (E : Exact F) {P Q : ℕ → ℕ} {R : ℕ → ℕ → ℕ} (sP : SoundPool F P)
+    (f : Finished F P R Q) where
   -- A kept word that leads in both pools is the same in both: the table that it leads to keeps its place.
   pub finished-links : (m j : ℕ) → Kept F P Q m j → F .leads m (P j) ≡ true → F .leads m (Q j) ≡ true → P j ≡ Q j
   finished-links zero j k l n = absurd (true≢false (sym l ∙ E .last (P j)))
   finished-links (suc m) j k l n =
       let (d, a, bd, ba, v, w) = kept-met F E k in
-      E .target-exact m (P j) (Q j) (sP .good (visited-reach F L d a bd v)) l (f .settled .sound .good (visited-reach F L d a bd w)) n
+      E .target-exact m (P j) (Q j) (sP .good (visited-reach F L d a bd v)) l
+      (f .settled .sound .good (visited-reach F L d a bd w)) n
       (f .keeps bd ba (j, v, l, refl) (j, w, n, refl))
 
   pub finished-ready : {X : ℕ → ℕ} (k : ℕ) → Next F P Q X k → Ready F P Q X k

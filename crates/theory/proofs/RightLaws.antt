@@ -17,12 +17,14 @@ module _ (F : Form) (P : ℕ → ℕ) where
   pub right-down : (h k a : ℕ) → F .leads (suc h) (P k) ≡ true
       → right F P (suc h) k a ≡ right F P h (F .target (suc h) (P k) + F .index h a) a
   unfolding right
-  right-down h k a e = ap (λ b. cond b (right F P h (F .target (suc h) (P k) + F .index h a) a) (F .says (suc h) (P k) a)) e
+  right-down h k a e = ap (λ b. cond b (right F P h (F .target (suc h) (P k) + F .index h a) a)
+      (F .says (suc h) (P k) a)) e
 
   pub right-says : (h k a : ℕ) → F .leads h (P k) ≡ false → right F P h k a ≡ F .says h (P k) a
   unfolding right
   right-says zero k a e = refl
-  right-says (suc h) k a e = ap (λ b. cond b (right F P h (F .target (suc h) (P k) + F .index h a) a) (F .says (suc h) (P k) a)) e
+  right-says (suc h) k a e = ap (λ b. cond b (right F P h (F .target (suc h) (P k) + F .index h a) a)
+      (F .says (suc h) (P k) a)) e
 
   -- The right does not change along a walk.
   pub right-visits : {a h k m j : ℕ} → Visits F P a h k m j → right F P h k a ≡ right F P m j a

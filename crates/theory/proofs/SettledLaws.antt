@@ -1,4 +1,5 @@
--- Laws of settled pools: a sound pool is settled exactly where no entry that leads could be said; equal rights, equal shape. For any form.
+-- Laws of settled pools: a sound pool is settled exactly where no entry that leads could be said; equal rights, equal
+-- shape. For any form.
 use Prim.Native.Nat.{ℕ, zero, suc, _+_, _-_, _<_}
 use mathlib.Core.Path.{_≡_, refl, sym, _∙_}
 use mathlib.Core.Logic.{⊎-elim}
@@ -23,7 +24,8 @@ says-at F L P s d a m j bd v l = record {
 }
 
 -- Only the rights of addresses count for what an entry says.
-pub says-same : (F : Form) (h : ℕ) (R T : ℕ → ℕ) (a w : ℕ) → ((b : ℕ) → b < F .span → R b ≡ T b) → Says F h R a w → Says F h T a w
+pub says-same : (F : Form) (h : ℕ) (R T : ℕ → ℕ) (a w : ℕ) → ((b : ℕ) → b < F .span → R b ≡ T b) → Says F h R a w
+    → Says F h T a w
 says-same F h R T a w e x = record { good = x .good; rights = x .rights; each = λ b lo t. x .each b lo t ∙ e b lo }
 
 -- No entry that leads stands where one that does not could say the rights of its block.
@@ -39,7 +41,8 @@ module _ (F : Form) (W : Wanting F) {P : ℕ → ℕ} where
 
   -- In a sound pool, a block that wants a table has one: the words above it lead, since nothing could be said there.
   module _ (L : Lawful F) (s : SoundPool F P) (d a : ℕ) (bd : d < F .domains) (ba : a < F .span) where
-    wants-leads : (h k : ℕ) → F .Wants (suc h) (rightOf F P d) a → Visits F P a (F .top) (entry F d a) (suc h) k → F .leads (suc h) (P k) ≡ true
+    wants-leads : (h k : ℕ) → F .Wants (suc h) (rightOf F P d) a → Visits F P a (F .top) (entry F d a) (suc h) k
+        → F .leads (suc h) (P k) ≡ true
     wants-leads h k x v = by-cases (F .leads (suc h) (P k))
         (λ l. l)
         (λ l. absurd (W .unsaid (suc h) a (P k) (rightOf F P d) ba x (says-at F L P s d a (suc h) k bd v l)))
@@ -66,7 +69,8 @@ module _ (F : Form) (W : Wanting F) {P : ℕ → ℕ} where
   }
 
 -- Two settled pools with the same rights have tables for the same blocks.
-pub same-shape : (F : Form) → Wanting F → {P Q : ℕ → ℕ} → Settled F P → Settled F Q → (d a h : ℕ) → d < F .domains → a < F .span
+pub same-shape : (F : Form) → Wanting F → {P Q : ℕ → ℕ} → Settled F P → Settled F Q → (d a h : ℕ) → d < F .domains
+    → a < F .span
     → ((b : ℕ) → b < F .span → rightOf F P d b ≡ rightOf F Q d b) → HasTable F P d a h → HasTable F Q d a h
 same-shape F W {P} {Q} p q d a h bd ba same (t, x) =
     let hi = led-low F P d a h x in

@@ -1,5 +1,6 @@
--- The finished pool stays the same while the stores are made: what a pool on the way is to become is what the old pool was to become,
--- and a word that may be stored on the way from the old pool is the first that may be stored from where we are. For any form.
+-- The finished pool stays the same while the stores are made: what a pool on the way is to become is what the old
+-- pool was to become, and a word that may be stored on the way from the old pool is the first that may be stored from
+-- where we are. For any form.
 use Prim.Native.Nat.{ℕ, zero, suc, _+_, _≤_, _<_}
 use mathlib.Core.Path.{_≡_, refl, sym, ap, _∙_}
 use mathlib.Core.Logic.{_≢_, _⊎_, inl, inr, ⊎-elim}
@@ -27,7 +28,8 @@ module _ (F : Form) (L : Lawful F) {P Q X : ℕ → ℕ} (x : Mixed F P Q X) (a 
       × Reach F P (Table F h (F .target (suc h) (P k))) m j × Visits F P a (F .top) (entry F d a) m j
 
   data Comes : ℕ → ℕ → Type 0 where
-    both : {m j : ℕ} → Kept F P Q m j → Visits F P a (F .top) (entry F d a) m j → Visits F Q a (F .top) (entry F d a) m j → Comes m j
+    both : {m j : ℕ} → Kept F P Q m j → Visits F P a (F .top) (entry F d a) m j → Visits F Q a (F .top) (entry F d a)
+        m j → Comes m j
     old : {m j : ℕ} → Under P Q m j → Comes m j
     new : {m j : ℕ} → Under Q P m j → Comes m j
 
@@ -51,7 +53,8 @@ module _ (F : Form) (L : Lawful F) {P Q X : ℕ → ℕ} (x : Mixed F P Q X) (a 
       go (both c p q) = elim (ℕ-discrete (P j) (Q j)) [
         | yes e ↦ (let f : X j ≡ P j = agreed F x c e in
             let lP : F .leads (suc m) (P j) ≡ true = rw f at l in
-            rw f (both (down (F .index m a) c e lP (L .index-below m a)) (next p lP) (rw (← e) at (next q (rw e at lP)))))
+            rw f (both (down (F .index m a) c e lP (L .index-below m a)) (next p lP)
+            (rw (← e) at (next q (rw e at lP)))))
         | no n ↦ ⊎-elim
             (λ e. old (under-start P Q m j c n e l p))
             (λ e. new (under-start Q P m j (kept-swap F c) (λ z. n (sym z)) e l q))
@@ -65,17 +68,20 @@ module _ (F : Form) (L : Lawful F) {P Q X : ℕ → ℕ} (x : Mixed F P Q X) (a 
   led-between {h} {s} (k, v, l, e) = go (comes v)
     where
       go : Comes (suc h) k → Led F P d a h s ⊎ Led F Q d a h s
-      go (both c p q) = ⊎-elim (λ f. inl (k, p, rw f at l, rw f at e)) (λ f. inr (k, q, rw f at l, rw f at e)) (x .kept c)
+      go (both c p q) = ⊎-elim (λ f. inl (k, p, rw f at l, rw f at e)) (λ f. inr (k, q, rw f at l, rw f at e))
+          (x .kept c)
       go (old (i, n, c, z, f, g, r, p)) = let y = x .old c z f g r in inl (k, p, rw y at l, rw y at e)
       go (new (i, n, c, z, f, g, r, q)) = let y = mixed-swap F x .old c z f g r in inr (k, q, rw y at l, rw y at e)
 
-module _ (F : Form) (L : Lawful F) (E : Exact F) {P Q : ℕ → ℕ} {R : ℕ → ℕ → ℕ} (sP : SoundPool F P) (f : Finished F P R Q) where
+module _ (F : Form) (L : Lawful F) (E : Exact F) {P Q : ℕ → ℕ} {R : ℕ → ℕ → ℕ} (sP : SoundPool F P)
+    (f : Finished F P R Q) where
   links : (m j : ℕ) → Kept F P Q m j → F .leads m (P j) ≡ true → F .leads m (Q j) ≡ true → P j ≡ Q j
   links = finished-links F L E sP f
 
   module _ {X : ℕ → ℕ} (x : Mixed F P Q X) where
     -- Where both pools come on the walk of an address, so does `X`, by kept words.
-    meets : (d a : ℕ) → d < F .domains → {m n i j : ℕ} → Visits F P a (F .top) (entry F d a) m i → Visits F Q a (F .top) (entry F d a) n j → m ≡ n
+    meets : (d a : ℕ) → d < F .domains → {m n i j : ℕ} → Visits F P a (F .top) (entry F d a) m i
+        → Visits F Q a (F .top) (entry F d a) n j → m ≡ n
         → Kept F P Q m i × (i ≡ j) × Visits F X a (F .top) (entry F d a) m i
     meets d a bd here here e = (top (d, F .index (F .top) a, refl, refl, bd, L .index-below (F .top) a), refl, here)
     meets d a bd here (next w l) e = let z = visits-down F Q a w in absurd (omega arith)
@@ -98,7 +104,8 @@ module _ (F : Form) (L : Lawful F) (E : Exact F) {P Q : ℕ → ℕ} {R : ℕ �
         (i, y, rw u l, rw u p)
 
     new-old : {d a h t : ℕ} → New F X Q d a h t → New F P Q d a h t
-    new-old {d} {a} {h} {t} (bd, ba, q, none) = (bd, ba, q, λ s p. none t (led-stays d a bd (rw (f .keeps bd ba p q) at p) q))
+    new-old {d} {a} {h} {t} (bd, ba, q, none) =
+        (bd, ba, q, λ s p. none t (led-stays d a bd (rw (f .keeps bd ba p q) at p) q))
 
     stays-old : {h t : ℕ} → Stays F P Q h t → Stays F X Q h t
     stays-old (d, a, bd, ba, p, q) = (d, a, bd, ba, led-stays d a bd p q, q)
@@ -108,13 +115,15 @@ module _ (F : Form) (L : Lawful F) (E : Exact F) {P Q : ℕ → ℕ} {R : ℕ �
     finished-stays each = record {
       settled = f .settled;
       rights = f .rights;
-      keeps = λ {d} {a} {h} bd ba o n. ⊎-elim (λ p. f .keeps bd ba p n) (λ q. one-table F Q d a h q n) (led-between F L x a d bd o);
+      keeps = λ {d} {a} {h} bd ba o n. ⊎-elim (λ p. f .keeps bd ba p n) (λ q. one-table F Q d a h q n)
+          (led-between F L x a d bd o);
       order = λ m n o. f .order (new-old m) (new-old n) o;
       lowest = λ {d} {a} {h} y m at lt free. low y m at lt free;
       idle = λ j away. ⊎-elim (λ e. f .idle j away ∙ sym e) (λ e. sym e) (each j);
     }
       where
-        low : {d a h t : ℕ} (y : ℕ) → New F X Q d a h t → Place F h y → y < t → (Stays F X Q h y → ⊥) → (e : ℕ) × (b : ℕ) × New F X Q e b h y
+        low : {d a h t : ℕ} (y : ℕ) → New F X Q d a h t → Place F h y → y < t → (Stays F X Q h y → ⊥) → (e : ℕ)
+            × (b : ℕ) × New F X Q e b h y
         low {h = h} y m at lt free =
             let (e, b, (be, bb, q, none)) = f .lowest y (new-old m) at lt (λ s. free (stays-old s)) in (
               e,

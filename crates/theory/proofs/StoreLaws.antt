@@ -9,10 +9,12 @@ use native.Mathlib.Decide.{ℕ-discrete}
 use lib.ListN.{length, set}
 use lib.Seq.{getD-set-same, getD-set-other}
 use Rattle.theory.specs.Form.{Form}
-use Rattle.theory.specs.Pool.{words, Reach, start, step, Sound, SoundPool, Visits, here, next, right, Roots, Table, entry, rightOf}
+use Rattle.theory.specs.Pool.{words, Reach, start, step, Sound, SoundPool, Visits, here, next, right, Roots}
+use Rattle.theory.specs.Pool.{Table, entry, rightOf}
 use Rattle.theory.specs.Settled.{Together}
 use Rattle.theory.specs.Lawful.{Lawful}
-use Rattle.theory.proofs.ReachLaws.{visits-reach, visited-reach, entry-reach, sound-same, table-low, Zoned, roots-zoned, zone-of}
+use Rattle.theory.proofs.ReachLaws.{visits-reach, visited-reach, entry-reach, sound-same, table-low, Zoned}
+use Rattle.theory.proofs.ReachLaws.{roots-zoned, zone-of}
 use Rattle.theory.proofs.RightLaws.{right-down, right-says, right-visits, right-along, right-same}
 use Rattle.theory.proofs.BlockLaws.{one-block, together-visits}
 
@@ -54,11 +56,13 @@ module _ (F : Form) (L : Lawful F) {P Q : ℕ → ℕ} {S : ℕ → ℕ → Type
   pub visits-store : {a i n m j : ℕ} → Reach F P S i n → h ≤ m → Visits F P a i n m j → Visits F Q a i n m j
   visits-store r b here = here
   visits-store {a} r b (next {m} {j} w l) =
-      let e : Q j ≡ P j = st .off j (λ e. let q : suc m ≡ h = same-height (visits-reach F P a L r w) e in omega arith) in
+      let e : Q j ≡ P j = st .off j (λ e. let q : suc m ≡ h = same-height (visits-reach F P a L r w) e in
+      omega arith) in
       rw (← e) (next (visits-store r (omega arith) w) (rw e l))
 
   -- A walk that does not come to it keeps its right.
-  pub right-store-elsewhere : (a i n : ℕ) → Reach F P S i n → (Visits F P a i n h k → ⊥) → right F Q i n a ≡ right F P i n a
+  pub right-store-elsewhere : (a i n : ℕ) → Reach F P S i n → (Visits F P a i n h k → ⊥) → right F Q i n a
+      ≡ right F P i n a
   right-store-elsewhere a i n r off = right-along F P Q a i n (λ m j w. st .off j (λ e.
       off (rw (e, same-height (visits-reach F P a L r w) e) at w)))
 
@@ -85,11 +89,13 @@ module _ (F : Form) (L : Lawful F) {P Q : ℕ → ℕ} {S : ℕ → ℕ → Type
 
     pub right-store-rights : (a i n : ℕ) → Reach F P S i n → Visits F P a i n h k → right F Q i n a ≡ F .says h v a
     right-store-rights a i n r w =
-        right-visits F Q (visits-store r (omega arith) w) ∙ right-says F Q h k a (rw (st .at) l) ∙ ap (λ x. F .says h x a) (st .at)
+        right-visits F Q (visits-store r (omega arith) w) ∙ right-says F Q h k a (rw (st .at) l)
+        ∙ ap (λ x. F .says h x a) (st .at)
 
 -- 3. A store of a word that leads to a sound table none of which is reached.
 module _ (F : Form) (L : Lawful F) {P Q : ℕ → ℕ} {S : ℕ → ℕ → Type 0} (z : Zoned F S) (s : Sound F P S)
-    {k v h : ℕ} (st : Store P Q k v) (rk : Reach F P S (suc h) k) (g : F .good (suc h) v ≡ true) (l : F .leads (suc h) v ≡ true)
+    {k v h : ℕ} (st : Store P Q k v) (rk : Reach F P S (suc h) k) (g : F .good (suc h) v ≡ true)
+    (l : F .leads (suc h) v ≡ true)
     (s′ : Sound F P (Table F h (F .target (suc h) v)))
     (new : (m j : ℕ) → Reach F P S m j → Reach F P (Table F h (F .target (suc h) v)) m j → ⊥) where
   abbrev New : ℕ → ℕ → Type 0
@@ -112,7 +118,8 @@ module _ (F : Form) (L : Lawful F) {P Q : ℕ → ℕ} {S : ℕ → ℕ → Type
       low : suc m ≡ suc h → m ≡ h
       low e = omega arith
 
-      go : Reach F P S (suc m) j ⊎ New (suc m) j → Reach F P S m (F .target (suc m) (Q j) + i) ⊎ New m (F .target (suc m) (Q j) + i)
+      go : Reach F P S (suc m) j ⊎ New (suc m) j → Reach F P S m (F .target (suc m) (Q j) + i)
+          ⊎ New m (F .target (suc m) (Q j) + i)
       go (inl p) = elim (ℕ-discrete j k) [
         | yes e ↦
             (let hm : m ≡ h = low (same-height F L z s st rk g p e) in
@@ -123,13 +130,15 @@ module _ (F : Form) (L : Lawful F) {P Q : ℕ → ℕ} {S : ℕ → ℕ → Type
       go (inr p) = inr (rw (new-off p) (step i p (rw (new-off p) at q) b))
 
   -- A reached word that leads in the old pool does not lead to the new table, nor into it.
-  no-share : {m i j : ℕ} → Reach F P S (suc m) i → F .leads (suc m) (P i) ≡ true → New (suc m) j → F .leads (suc m) (P j) ≡ true
+  no-share : {m i j : ℕ} → Reach F P S (suc m) i → F .leads (suc m) (P i) ≡ true → New (suc m) j
+      → F .leads (suc m) (P j) ≡ true
       → F .target (suc m) (P i) ≡ F .target (suc m) (P j) → ⊥
   no-share {m} {i} {j} r p q n e =
       new m (F .target (suc m) (P i) + F .index m 0) (step (F .index m 0) r p (L .index-below m 0))
       (rw e (step (F .index m 0) q n (L .index-below m 0)))
 
-  no-link : {j : ℕ} → Reach F P S (suc h) j → F .leads (suc h) (P j) ≡ true → F .target (suc h) (P j) ≡ F .target (suc h) v → ⊥
+  no-link : {j : ℕ} → Reach F P S (suc h) j → F .leads (suc h) (P j) ≡ true → F .target (suc h) (P j)
+      ≡ F .target (suc h) v → ⊥
   no-link {j} r p e =
       new h (F .target (suc h) (P j) + F .index h 0) (step (F .index h 0) r p (L .index-below h 0))
       (start (F .index h 0, refl, rw e, L .index-below h 0))
@@ -146,7 +155,8 @@ module _ (F : Form) (L : Lawful F) {P Q : ℕ → ℕ} {S : ℕ → ℕ → Type
       let ej : Q j ≡ P j = new-off q in
       no-share r (rw ei at p) q (rw ej at n) (rw (ei, ej) at x)
 
-  stored-old : {m i j : ℕ} → i ≡ k → j ≢ k → Reach F P S (suc m) i → Reach F P S (suc m) j → F .leads (suc m) (Q j) ≡ true
+  stored-old : {m i j : ℕ} → i ≡ k → j ≢ k → Reach F P S (suc m) i → Reach F P S (suc m) j → F .leads (suc m) (Q j)
+      ≡ true
       → F .target (suc m) (Q j) ≡ F .target (suc m) (Q i) → ⊥
   stored-old {m} {i} {j} e f r q n x =
       let hm : suc m ≡ suc h = same-height F L z s st rk g r e in
@@ -154,7 +164,8 @@ module _ (F : Form) (L : Lawful F) {P Q : ℕ → ℕ} {S : ℕ → ℕ → Type
       no-link (rw hm at q) (rw (ej, hm) at n) (rw (ej, e, st .at, hm) at x)
 
   both-old : {m i j : ℕ} → Dec (i ≡ k) → Dec (j ≡ k) → Reach F P S (suc m) i → F .leads (suc m) (Q i) ≡ true
-      → Reach F P S (suc m) j → F .leads (suc m) (Q j) ≡ true → F .target (suc m) (Q i) ≡ F .target (suc m) (Q j) → i ≡ j
+      → Reach F P S (suc m) j → F .leads (suc m) (Q j) ≡ true → F .target (suc m) (Q i) ≡ F .target (suc m) (Q j) → i
+      ≡ j
   both-old (yes e) (yes f) r p q n x = e ∙ sym f
   both-old (yes e) (no f) r p q n x = absurd (stored-old e f r q n (sym x))
   both-old (no e) (yes f) r p q n x = absurd (stored-old f e q r p x)
@@ -203,7 +214,8 @@ module _ (F : Form) (L : Lawful F) (p : List ℕ) (k v : ℕ) (b : k < length p)
       right-store-unreached F L (Roots F) (store-set p k v b) away (F .top) (entry F d a) a (entry-reach F L d a h)
 
 -- .. a good word, stored where domain `e` comes at height `h` on its walk for `b` ..
-module _ (F : Form) (L : Lawful F) (p : List ℕ) (k v h e b : ℕ) (bk : k < length p) (be : e < F .domains) (s : SoundPool F (words p))
+module _ (F : Form) (L : Lawful F) (p : List ℕ) (k v h e b : ℕ) (bk : k < length p) (be : e < F .domains)
+    (s : SoundPool F (words p))
     (w : Visits F (words p) b (F .top) (entry F e b) h k) (g : F .good h v ≡ true) where
   meets : Reach F (words p) (Roots F) h k
   meets = visited-reach F L e b be w
@@ -212,7 +224,8 @@ module _ (F : Form) (L : Lawful F) (p : List ℕ) (k v h e b : ℕ) (bk : k < le
   pub outside-right : (d a : ℕ) → d < F .domains → (d ≡ e → Together F h a b → ⊥)
       → rightOf F (words (set p k v)) d a ≡ rightOf F (words p) d a
   outside-right d a bd off =
-      right-store-elsewhere F L (roots-zoned F L) s (store-set p k v bk) meets g a (F .top) (entry F d a) (entry-reach F L d a bd)
+      right-store-elsewhere F L (roots-zoned F L) s (store-set p k v bk) meets g a (F .top) (entry F d a)
+      (entry-reach F L d a bd)
       (λ x. let y = one-block F L s bd be x w refl refl in off (y .0) (y .1))
 
   -- The word does not lead: inside its block the rights are those that it says.
@@ -222,19 +235,25 @@ module _ (F : Form) (L : Lawful F) (p : List ℕ) (k v h e b : ℕ) (bk : k < le
 
     pub rights-inside : (a : ℕ) → Together F h b a → rightOf F (words (set p k v)) e a ≡ F .says h v a
     rights-inside a t =
-        right-store-rights F L (roots-zoned F L) s (store-set p k v bk) meets g l a (F .top) (entry F e a) (entry-reach F L e a be)
+        right-store-rights F L (roots-zoned F L) s (store-set p k v bk) meets g l a (F .top) (entry F e a)
+        (entry-reach F L e a be)
         (together-visits F e b a w t)
 
--- .. and a good word that leads to a sound table none of which is reached: inside its block the rights are those of the table.
-module _ (F : Form) (L : Lawful F) (p : List ℕ) (k v h e b : ℕ) (bk : k < length p) (be : e < F .domains) (s : SoundPool F (words p))
-    (w : Visits F (words p) b (F .top) (entry F e b) (suc h) k) (g : F .good (suc h) v ≡ true) (l : F .leads (suc h) v ≡ true)
+-- .. and a good word that leads to a sound table none of which is reached: inside its block the rights are those of
+-- the table.
+module _ (F : Form) (L : Lawful F) (p : List ℕ) (k v h e b : ℕ) (bk : k < length p) (be : e < F .domains)
+    (s : SoundPool F (words p))
+    (w : Visits F (words p) b (F .top) (entry F e b) (suc h) k) (g : F .good (suc h) v ≡ true)
+    (l : F .leads (suc h) v ≡ true)
     (s′ : Sound F (words p) (Table F h (F .target (suc h) v)))
-    (new : (m j : ℕ) → Reach F (words p) (Roots F) m j → Reach F (words p) (Table F h (F .target (suc h) v)) m j → ⊥) where
-  pub link-sound : SoundPool F (words (set p k v))
-  link-sound = sound-store-link F L (roots-zoned F L) s (store-set p k v bk) (visited-reach F L e b be w) g l s′ new
+    (new : (m j : ℕ) → Reach F (words p) (Roots F) m j → Reach F (words p) (Table F h (F .target (suc h) v)) m j → ⊥)
+  where
+    pub link-sound : SoundPool F (words (set p k v))
+    link-sound = sound-store-link F L (roots-zoned F L) s (store-set p k v bk) (visited-reach F L e b be w) g l s′ new
 
-  pub link-inside : (a : ℕ) → Together F (suc h) b a
-      → rightOf F (words (set p k v)) e a ≡ right F (words p) h (F .target (suc h) v + F .index h a) a
-  link-inside a t =
-      right-store-link F L (roots-zoned F L) s (store-set p k v bk) (visited-reach F L e b be w) g l s′ new a (F .top) (entry F e a)
-      (entry-reach F L e a be) (together-visits F e b a w t)
+    pub link-inside : (a : ℕ) → Together F (suc h) b a
+        → rightOf F (words (set p k v)) e a ≡ right F (words p) h (F .target (suc h) v + F .index h a) a
+    link-inside a t =
+        right-store-link F L (roots-zoned F L) s (store-set p k v bk) (visited-reach F L e b be w) g l s′ new a (F .top)
+        (entry F e a)
+        (entry-reach F L e a be) (together-visits F e b a w t)

@@ -1,4 +1,5 @@
--- Laws of the walk that a program makes: which word decides, in any pool and in a sound one, and for which addresses. For any form.
+-- Laws of the walk that a program makes: which word decides, in any pool and in a sound one, and for which addresses.
+-- For any form.
 use Prim.Native.Nat.{ℕ, zero, suc, _+_, _≤_, _<_}
 use mathlib.Core.Path.{_≡_, refl, sym, _∙_}
 use mathlib.Core.Bool.{true, false}
@@ -19,7 +20,8 @@ not-bad e = let z : _≡_ {A = ℕ} 0 1 = cc in omega arith
 pub same-end : {h k m j : ℕ} → decides h k ≡ decides m j → (h ≡ m) × (k ≡ j)
 same-end e = (cc, cc)
 
--- The word `j` of the height `m` decides for `a`, from word `k` of the height `h` on: the walk comes there, and it is good and does not lead.
+-- The word `j` of the height `m` decides for `a`, from word `k` of the height `h` on: the walk comes there, and it is
+-- good and does not lead.
 pub record Decided (F : Form) (P : ℕ → ℕ) (a h k m j : ℕ) : Type 0 where
   pub visits : Visits F P a h k m j
   pub good : F .good m (P j) ≡ true
@@ -46,29 +48,35 @@ module _ (F : Form) (P : ℕ → ℕ) (a : ℕ) where
   unfolding walk
   walk-down h k e l = rw (e, l, walk)
 
-  decided-here : {h k m j : ℕ} → F .good h (P k) ≡ true → F .leads h (P k) ≡ false → decides h k ≡ decides m j → Decided F P a h k m j
+  decided-here : {h k m j : ℕ} → F .good h (P k) ≡ true → F .leads h (P k) ≡ false → decides h k ≡ decides m j
+      → Decided F P a h k m j
   decided-here g l e =
       let (p, q) = same-end e in
       rw (← p, ← q) (record { visits = here; good = g; stops = l })
 
-  decided-below : {h k m j : ℕ} → F .leads (suc h) (P k) ≡ true → Decided F P a h (F .target (suc h) (P k) + F .index h a) m j
+  decided-below : {h k m j : ℕ} → F .leads (suc h) (P k) ≡ true
+      → Decided F P a h (F .target (suc h) (P k) + F .index h a) m j
       → Decided F P a (suc h) k m j
   decided-below l d = record { visits = visits-on F P a (next here l) (d .visits); good = d .good; stops = d .stops }
 
   -- Where a walk comes to by good words, there it goes on.
-  pub walk-visits : {h k m j : ℕ} → ((n i : ℕ) → m < n → Visits F P a h k n i → F .good n (P i) ≡ true) → Visits F P a h k m j
+  pub walk-visits : {h k m j : ℕ} → ((n i : ℕ) → m < n → Visits F P a h k n i → F .good n (P i) ≡ true)
+      → Visits F P a h k m j
       → walk F P a h k ≡ walk F P a m j
   walk-visits g here = refl
-  walk-visits g (next {m} {j} v l) = walk-visits (λ n i lo w. g n i (omega arith) w) v ∙ walk-down m j (g (suc m) j (omega arith) v) l
+  walk-visits g (next {m} {j} v l) = walk-visits (λ n i lo w. g n i (omega arith) w) v
+      ∙ walk-down m j (g (suc m) j (omega arith) v) l
 
   -- A walk that meets a bad word comes to one.
-  pub bad-visits : (h k : ℕ) → walk F P a h k ≡ bad → (m : ℕ) × (j : ℕ) × Visits F P a h k m j × (F .good m (P j) ≡ false)
+  pub bad-visits : (h k : ℕ) → walk F P a h k ≡ bad → (m : ℕ) × (j : ℕ) × Visits F P a h k m j
+      × (F .good m (P j) ≡ false)
   bad-visits zero k e = by-cases (F .good zero (P k))
       (λ g. absurd (not-bad (sym e ∙ walk-last k g)))
       (λ g. (zero, k, here, g))
   bad-visits (suc h) k e = by-cases (F .good (suc h) (P k))
       (λ g. by-cases (F .leads (suc h) (P k))
-      (λ l. let (m, j, v, b) = bad-visits h _ (sym (walk-down h k g l) ∙ e) in (m, j, visits-on F P a (next here l) v, b))
+      (λ l. let (m, j, v, b) = bad-visits h _ (sym (walk-down h k g l) ∙ e) in
+      (m, j, visits-on F P a (next here l) v, b))
       (λ l. absurd (not-bad (sym e ∙ walk-stops (suc h) k g l))))
       (λ g. (suc h, k, here, g))
 
@@ -89,7 +97,8 @@ module _ (F : Form) (P : ℕ → ℕ) (a : ℕ) where
 
     -- .. and gives the right.
     pub decides-right : {m j : ℕ} (h k : ℕ) → walk F P a h k ≡ decides m j → right F P h k a ≡ F .says m (P j) a
-    decides-right {m} {j} h k e = let d = walk-decides h k e in right-visits F P (d .visits) ∙ right-says F P m j a (d .stops)
+    decides-right {m} {j} h k e = let d = walk-decides h k e in right-visits F P (d .visits) ∙ right-says F P m j a
+        (d .stops)
 
   -- In a sound pool no walk is bad: some word decides ..
   module _ (L : Lawful F) {S : ℕ → ℕ → Type 0} (s : Sound F P S) where
@@ -102,9 +111,11 @@ module _ (F : Form) (P : ℕ → ℕ) (a : ℕ) where
         (λ l. (suc h, k, walk-stops (suc h) k (s .good r) l))
 
     -- .. namely the visited one that does not lead.
-    pub visits-decides : {h k m j : ℕ} → Reach F P S h k → Visits F P a h k m j → F .leads m (P j) ≡ false → walk F P a h k ≡ decides m j
+    pub visits-decides : {h k m j : ℕ} → Reach F P S h k → Visits F P a h k m j → F .leads m (P j) ≡ false
+        → walk F P a h k ≡ decides m j
     visits-decides {m = m} {j = j} r v l =
-        walk-visits (λ n i lo w. s .good (visits-reach F P a L r w)) v ∙ walk-stops m j (s .good (visits-reach F P a L r v)) l
+        walk-visits (λ n i lo w. s .good (visits-reach F P a L r w)) v
+        ∙ walk-stops m j (s .good (visits-reach F P a L r v)) l
 
 -- Two addresses of the deciding block have the same end.
 module _ (F : Form) (P : ℕ → ℕ) (a b : ℕ) (last : (w : ℕ) → F .leads zero w ≡ false) {m j : ℕ} where

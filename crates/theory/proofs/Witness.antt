@@ -1,4 +1,5 @@
--- A small form that has all that the theory asks of one: eight addresses, and a root, a middle table and a leaf of two words each.
+-- A small form that has all that the theory asks of one: eight addresses, and a root, a middle table and a leaf of
+-- two words each.
 use Prim.Native.Nat.{ℕ, zero, suc, _+_, _*_, _-_, _/_, _%_, _≤_, _<_}
 use mathlib.Core.Path.{_≡_, sym, _∙_}
 use mathlib.Core.Logic.{_≢_, _⊎_, inl, inr, ⊎-elim}
@@ -25,7 +26,8 @@ Block h a b = (i : ℕ) → h ≤ i → i ≤ 2 → index i a ≡ index i b
 abbrev Two : ℕ → (ℕ → ℕ) → ℕ → Type 0
 Two h R a = (b : ℕ) × (c : ℕ) × (b < 8) × (c < 8) × Block h a b × Block h a c × (R b ≢ R c)
 
--- An entry of height `h` below `10 * h` leads, to the middle table at 2 or the leaf at 4; from there on it says one right for its block.
+-- An entry of height `h` below `10 * h` leads, to the middle table at 2 or the leaf at 4; from there on it says one
+-- right for its block.
 abbrev pub small : Form
 small = record {
   top = 2;
@@ -89,7 +91,8 @@ small-exact = record {
 -- Below `n`, some address of the block has another right than `a`, or none has.
 module _ (h a : ℕ) (R : ℕ → ℕ) (le : h ≤ 2) where
   abbrev Found : ℕ → Type 0
-  Found n = ((b : ℕ) × (b < n) × Together small h a b × (R b ≢ R a)) ⊎ ((b : ℕ) → b < n → Together small h a b → R b ≡ R a)
+  Found n = ((b : ℕ) × (b < n) × Together small h a b × (R b ≢ R a))
+      ⊎ ((b : ℕ) → b < n → Together small h a b → R b ≡ R a)
 
   find : (n : ℕ) → Found n
   find zero = inr (λ b lo t. absurd (omega arith))
@@ -99,7 +102,11 @@ module _ (h a : ℕ) (R : ℕ → ℕ) (le : h ≤ 2) where
       go (inl (b, lo, t, d)) u v = inl (b, omega arith, t, d)
       go (inr f) (yes t) (no d) = inl (n, omega arith, t, d)
       go (inr f) (yes t) (yes e) = inr (λ b lo s. elim (ℕ-discrete b n) [ yes p ↦ rw p e | no p ↦ f b (omega arith) s ])
-      go (inr f) (no t) v = inr (λ b lo s. elim (ℕ-discrete b n) [ yes p ↦ absurd (t (rw p at s)) | no p ↦ f b (omega arith) s ])
+      go (inr f) (no t) v = inr (λ b lo s. elim (ℕ-discrete b n) [
+        | yes p ↦ absurd (t (rw p at s))
+        | no p ↦ f b
+            (omega arith) s
+      ])
 
 said : (h a : ℕ) (R : ℕ → ℕ) → ((b : ℕ) → b < 8 → Together small h a b → R b ≡ R a) → Says small h R a (10 * h + R a)
 said h a R f = record {
@@ -111,8 +118,16 @@ said h a R f = record {
 pub small-wanting : Wanting small
 small-wanting = record {
   same = λ h a R T e (c, d, p, q, t, u, x). (c, d, p, q, t, u, λ y. x (e c p ∙ y ∙ sym (e d q)));
-  up = λ h a R b lo (c, d, p, q, t, u, x).
-      (c, d, p, q, together-above small (suc h) _ a c (omega arith) t, together-above small (suc h) _ a d (omega arith) u, x);
+  up = λ h a R b lo (c, d, p, q, t, u, x). (
+    c,
+    d,
+    p,
+    q,
+    together-above small (suc h) _ a c (omega arith) t,
+    together-above small (suc h) _ a d
+        (omega arith) u,
+    x,
+  );
   unsaid = λ h a w R b (c, d, p, q, t, u, x) s. x (sym (s .each c p t) ∙ s .each d q u);
   decided = λ P d a h bd ba le. ⊎-elim
       (λ (c, lo, t, x). inl (c, a, lo, ba, t, together-refl small h a, x))

@@ -25,7 +25,8 @@ each f t zero s = met s
 each f t (suc n) s = andThen (f t s) (each f (t + 1) n)
 
 module _ (F : Form) (P : ℕ → ℕ) where
-  -- An entry is sound when it is rights or leads to a sound table one level down, and a table when each of its entries is.
+  -- An entry is sound when it is rights or leads to a sound table one level down, and a table when each of its
+  -- entries is.
   unfoldable pub entryCheck : ℕ → ℕ → (ℕ → Bool) → Finding
   entryCheck zero k s = cond (F .good zero (P k)) (met s) refused
   entryCheck (suc h) k s =

@@ -24,7 +24,8 @@ pub record Form : Type 1 where
   pub target : ℕ → ℕ → ℕ
   -- The right that an entry of a height, which does not lead, gives to an address.
   pub says : ℕ → ℕ → ℕ → ℕ
-  -- `Wants h R a`: with the rights `R`, the block of an entry of height `h` around the address `a` cannot do without a table.
+  -- `Wants h R a`: with the rights `R`, the block of an entry of height `h` around the address `a` cannot do without
+  -- a table.
   pub Wants : ℕ → (ℕ → ℕ) → ℕ → Type 0
   -- The height whose tables a pool word may belong to.
   pub zone : ℕ → ℕ

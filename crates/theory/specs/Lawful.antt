@@ -19,7 +19,8 @@ pub record Lawful (F : Form) : Type 0 where
       → F .leads (suc h) x ≡ true → i < F .size h → j < F .size h → F .target (suc h) w + i ≡ F .target (suc h) x + j
       → F .target (suc h) w ≡ F .target (suc h) x
 
--- Rights and places settle the words: an entry is known by what it says or by where it leads, and each entry has addresses.
+-- Rights and places settle the words: an entry is known by what it says or by where it leads, and each entry has
+-- addresses.
 pub record Exact (F : Form) : Type 0 where
   pub some : 0 < F .span
   pub last : (w : ℕ) → F .leads zero w ≡ false

@@ -6,7 +6,8 @@ use lib.Dec.{eqb, ltb}
 use Rattle.theory.specs.Form.{Form}
 use Rattle.theory.specs.Stores.{Kept}
 
--- The phase of word `j`: 1 for a kept word that leads in the old pool, 2 for one that is not kept, 3 for the other kept ones.
+-- The phase of word `j`: 1 for a kept word that leads in the old pool, 2 for one that is not kept, 3 for the other
+-- kept ones.
 abbrev pub phase : Form → (ℕ → ℕ) → (ℕ → Bool) → ℕ → ℕ
 phase F P kept j = cond (kept j) (cond (F .leads (F .zone j) (P j)) 1 3) 2
 

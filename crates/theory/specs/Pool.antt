@@ -18,10 +18,12 @@ module _ (F : Form) (P : ℕ → ℕ) where
     step : {m j : ℕ} (i : ℕ) → Reach S (suc m) j → F .leads (suc m) (P j) ≡ true → i < F .size m
         → Reach S m (F .target (suc m) (P j) + i)
 
-  -- Every reached word is good (a pointer names the first word of a place one level down), and no table is reached twice.
+  -- Every reached word is good (a pointer names the first word of a place one level down), and no table is reached
+  -- twice.
   pub record Sound (S : ℕ → ℕ → Type 0) : Type 0 where
     pub good : {m j : ℕ} → Reach S m j → F .good m (P j) ≡ true
-    pub once : {m j k : ℕ} → Reach S (suc m) j → F .leads (suc m) (P j) ≡ true → Reach S (suc m) k → F .leads (suc m) (P k) ≡ true
+    pub once : {m j k : ℕ} → Reach S (suc m) j → F .leads (suc m) (P j) ≡ true → Reach S (suc m) k
+        → F .leads (suc m) (P k) ≡ true
         → F .target (suc m) (P j) ≡ F .target (suc m) (P k) → j ≡ k
 
   -- The walk of the address `a` that stands at word `k` of height `h` comes to word `j` of height `m`.
@@ -60,4 +62,5 @@ module _ (F : Form) where
   -- On its walk for `a`, domain `d` is led to a table of height `h` that begins at `t`.
   abbrev pub Led : (ℕ → ℕ) → ℕ → ℕ → ℕ → ℕ → Type 0
   Led P d a h t =
-      (k : ℕ) × Visits F P a (F .top) (entry d a) (suc h) k × (F .leads (suc h) (P k) ≡ true) × (F .target (suc h) (P k) ≡ t)
+      (k : ℕ) × Visits F P a (F .top) (entry d a) (suc h) k × (F .leads (suc h) (P k) ≡ true)
+      × (F .target (suc h) (P k) ≡ t)

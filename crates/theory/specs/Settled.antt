@@ -5,7 +5,8 @@ use mathlib.Core.Bool.{true, false}
 use Rattle.theory.specs.Form.{Form}
 use Rattle.theory.specs.Pool.{SoundPool, Led, rightOf}
 
--- The addresses `a` and `b` lie in one block of an entry of height `h`: they go by the same entries from the root down to there.
+-- The addresses `a` and `b` lie in one block of an entry of height `h`: they go by the same entries from the root
+-- down to there.
 abbrev pub Together : Form → ℕ → ℕ → ℕ → Type 0
 Together F h a b = (i : ℕ) → h ≤ i → i ≤ F .top → F .index i a ≡ F .index i b
 
@@ -22,5 +23,7 @@ HasTable F P d a h = (t : ℕ) × Led F P d a h t
 -- Sound, and there is a table exactly for each block that wants one.
 pub record Settled (F : Form) (P : ℕ → ℕ) : Type 0 where
   pub sound : SoundPool F P
-  pub wanted : {d a h : ℕ} → d < F .domains → a < F .span → h < F .top → HasTable F P d a h → F .Wants (suc h) (rightOf F P d) a
-  pub there : {d a h : ℕ} → d < F .domains → a < F .span → h < F .top → F .Wants (suc h) (rightOf F P d) a → HasTable F P d a h
+  pub wanted : {d a h : ℕ} → d < F .domains → a < F .span → h < F .top → HasTable F P d a h
+      → F .Wants (suc h) (rightOf F P d) a
+  pub there : {d a h : ℕ} → d < F .domains → a < F .span → h < F .top → F .Wants (suc h) (rightOf F P d) a
+      → HasTable F P d a h

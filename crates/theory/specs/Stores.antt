@@ -1,6 +1,6 @@
--- The stores that lead from the pool `P` to the finished pool `Q`, and what a cut between two of them leaves. For any form.
--- Of the words that differ come first those of kept tables that lead in `P` and in `Q` no more, then all that lie in no kept
--- table, then the other words of kept tables.
+-- The stores that lead from the pool `P` to the finished pool `Q`, and what a cut between two of them leaves. For any
+-- form. Of the words that differ come first those of kept tables that lead in `P` and in `Q` no more, then all that
+-- lie in no kept table, then the other words of kept tables.
 use Prim.Native.Nat.{ℕ, suc, _+_, _<_}
 use mathlib.Core.Path.{_≡_}
 use mathlib.Core.Logic.{_⊎_}
@@ -17,7 +17,8 @@ pub data Kept (F : Form) (P Q : ℕ → ℕ) : ℕ → ℕ → Type 0 where
 -- What a cut leaves: a sound pool in which every right is the old one or the new one.
 pub record Cut (F : Form) (P Q X : ℕ → ℕ) : Type 0 where
   pub sound : SoundPool F X
-  pub rights : (d a : ℕ) → d < F .domains → a < F .span → (rightOf F X d a ≡ rightOf F P d a) ⊎ (rightOf F X d a ≡ rightOf F Q d a)
+  pub rights : (d a : ℕ) → d < F .domains → a < F .span → (rightOf F X d a ≡ rightOf F P d a)
+      ⊎ (rightOf F X d a ≡ rightOf F Q d a)
 
 module _ (F : Form) (P Q X : ℕ → ℕ) where
   -- The stage of giving up: in kept tables only words that led have their new value, and all else is as it was.
@@ -25,7 +26,8 @@ module _ (F : Form) (P Q X : ℕ → ℕ) where
     pub kept : (m j : ℕ) → Kept F P Q m j → (X j ≡ P j) ⊎ ((X j ≡ Q j) × (F .leads m (P j) ≡ true))
     pub rest : (j : ℕ) → ((m : ℕ) → Kept F P Q m j → ⊥) → X j ≡ P j
 
-  -- The stage of filling: in kept tables exactly the words that led have their new value; what no kept table has may be anything.
+  -- The stage of filling: in kept tables exactly the words that led have their new value; what no kept table has may
+  -- be anything.
   pub record Filling : Type 0 where
     pub gave : (m j : ℕ) → Kept F P Q m j → F .leads m (P j) ≡ true → X j ≡ Q j
     pub kept : (m j : ℕ) → Kept F P Q m j → F .leads m (P j) ≡ false → X j ≡ P j
@@ -48,7 +50,8 @@ module _ (F : Form) (P Q X : ℕ → ℕ) where
     fill : ((m : ℕ) → Kept F P Q m k → ⊥) → Filling → Next k
     link : (m : ℕ) → Kept F P Q m k → Linking → Next k
 
-  -- A store of `Q k` at word `k` is safe: both ends are sound, tables that stay keep their place, and `k` may be stored now.
+  -- A store of `Q k` at word `k` is safe: both ends are sound, tables that stay keep their place, and `k` may be
+  -- stored now.
   pub record Ready (k : ℕ) : Type 0 where
     pub old : SoundPool F P
     pub finished : SoundPool F Q

@@ -1,6 +1,7 @@
 -- Laws of regions: the three answers, what a region covers in bytes, and its bounds. Assumes nothing.
 use Prim.Native.Nat.{ℕ, _*_, _/_, _≤_, _<_}
 use mathlib.Core.Path.{_≡_, refl, sym, ap, _∙_}
+use mathlib.Core.Logic.{_⊎_, inl, inr}
 use mathlib.Core.Bool.{_&&_}
 use native.Mathlib.Omega.{arith}
 use native.Mathlib.Decide.{ℕ-discrete, decLt, decLe}
@@ -8,7 +9,7 @@ use lib.Dec.{leb, ltb}
 use borrow.Author.Tests.{eq-eqb, ne-eqb, le-leb, lt-leb, lt-ltb, le-ltb}
 use Rattle.words.specs.declared.Region.{Region}
 use Rattle.words.specs.declared.Rounded.the-variants.{Covers, Refused}
-use Rattle.words.specs.Region.{roundedStart, roundedEnd, rounded, regionOf, covered}
+use Rattle.words.specs.Region.{roundedStart, roundedEnd, rounded, regionOf, numbers, covered}
 
 pub region-equal : (r s : Region) → r .lo ≡ s .lo → r .hi ≡ s .hi → r ≡ s
 region-equal r s e f = ap (λ x. record { lo = x; hi = r .hi }) e ∙ ap (λ x. record { lo = s .lo; hi = x }) f
@@ -19,13 +20,48 @@ pub region-empty : (start length : ℕ) → length ≡ 0 → regionOf start leng
 unfolding regionOf
 region-empty start length h = rw (eq-eqb length 0 h) refl
 
-pub region-beyond : (start length : ℕ) → 0 < length → 4294967296 < roundedEnd start length → regionOf start length ≡ Refused 5
+pub region-beyond : (start length : ℕ) → 0 < length → 4294967296 < roundedEnd start length → regionOf start length
+    ≡ Refused 5
 unfolding regionOf
-region-beyond start length h k = rw (ne-eqb length 0 (λ e. omega arith), lt-ltb 4294967296 (roundedEnd start length) k) refl
+region-beyond start length h k = rw (
+  ne-eqb length 0 (λ e. omega arith),
+  lt-ltb 4294967296 (roundedEnd start length)
+      k,
+) refl
 
-pub region-covers : (start length : ℕ) → 0 < length → roundedEnd start length ≤ 4294967296 → regionOf start length ≡ Covers (rounded start length)
+pub region-covers : (start length : ℕ) → 0 < length → roundedEnd start length ≤ 4294967296 → regionOf start length
+    ≡ Covers (rounded start length)
 unfolding regionOf
-region-covers start length h k = rw (ne-eqb length 0 (λ e. omega arith), le-ltb 4294967296 (roundedEnd start length) k) refl
+region-covers start length h k = rw (
+  ne-eqb length 0 (λ e. omega arith),
+  le-ltb 4294967296 (roundedEnd start length)
+      k,
+) refl
+
+-- A region is refused with 4 or 5 ..
+pub region-number : (start length k : ℕ) → regionOf start length ≡ Refused k → (k ≡ 4) ⊎ (k ≡ 5)
+region-number start length k e = elim (ℕ-discrete length 0) [
+  | yes a ↦ inl (number (sym (region-empty start length a) ∙ e))
+  | no a ↦ elim (decLt 4294967296 (roundedEnd start length)) [
+    | yes b ↦ inr (number (sym (region-beyond start length (omega (arith, a)) b) ∙ e))
+    | no b ↦ absurd (other (sym (region-covers start length (omega (arith, a)) (omega arith)) ∙ e))
+  ]
+]
+  where
+    number : {m : ℕ} → Refused m ≡ Refused k → k ≡ m
+    number z = cc
+
+    other : {g : Region} → Covers g ≡ Refused k → ⊥
+    other z = let y : _≡_ {A = ℕ} 0 1 = cc in omega arith
+
+-- .. or has the words from its rounded start up to its rounded end, in the paper's numbers.
+pub region-numbers : (start length : ℕ) → 0 < length → roundedEnd start length ≤ 4294967296
+    → numbers (regionOf start length) ≡ record {
+      refusal = 0;
+      lo = roundedStart start / 4;
+      hi = roundedEnd start length / 4;
+    }
+region-numbers start length h k = ap numbers (region-covers start length h k)
 
 -- What a region that is not refused is like.
 pub record Covering (start length : ℕ) (r : Region) : Type 0 where
@@ -71,9 +107,11 @@ covered-bytes r a = ap (λ x. x && ltb (a / 4) (r .hi)) (low (r .lo)) ∙ ap (λ
     ]
 
 -- The covered bytes are those from the rounded start on, as many as the rounded length says.
-pub rounded-covers : (start length a : ℕ) → covered (rounded start length) a ≡ (leb (roundedStart start) a && ltb a (roundedEnd start length))
+pub rounded-covers : (start length a : ℕ) → covered (rounded start length) a
+    ≡ (leb (roundedStart start) a && ltb a (roundedEnd start length))
 rounded-covers start length a =
-    covered-bytes (rounded start length) a ∙ ap (λ n. leb n a && ltb a (4 * rounded start length .hi)) lo ∙ ap (λ n. leb (roundedStart start) a && ltb a n) hi
+    covered-bytes (rounded start length) a ∙ ap (λ n. leb n a && ltb a (4 * rounded start length .hi)) lo
+    ∙ ap (λ n. leb (roundedStart start) a && ltb a n) hi
   where
     lo : 4 * rounded start length .lo ≡ roundedStart start
     lo = omega arith

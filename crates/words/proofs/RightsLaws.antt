@@ -49,7 +49,8 @@ good-range w b g = elim (decLt w 2147483648) [
 pub good-small : (w : ℕ) → goodRights w ≡ true → w < 4294967296
 good-small w g = elim (decLt w 4294967296) [
   | yes h ↦ h
-  | no h ↦ absurd (false≢true (sym (ap (λ b. b && eqb (w / 65536 % 32768) 0) (ne-eqb (w / 2147483648) 1 (λ e. omega arith))) ∙ g))
+  | no h ↦ absurd
+      (false≢true (sym (ap (λ b. b && eqb (w / 65536 % 32768) 0) (ne-eqb (w / 2147483648) 1 (λ e. omega arith))) ∙ g))
 ]
 
 pub range-good : (w : ℕ) → 2147483648 ≤ w → w < 2147549184 → goodRights w ≡ true
@@ -57,7 +58,8 @@ range-good w h k = good-high w h (omega arith) ∙ lt-ltb w 2147549184 k
 
 -- A number is settled by its lowest rights and by what stands above them.
 
-rights-settle : (top n w x : ℕ) → top * 2 ^ (2 * n) ≤ w → w < suc top * 2 ^ (2 * n) → top * 2 ^ (2 * n) ≤ x → x < suc top * 2 ^ (2 * n)
+rights-settle : (top n w x : ℕ) → top * 2 ^ (2 * n) ≤ w → w < suc top * 2 ^ (2 * n) → top * 2 ^ (2 * n) ≤ x
+    → x < suc top * 2 ^ (2 * n)
     → ((i : ℕ) → i < n → rightAt w i ≡ rightAt x i) → w ≡ x
 rights-settle top zero w x a b c d e = omega arith
 rights-settle top (suc n) w x a b c d e =
@@ -89,9 +91,11 @@ module _ (top : ℕ) where
       let p = pack top n (λ j. f (suc j)) in
       let z = b 0 (omega arith) in
       let e : (f 0 + 4 * p) / 4 ≡ p = omega arith in
-      sym (right-quarter (f 0 + 4 * p) i) ∙ ap (λ y. rightAt y i) e ∙ pack-digit n i (λ j. f (suc j)) (λ j k. b (suc j) (omega arith)) (omega arith)
+      sym (right-quarter (f 0 + 4 * p) i) ∙ ap (λ y. rightAt y i) e ∙ pack-digit n i (λ j. f (suc j))
+      (λ j k. b (suc j) (omega arith)) (omega arith)
 
-  pub pack-range : (n : ℕ) (f : ℕ → ℕ) → ((j : ℕ) → j < n → f j < 4) → (top * 2 ^ (2 * n) ≤ pack top n f) × (pack top n f < suc top * 2 ^ (2 * n))
+  pub pack-range : (n : ℕ) (f : ℕ → ℕ) → ((j : ℕ) → j < n → f j < 4) → (top * 2 ^ (2 * n) ≤ pack top n f)
+      × (pack top n f < suc top * 2 ^ (2 * n))
   unfolding pack
   pack-range zero f b = (omega arith, omega arith)
   pack-range (suc n) f b =

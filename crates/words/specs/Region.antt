@@ -28,6 +28,17 @@ regionOf start length =
     cond (eqb length 0) (Refused 4)
     (cond (ltb 4294967296 (roundedEnd start length)) (Refused 5) (Covers (rounded start length)))
 
+-- The paper's numbers for what comes back: a refusal, and the memory words covered.
+pub record Numbers : Type 0 where
+  pub refusal : ℕ
+  pub lo : ℕ
+  pub hi : ℕ
+
+-- A refusal is its number with all other results zero.
+abbrev pub numbers : Rounded → Numbers
+numbers (Covers g) = record { refusal = 0; lo = g .lo; hi = g .hi }
+numbers (Refused n) = record { refusal = n; lo = 0; hi = 0 }
+
 -- The byte address is one of a word of the region.
 abbrev pub covered : Region → ℕ → Bool
 covered r a = leb (r .lo) (a / 4) && ltb (a / 4) (r .hi)

@@ -1,4 +1,5 @@
--- `census::census` meets its contract. The loop's invariant: the roots passed are fine, and have left the owners so far.
+-- `census::census` meets its contract. The loop's invariant: the roots passed are fine, and have left the owners so
+-- far.
 use Prim.Native.Nat.{ℕ, _+_, _*_, _-_, _≤_, _<_}
 use mathlib.Core.Path.{_≡_, refl, sym, ap, _∙_}
 use native.Mathlib.Omega.{arith}
@@ -53,14 +54,19 @@ next c =
     let l = c .before .before .before .before in
     let a = l .before .before .before .before .before .before .before .args in
     roots-next (a .shape) (a .pool .now) (l .loop .d) (l .loop .owners) (l .loop .inv .2)
-    ∙ ap (λ w. tableTally (a .shape) (a .pool .now) 2 (w .0) (l .loop .d) (l .loop .owners)) (sym (c .before .before .pool-word .ensures))
+    ∙ ap (λ w. tableTally (a .shape) (a .pool .now) 2 (w .0) (l .loop .d) (l .loop .owners))
+    (sym (c .before .before .pool-word .ensures))
 
 -- Every word of the pool is one of 32 bits.
 small : (c : tie.After-shared-slice-known Inv-loop μ-loop) (k : ℕ) → words (c .before .args .pool .now) k < 4294967296
 small c k = omega (arith, c .shared-slice-known .given k)
 
 same-length : tie.Need-same-length Inv-loop μ-loop
-same-length c = omega (arith, c .before .before .before .before .before .before .before .loop .inv .1, c .before .before .before .before .before .before .before .before .before .before .before .before .before .before .pre .1)
+same-length c = omega (
+  arith,
+  c .before .before .before .before .before .before .before .loop .inv .1,
+  c .before .before .before .before .before .before .before .before .before .before .before .before .before .before .pre .1,
+)
 
 returns : tie.Need-returns Inv-loop μ-loop
 returns c =
@@ -70,7 +76,8 @@ returns c =
     let s = g .before in
     let D = s .args .shape .domains in
     let z : l .loop .d + 1 + (D - (l .loop .d + 1)) ≡ D = omega arith in
-    failed-census _ _ (s .pre .0) (small g) _ (rw z at (roots-refused (s .args .shape) (s .args .pool .now) (l .loop .d + 1) (D - (l .loop .d + 1))
+    failed-census _ _ (s .pre .0) (small g) _
+    (rw z at (roots-refused (s .args .shape) (s .args .pool .now) (l .loop .d + 1) (D - (l .loop .d + 1))
     (next k ∙ answers-refused _ _ _ (k .table-check .ensures) (not-true _ (c .if1 .taken)))))
 
 add-d : tie.Need-add-d Inv-loop μ-loop
@@ -82,11 +89,19 @@ loop-less c = search needs
 loop-again : tie.Need-loop-again Inv-loop μ-loop
 loop-again c =
     let k = c .before .before .before in
-    let l = k .before .before .before .before in
-    (omega arith, omega (arith, l .loop .inv .1), next k ∙ answers-owned _ _ _ (k .table-check .ensures) (not-false _ (c .if1 .left)))
+    let l = k .before .before .before .before in (
+      omega arith,
+      omega (arith, l .loop .inv .1),
+      next k ∙ answers-owned _ _ _ (k .table-check .ensures)
+          (not-false _ (c .if1 .left)),
+    )
 
 same-length-2 : tie.Need-same-length-2 Inv-loop μ-loop
-same-length-2 c = omega (arith, c .before .loop .inv .1, c .before .before .before .before .before .before .before .before .pre .1)
+same-length-2 c = omega (
+  arith,
+  c .before .loop .inv .1,
+  c .before .before .before .before .before .before .before .before .pre .1,
+)
 
 returns-2 : tie.Need-returns-2 Inv-loop μ-loop
 returns-2 c =

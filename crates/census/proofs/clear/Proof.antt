@@ -1,4 +1,5 @@
--- `census::clear` meets its contract. The loop's invariant: the first `i` places have no owner, and the others are as they were.
+-- `census::clear` meets its contract. The loop's invariant: the first `i` places have no owner, and the others are as
+-- they were.
 use mathlib.Core.Path.{_≡_, refl, sym, ap, _∙_}
 use mathlib.Core.List.{List, _++_, append-nil}
 use Prim.Native.Nat.{ℕ, _+_, _≤_, _-_}
@@ -12,7 +13,8 @@ use Rattle.census.proofs.clear.Statement.{statement}
 use Rattle.census.proofs.clear.Tie as tie
 
 abbrev Inv-loop : tie.InvT-loop
-Inv-loop owners₀ i₀ owners i = (i ≤ length owners₀) × (length owners ≡ length owners₀) × (owners ≡ replicate i none ++ drop i owners₀)
+Inv-loop owners₀ i₀ owners i = (i ≤ length owners₀) × (length owners ≡ length owners₀)
+    × (owners ≡ replicate i none ++ drop i owners₀)
 
 abbrev μ-loop : tie.MeasureT-loop
 μ-loop owners₀ i₀ owners i = length owners₀ - i

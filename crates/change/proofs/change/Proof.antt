@@ -33,7 +33,8 @@ same-length-2 c = search needs
 returns-2 : tie.Need-returns-2
 returns-2 c =
     let q = c .before .before .before .before .before .before .before in
-    request-answers (request-planned (q .before .before .plan-request .ensures) (q .request2 .given .1)) (c .before .before .make-stores .ensures)
+    request-answers (request-planned (q .before .before .plan-request .ensures) (q .request2 .given .1))
+    (c .before .before .make-stores .ensures)
 
 pub change-spec : {M : Type 1} → statement M
 change-spec =

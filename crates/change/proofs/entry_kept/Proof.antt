@@ -16,7 +16,11 @@ eight-of-requires : tie.Need-eight-of-requires
 eight-of-requires c κs = search needs
 
 returns-2 : tie.Need-returns-2
-returns-2 c = rw (le-ltb (c .before .before .before .args .block .old) 2147483648 (c .before .before .if1 .left), ← c .before .right-at .ensures) (c .eight-of .ensures)
+returns-2 c = rw (
+  le-ltb (c .before .before .before .args .block .old) 2147483648 (c .before .before .if1 .left),
+  ←
+      c .before .right-at .ensures,
+) (c .eight-of .ensures)
 
 pub entry-kept-spec : {M : Type 1} → statement M
 entry-kept-spec = tie.close (tie.spec returns right-at-requires eight-of-requires returns-2)

@@ -51,13 +51,15 @@ table-entry-requires c κs =
 page-after-requires : tie.Need-page-after-requires
 page-after-requires c κs =
     let s = c .before .before .before .before .before .before .before .before in
-    let z = table-within (s .args .plan .«first_block») 1024 (s .args .k .0) (sym (c .before .before .of-table .ensures) ∙ c .before .if2 .taken) in
+    let z = table-within (s .args .plan .«first_block») 1024 (s .args .k .0)
+    (sym (c .before .before .of-table .ensures) ∙ c .before .if2 .taken) in
     (s .pre .right, s .pre .first-block, omega (arith, z .0, z .1, c .table-entry .ensures))
 
 returns-2 : tie.Need-returns-2
 unfolding after
 returns-2 c = rw (
-  sym (root-test (c .before .before .before .before .before .before)) ∙ c .before .before .before .before .before .if1 .left,
+  sym (root-test (c .before .before .before .before .before .before))
+      ∙ c .before .before .before .before .before .if1 .left,
   sym (c .before .before .before .of-table .ensures) ∙ c .before .before .if2 .taken,
 ) (c .page-after .ensures ∙ rw (c .before .table-entry .ensures))
 
@@ -73,14 +75,17 @@ table-entry-requires-2 c κs =
 page-after-requires-2 : tie.Need-page-after-requires-2
 page-after-requires-2 c κs =
     let s = c .before .before .before .before .before .before .before .before .before .before .before in
-    let z = table-within (s .args .plan .«last_block») 1024 (s .args .k .0) (sym (c .before .before .of-table2 .ensures) ∙ c .before .if3 .taken) in
+    let z = table-within (s .args .plan .«last_block») 1024 (s .args .k .0)
+    (sym (c .before .before .of-table2 .ensures) ∙ c .before .if3 .taken) in
     (s .pre .right, s .pre .last-block, omega (arith, z .0, z .1, c .table-entry2 .ensures))
 
 returns-3 : tie.Need-returns-3
 unfolding after
 returns-3 c = rw (
-  sym (root-test (c .before .before .before .before .before .before .before .before .before)) ∙ c .before .before .before .before .before .before .before .before .if1 .left,
-  sym (c .before .before .before .before .before .before .of-table .ensures) ∙ c .before .before .before .before .before .if2 .left,
+  sym (root-test (c .before .before .before .before .before .before .before .before .before))
+      ∙ c .before .before .before .before .before .before .before .before .if1 .left,
+  sym (c .before .before .before .before .before .before .of-table .ensures)
+      ∙ c .before .before .before .before .before .if2 .left,
   sym (c .before .before .before .of-table2 .ensures) ∙ c .before .before .if3 .taken,
 ) (c .page-after2 .ensures ∙ rw (c .before .table-entry2 .ensures))
 
@@ -96,15 +101,19 @@ table-entry-requires-3 c κs =
 leaf-after-requires : tie.Need-leaf-after-requires
 leaf-after-requires c κs =
     let s = c .before .before .before .before .before .before .before .before .before .before .before .before .before .before in
-    let z = table-within (s .args .plan .«first_page») 64 (s .args .k .0) (sym (c .before .before .of-table3 .ensures) ∙ c .before .if4 .taken) in
+    let z = table-within (s .args .plan .«first_page») 64 (s .args .k .0)
+    (sym (c .before .before .of-table3 .ensures) ∙ c .before .if4 .taken) in
     (s .pre .right, s .pre .first-page, omega (arith, z .0, z .1, c .table-entry3 .ensures))
 
 returns-4 : tie.Need-returns-4
 unfolding after
 returns-4 c = rw (
-  sym (root-test (c .before .before .before .before .before .before .before .before .before .before .before .before)) ∙ c .before .before .before .before .before .before .before .before .before .before .before .if1 .left,
-  sym (c .before .before .before .before .before .before .before .before .before .of-table .ensures) ∙ c .before .before .before .before .before .before .before .before .if2 .left,
-  sym (c .before .before .before .before .before .before .of-table2 .ensures) ∙ c .before .before .before .before .before .if3 .left,
+  sym (root-test (c .before .before .before .before .before .before .before .before .before .before .before .before))
+      ∙ c .before .before .before .before .before .before .before .before .before .before .before .if1 .left,
+  sym (c .before .before .before .before .before .before .before .before .before .of-table .ensures)
+      ∙ c .before .before .before .before .before .before .before .before .if2 .left,
+  sym (c .before .before .before .before .before .before .of-table2 .ensures)
+      ∙ c .before .before .before .before .before .if3 .left,
   sym (c .before .before .before .of-table3 .ensures) ∙ c .before .before .if4 .taken,
 ) (c .leaf-after .ensures ∙ rw (c .before .table-entry3 .ensures))
 
@@ -120,25 +129,33 @@ table-entry-requires-4 c κs =
 leaf-after-requires-2 : tie.Need-leaf-after-requires-2
 leaf-after-requires-2 c κs =
     let s = c .before .before .before .before .before .before .before .before .before .before .before .before .before .before .before .before .before in
-    let z = table-within (s .args .plan .«last_page») 64 (s .args .k .0) (sym (c .before .before .of-table4 .ensures) ∙ c .before .if5 .taken) in
+    let z = table-within (s .args .plan .«last_page») 64 (s .args .k .0)
+    (sym (c .before .before .of-table4 .ensures) ∙ c .before .if5 .taken) in
     (s .pre .right, s .pre .last-page, omega (arith, z .0, z .1, c .table-entry4 .ensures))
 
 returns-5 : tie.Need-returns-5
 unfolding after
 returns-5 c = rw (
-  sym (root-test (c .before .before .before .before .before .before .before .before .before .before .before .before .before .before .before)) ∙ c .before .before .before .before .before .before .before .before .before .before .before .before .before .before .if1 .left,
+  sym (root-test
+      (c .before .before .before .before .before .before .before .before .before .before .before .before .before .before .before)) ∙ c .before .before .before .before .before .before .before .before .before .before .before .before .before .before .if1 .left,
   sym (c .before .before .before .before .before .before .before .before .before .before .before .before .of-table .ensures) ∙ c .before .before .before .before .before .before .before .before .before .before .before .if2 .left,
-  sym (c .before .before .before .before .before .before .before .before .before .of-table2 .ensures) ∙ c .before .before .before .before .before .before .before .before .if3 .left,
-  sym (c .before .before .before .before .before .before .of-table3 .ensures) ∙ c .before .before .before .before .before .if4 .left,
+  sym (c .before .before .before .before .before .before .before .before .before .of-table2 .ensures)
+      ∙ c .before .before .before .before .before .before .before .before .if3 .left,
+  sym (c .before .before .before .before .before .before .of-table3 .ensures)
+      ∙ c .before .before .before .before .before .if4 .left,
   sym (c .before .before .before .of-table4 .ensures) ∙ c .before .before .if5 .taken,
 ) (c .leaf-after2 .ensures ∙ rw (c .before .table-entry4 .ensures))
 
 returns-6 : tie.Need-returns-6
 unfolding after
 returns-6 c = rw (
-  sym (root-test (c .before .before .before .before .before .before .before .before .before .before .before .before .before)) ∙ c .before .before .before .before .before .before .before .before .before .before .before .before .if1 .left,
-  sym (c .before .before .before .before .before .before .before .before .before .before .of-table .ensures) ∙ c .before .before .before .before .before .before .before .before .before .if2 .left,
-  sym (c .before .before .before .before .before .before .before .of-table2 .ensures) ∙ c .before .before .before .before .before .before .if3 .left,
+  sym (root-test
+      (c .before .before .before .before .before .before .before .before .before .before .before .before .before))
+      ∙ c .before .before .before .before .before .before .before .before .before .before .before .before .if1 .left,
+  sym (c .before .before .before .before .before .before .before .before .before .before .of-table .ensures)
+      ∙ c .before .before .before .before .before .before .before .before .before .if2 .left,
+  sym (c .before .before .before .before .before .before .before .of-table2 .ensures)
+      ∙ c .before .before .before .before .before .before .if3 .left,
   sym (c .before .before .before .before .of-table3 .ensures) ∙ c .before .before .before .if4 .left,
   sym (c .before .of-table4 .ensures) ∙ c .if5 .left,
 ) refl

@@ -20,7 +20,8 @@ add-result c = search needs
 returns-2 : tie.Need-returns-2
 returns-2 c =
     let a = c .before .before .before .args in
-    rw (c .before .before .pool-index .ensures, c .before .pool-index2 .ensures) (simp (le-leb (a .t .0) (a .k .0) (omega arith)))
+    rw (c .before .before .pool-index .ensures, c .before .pool-index2 .ensures)
+    (simp (le-leb (a .t .0) (a .k .0) (omega arith)))
 
 pub in-table-spec : {M : Type 1} → statement M
 in-table-spec = tie.close (tie.spec pool-index-requires pool-index-requires-2 returns add-result returns-2)

@@ -19,7 +19,8 @@ paint-word-requires c κs = search needs
 
 returns : tie.Need-returns
 returns c = let a = c .before .before .before .before .args in
-    rw (lt-ltb (a .page .old) 2147483648 (c .before .if1 .taken)) (c .paint-word .ensures (λ b. rightAt (a .x) (b / 4 % 16)) (λ b e. refl))
+    rw (lt-ltb (a .page .old) 2147483648 (c .before .if1 .taken))
+    (c .paint-word .ensures (λ b. rightAt (a .x) (b / 4 % 16)) (λ b e. refl))
 
 right-at-requires : tie.Need-right-at-requires
 right-at-requires c κs = search needs
@@ -32,7 +33,12 @@ paint-word-requires-2 c κs = search needs
 
 returns-2 : tie.Need-returns-2
 returns-2 c = let a = c .before .before .before .before .before .before .args in
-    rw (le-ltb (a .page .old) 2147483648 (c .before .before .before .if1 .left), ← c .before .before .right-at .ensures, ← c .before .sixteen-of .ensures)
+    rw (
+      le-ltb (a .page .old) 2147483648 (c .before .before .before .if1 .left),
+      ←
+          c .before .before .right-at .ensures,
+      ← c .before .sixteen-of .ensures,
+    )
     (c .paint-word2 .ensures (λ b. rightAt (c .before .sixteen-of .result) (b / 4 % 16)) (λ b e. refl))
 
 pub leaf-after-spec : {M : Type 1} → statement M

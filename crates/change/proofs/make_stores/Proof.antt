@@ -1,12 +1,14 @@
 -- `change::make_stores` meets its contract: each turn of the loop starts between two stores of the work.
 use native.Mathlib.Omega.{arith}
 use borrow.Author.Needs.{needs}
-use Rattle.change.proofs.RunLaws.{Midst, midst-begin, midst-looks, midst-told, midst-on, found-store, found-none, ends-left, ends-done, ends-cut, next-due}
+use Rattle.change.proofs.RunLaws.{Midst, midst-begin, midst-looks, midst-told, midst-on, found-store}
+use Rattle.change.proofs.RunLaws.{found-none, ends-left, ends-done, ends-cut, next-due}
 use Rattle.change.proofs.make_stores.Statement.{statement}
 use Rattle.change.proofs.make_stores.Tie as tie
 
 abbrev Inv-loop : tie.InvT-loop
-Inv-loop pool₀ shape owners domain paint work allowance left₀ from₀ pool left from = Midst shape owners domain paint work pool₀ allowance from pool left
+Inv-loop pool₀ shape owners domain paint work allowance left₀ from₀ pool left from = Midst shape owners domain paint
+    work pool₀ allowance from pool left
 
 abbrev μ-loop : tie.MeasureT-loop
 μ-loop pool₀ shape owners domain paint work allowance left₀ from₀ pool left from = left
@@ -24,22 +26,28 @@ enum-told : tie.Need-enum-told Inv-loop μ-loop
 enum-told c = search needs
 
 sub-made : tie.Need-sub-made Inv-loop μ-loop
-sub-made c = ends-left (c .before .before .before .before .loop .inv) (found-none (c .enum-told .given .1) (c .before .before .next-store .ensures))
+sub-made c = ends-left (c .before .before .before .before .loop .inv)
+    (found-none (c .enum-told .given .1) (c .before .before .next-store .ensures))
 
 same-length : tie.Need-same-length Inv-loop μ-loop
 same-length c = c .before .before .before .before .loop .inv .at .cut .long
 
 returns : tie.Need-returns Inv-loop μ-loop
-returns c = ends-done (c .before .before .before .before .loop .inv) (found-none (c .enum-told .given .1) (c .before .before .next-store .ensures))
+returns c = ends-done (c .before .before .before .before .loop .inv)
+    (found-none (c .enum-told .given .1) (c .before .before .next-store .ensures))
 
 same-length-2 : tie.Need-same-length-2 Inv-loop μ-loop
 same-length-2 c = c .before .before .before .before .before .before .loop .inv .at .cut .long
 
 returns-2 : tie.Need-returns-2 Inv-loop μ-loop
-returns-2 c = ends-cut (c .before .before .before .before .before .before .loop .inv) (found-store (c .before .before .next .given .1) (c .before .before .before .before .next-store .ensures)) (c .if1 .taken)
+returns-2 c = ends-cut (c .before .before .before .before .before .before .loop .inv)
+    (found-store (c .before .before .next .given .1) (c .before .before .before .before .next-store .ensures))
+    (c .if1 .taken)
 
 put-requires : tie.Need-put-requires Inv-loop μ-loop
-put-requires c κs = next-due (c .before .before .before .before .before .before .before .loop .inv) (found-store (c .before .before .before .next .given .1) (c .before .before .before .before .before .next-store .ensures))
+put-requires c κs = next-due (c .before .before .before .before .before .before .before .loop .inv)
+    (found-store (c .before .before .before .next .given .1)
+    (c .before .before .before .before .before .next-store .ensures))
 
 sub-left : tie.Need-sub-left Inv-loop μ-loop
 sub-left c = omega (arith, c .before .before .before .before .if1 .left)
@@ -49,7 +57,11 @@ loop-less c = omega (arith, c .before .before .before .before .if1 .left)
 
 loop-again : tie.Need-loop-again Inv-loop μ-loop
 loop-again c =
-    rw (c .before .before .put .ensures .0) (midst-on (c .before .before .before .before .before .before .before .before .before .before .loop .inv) (found-store (c .before .before .before .before .before .before .next .given .1) (c .before .before .before .before .before .before .before .before .next-store .ensures)) (c .before .before .before .before .if1 .left))
+    rw (c .before .before .put .ensures .0) (midst-on
+    (c .before .before .before .before .before .before .before .before .before .before .loop .inv)
+    (found-store (c .before .before .before .before .before .before .next .given .1)
+    (c .before .before .before .before .before .before .before .before .next-store .ensures))
+    (c .before .before .before .before .if1 .left))
 
 pub make-stores-spec : {M : Type 1} → statement M
 make-stores-spec =

@@ -28,7 +28,8 @@ of-new-table-requires-3 c κs = search needs
 returns-3 : tie.Need-returns-3
 unfolding newWord
 returns-3 c = rw (
-  sym (c .before .before .before .before .before .before .before .of-new-table .ensures) ∙ c .before .before .before .before .before .before .if1 .left,
+  sym (c .before .before .before .before .before .before .before .of-new-table .ensures)
+      ∙ c .before .before .before .before .before .before .if1 .left,
   sym (c .before .before .before .before .of-new-table2 .ensures) ∙ c .before .before .before .if2 .left,
   sym (c .before .of-new-table3 .ensures) ∙ c .if3 .taken,
 ) refl
@@ -39,8 +40,10 @@ of-new-table-requires-4 c κs = search needs
 returns-4 : tie.Need-returns-4
 unfolding newWord
 returns-4 c = rw (
-  sym (c .before .before .before .before .before .before .before .before .before .of-new-table .ensures) ∙ c .before .before .before .before .before .before .before .before .if1 .left,
-  sym (c .before .before .before .before .before .before .of-new-table2 .ensures) ∙ c .before .before .before .before .before .if2 .left,
+  sym (c .before .before .before .before .before .before .before .before .before .of-new-table .ensures)
+      ∙ c .before .before .before .before .before .before .before .before .if1 .left,
+  sym (c .before .before .before .before .before .before .of-new-table2 .ensures)
+      ∙ c .before .before .before .before .before .if2 .left,
   sym (c .before .before .before .of-new-table3 .ensures) ∙ c .before .before .if3 .left,
 ) (c .of-new-table4 .ensures)
 

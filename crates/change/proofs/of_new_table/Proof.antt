@@ -18,13 +18,18 @@ pool-word-requires : tie.Need-pool-word-requires
 pool-word-requires c κs = search needs
 
 in-table-requires : tie.Need-in-table-requires
-in-table-requires c κs = let e = ap (λ w. w .0) (c .pool-word .ensures) in omega (arith, c .before .before .if1 .left, c .before .before .before .pre)
+in-table-requires c κs = let e = ap (λ w. w .0) (c .pool-word .ensures) in
+    omega (arith, c .before .before .if1 .left, c .before .before .before .pre)
 
 returns-3 : tie.Need-returns-3
 returns-3 c =
     let e = c .before .before .before .before .args .edge in
     let z = ap (λ w. w .0) (c .before .pool-word .ensures) in
-    rw (lt-ltb (e .last) 2147483648 (c .before .before .before .if1 .left), le-ltb (e .old) 2147483648 (c .before .before .if2 .left))
+    rw (
+      lt-ltb (e .last) 2147483648 (c .before .before .before .if1 .left),
+      le-ltb (e .old) 2147483648
+          (c .before .before .if2 .left),
+    )
     (rw z at (c .in-table .ensures))
 
 pub of-new-table-spec : {M : Type 1} → statement M

@@ -33,7 +33,8 @@ returns-2 c =
     let a = c .before .before .before .before .args in
     rw (
       sym (c .before .before .before .new-word .ensures) ∙ c .before .before .if1 .left,
-      le-ltb (a .k .0) (1024 * a .shape .domains + 1024 * a .shape .middles) (omega (arith, c .before .pool-index .ensures, c .if2 .taken)),
+      le-ltb (a .k .0) (1024 * a .shape .domains + 1024 * a .shape .middles)
+          (omega (arith, c .before .pool-index .ensures, c .if2 .taken)),
     ) refl
 
 returns-3 : tie.Need-returns-3
@@ -41,7 +42,8 @@ returns-3 c =
     let a = c .before .before .before .before .before .args in
     rw (
       sym (c .before .before .before .before .new-word .ensures) ∙ c .before .before .before .if1 .left,
-      lt-ltb (a .k .0) (1024 * a .shape .domains + 1024 * a .shape .middles) (omega (arith, c .before .before .pool-index .ensures, c .before .if2 .left)),
+      lt-ltb (a .k .0) (1024 * a .shape .domains + 1024 * a .shape .middles)
+          (omega (arith, c .before .before .pool-index .ensures, c .before .if2 .left)),
       lt-ltb (a .x) 2147483648 (c .if3 .taken),
     ) refl
 
@@ -50,7 +52,8 @@ returns-4 c =
     let a = c .before .before .before .before .before .args in
     rw (
       sym (c .before .before .before .before .new-word .ensures) ∙ c .before .before .before .if1 .left,
-      lt-ltb (a .k .0) (1024 * a .shape .domains + 1024 * a .shape .middles) (omega (arith, c .before .before .pool-index .ensures, c .before .if2 .left)),
+      lt-ltb (a .k .0) (1024 * a .shape .domains + 1024 * a .shape .middles)
+          (omega (arith, c .before .before .pool-index .ensures, c .before .if2 .left)),
       le-ltb (a .x) 2147483648 (c .if3 .left),
     ) refl
 

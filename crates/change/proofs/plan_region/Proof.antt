@@ -18,7 +18,8 @@ census-requires : tie.Need-census-requires
 census-requires c κs = search needs
 
 returns : tie.Need-returns
-returns c = λ n. unsound (λ z. true≢false (sym (c .before .before .census .ensures .whole z) ∙ not-true _ (c .if1 .taken)))
+returns c = λ n. unsound (λ z. true≢false
+    (sym (c .before .before .census .ensures .whole z) ∙ not-true _ (c .if1 .taken)))
 
 slice-aggregate-settled : tie.Need-slice-aggregate-settled
 slice-aggregate-settled c = search needs
@@ -40,7 +41,8 @@ slice-aggregate-plan-change : tie.Need-slice-aggregate-plan-change
 slice-aggregate-plan-change c = search needs
 
 -- Past the second test the pool is settled.
-settled-here : (c : tie.After-owners4) → let a = c .before .before .before .before .before .before .before .before .before .args in
+settled-here : (c : tie.After-owners4) → let a =
+    c .before .before .before .before .before .before .before .before .before .args in
     Settled (formOf (a .shape)) (words (a .pool .now))
 settled-here c = c .before .before .settled .ensures .holds (not-false _ (c .before .if2 .left))
 
@@ -48,8 +50,16 @@ plan-change-requires : tie.Need-plan-change-requires
 plan-change-requires c κs =
     let e = c .before .before .before .before in
     let k = e .before .before in
-    let s = k .before .before .before in
-    (s .pre .0, (settled-here c, (k .census .ensures .owners (not-false _ (e .if1 .left)), (s .pre .1 .0, s .pre .1 .1))))
+    let s = k .before .before .before in (
+      s .pre .0,
+      (
+        settled-here c,
+        (
+          k .census .ensures .owners (not-false _ (e .if1 .left)),
+          (s .pre .1 .0, s .pre .1 .1),
+        ),
+      ),
+    )
 
 enum-known-planning : tie.Need-enum-known-planning
 enum-known-planning c = search needs
@@ -61,7 +71,8 @@ returns-3 : tie.Need-returns-3
 returns-3 c =
     let k = c .before .before in
     let a = k .before .before .before .before .before .before .before .before .before .before .args in
-    λ n. no-room (settled-here (k .before)) (planning-none (a .pool .now) (a .shape) (a .domain) (a .paint) _ (k .plan-change .ensures) (c .enum-told .given .1))
+    λ n. no-room (settled-here (k .before)) (planning-none (a .pool .now) (a .shape) (a .domain) (a .paint) _
+    (k .plan-change .ensures) (c .enum-told .given .1))
 
 returns-4 : tie.Need-returns-4
 returns-4 c =
@@ -71,7 +82,8 @@ returns-4 c =
     let t = settled-here (k .before) in (
       t,
       plan-ready (a .pool .now) (a .shape) (a .domain) (a .paint) _ (s .pre .0) t (s .pre .1 .0) (s .pre .1 .1)
-          (planning-ready (a .pool .now) (a .shape) (a .domain) (a .paint) _ _ (k .plan-change .ensures) (c .before .planning .given .1)),
+          (planning-ready (a .pool .now) (a .shape) (a .domain) (a .paint) _ _ (k .plan-change .ensures)
+          (c .before .planning .given .1)),
     )
 
 pub plan-region-spec : {M : Type 1} → statement M

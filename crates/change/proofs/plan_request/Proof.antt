@@ -20,7 +20,8 @@ shape-fits-requires : tie.Need-shape-fits-requires
 shape-fits-requires c κs = search needs
 
 returns : tie.Need-returns
-returns c = λ n. no-shape (λ f. true≢false (sym (fits-test _ _ f) ∙ sym (c .before .shape-fits .ensures) ∙ not-true _ (c .if1 .taken)))
+returns c = λ n. no-shape (λ f. true≢false
+    (sym (fits-test _ _ f) ∙ sym (c .before .shape-fits .ensures) ∙ not-true _ (c .if1 .taken)))
 
 returns-2 : tie.Need-returns-2
 returns-2 c = λ n. no-domain (fits-at (c .before)) (c .if2 .taken)
@@ -43,19 +44,24 @@ plan-region-requires c κs =
       fits-at (c .before .before .before .before .before .before),
       (
         omega (arith, c .before .before .before .before .before .if2 .left),
-        covers-regular (a .start .0) (a .length) (a .right) _ (omega (arith, c .before .before .before .before .if3 .left)) (sym (c .before .before .before .round-region .ensures) ∙ c .before .rounded2 .given .1),
+        covers-regular (a .start .0) (a .length) (a .right) _
+            (omega (arith, c .before .before .before .before .if3 .left))
+            (sym (c .before .before .before .round-region .ensures) ∙ c .before .rounded2 .given .1),
       ),
     )
 
 returns-4 : tie.Need-returns-4
 returns-4 c =
-    λ n. no-region (fits-at (c .before .before .before .before .before .before)) (omega (arith, c .before .before .before .before .before .if2 .left)) (omega (arith, c .before .before .before .before .if3 .left)) _
+    λ n. no-region (fits-at (c .before .before .before .before .before .before))
+    (omega (arith, c .before .before .before .before .before .if2 .left))
+    (omega (arith, c .before .before .before .before .if3 .left)) _
     (sym (c .before .before .before .round-region .ensures) ∙ c .before .rounded .given .1)
 
 returns-5 : tie.Need-returns-5
 returns-5 c =
     let a = c .before .before .before .before .before .before .before .before .before .before .args in
-    request-is (a .pool .now) (a .shape) (a .domain) (a .start .0) (a .length) (a .right) (c .plan-region .result) (record {
+    request-is (a .pool .now) (a .shape) (a .domain) (a .start .0) (a .length) (a .right) (c .plan-region .result)
+    (record {
       fits = fits-at (c .before .before .before .before .before .before .before);
       domain = omega (arith, c .before .before .before .before .before .before .if2 .left);
       right = omega (arith, c .before .before .before .before .before .if3 .left);

@@ -7,22 +7,31 @@ use Rattle.change.proofs.root_after.Statement.{statement}
 use Rattle.change.proofs.root_after.Tie as tie
 
 returns : tie.Need-returns
-returns c = let a = c .before .before .before .before .args in let f = a .plan .«first_block» .number in let l = a .plan .«last_block» .number in
+returns c = let a = c .before .before .before .before .args in let f = a .plan .«first_block» .number in let l =
+    a .plan .«last_block» .number in
     rw (eq-eqb (a .i) f (c .if1 .taken)) refl
 
 returns-2 : tie.Need-returns-2
-returns-2 c = let a = c .before .before .before .before .before .args in let f = a .plan .«first_block» .number in let l = a .plan .«last_block» .number in
+returns-2 c = let a = c .before .before .before .before .before .args in let f = a .plan .«first_block» .number in
+    let l = a .plan .«last_block» .number in
     rw (ne-eqb (a .i) f (c .before .if1 .left), eq-eqb (a .i) l (c .if2 .taken)) refl
 
 returns-3 : tie.Need-returns-3
-returns-3 c = let a = c .before .before .before .before .before .before .args in let f = a .plan .«first_block» .number in let l = a .plan .«last_block» .number in
-    rw (ne-eqb (a .i) f (c .before .before .if1 .left), ne-eqb (a .i) l (c .before .if2 .left), le-ltb f (a .i) (omega arith)) refl
+returns-3 c = let a = c .before .before .before .before .before .before .args in let f =
+    a .plan .«first_block» .number in let l = a .plan .«last_block» .number in
+    rw (
+      ne-eqb (a .i) f (c .before .before .if1 .left),
+      ne-eqb (a .i) l (c .before .if2 .left),
+      le-ltb f (a .i)
+          (omega arith),
+    ) refl
 
 eight-of-requires : tie.Need-eight-of-requires
 eight-of-requires c κs = search needs
 
 returns-4 : tie.Need-returns-4
-returns-4 c = let a = c .before .before .before .before .before .before .before .before .args in let f = a .plan .«first_block» .number in let l = a .plan .«last_block» .number in
+returns-4 c = let a = c .before .before .before .before .before .before .before .before .args in let f =
+    a .plan .«first_block» .number in let l = a .plan .«last_block» .number in
     rw (
       ne-eqb (a .i) f (c .before .before .before .before .if1 .left),
       ne-eqb (a .i) l (c .before .before .before .if2 .left),
@@ -31,7 +40,8 @@ returns-4 c = let a = c .before .before .before .before .before .before .before 
     ) (c .eight-of .ensures)
 
 returns-5 : tie.Need-returns-5
-returns-5 c = let a = c .before .before .before .before .before .before .before .args in let f = a .plan .«first_block» .number in let l = a .plan .«last_block» .number in
+returns-5 c = let a = c .before .before .before .before .before .before .before .args in let f =
+    a .plan .«first_block» .number in let l = a .plan .«last_block» .number in
     rw (
       ne-eqb (a .i) f (c .before .before .before .if1 .left),
       ne-eqb (a .i) l (c .before .before .if2 .left),

@@ -18,11 +18,13 @@ returns c =
     let r = c .before .place-refusal in
     rw (← r .ensures, ne-eqb (r .result) 0 (c .if1 .taken))
 
-in-order : (c : tie.Else1) → let a = c .before .before .args in placeRefusal (a .domains) (a .gates .count) (a .domain) Return (a .address .0) ≡ 0
+in-order : (c : tie.Else1) → let a = c .before .before .args in placeRefusal (a .domains) (a .gates .count)
+    (a .domain) Return (a .address .0) ≡ 0
 in-order c = sym (c .before .place-refusal .ensures) ∙ c .if1 .left
 
 few : (c : tie.Else1) → c .before .before .args .gates .count ≤ 64
-few c = let a = c .before .before .args in place-in-order (a .domains) (a .gates .count) (a .domain) Return (a .address .0) (in-order c)
+few c = let a = c .before .before .args in place-in-order (a .domains) (a .gates .count) (a .domain) Return
+    (a .address .0) (in-order c)
 
 place-of-requires : tie.Need-place-of-requires
 place-of-requires c κs = few c
@@ -39,7 +41,8 @@ returns-2 c =
     let e = p .before in
     let a = e .before .before .args in
     ap setDone (c .close-up .ensures ∙ ap (without (a .gates)) (p .place-of .ensures))
-    ∙ sym (remove-takes-out (a .domains) (a .gates) (a .domain) (a .address) (in-order e) (rw (p .place-of .ensures) at (c .before .if2 .taken)))
+    ∙ sym (remove-takes-out (a .domains) (a .gates) (a .domain) (a .address) (in-order e)
+    (rw (p .place-of .ensures) at (c .before .if2 .taken)))
 
 returns-3 : tie.Need-returns-3
 returns-3 c =

@@ -18,11 +18,13 @@ returns c =
     let r = c .before .place-refusal in
     rw (← r .ensures, ne-eqb (r .result) 0 (c .if1 .taken))
 
-in-order : (c : tie.Else1) → let a = c .before .before .args in placeRefusal (a .domains) (a .gates .count) (a .domain) (a .gate) (a .address .0) ≡ 0
+in-order : (c : tie.Else1) → let a = c .before .before .args in placeRefusal (a .domains) (a .gates .count)
+    (a .domain) (a .gate) (a .address .0) ≡ 0
 in-order c = sym (c .before .place-refusal .ensures) ∙ c .if1 .left
 
 few : (c : tie.Else1) → c .before .before .args .gates .count ≤ 64
-few c = let a = c .before .before .args in place-in-order (a .domains) (a .gates .count) (a .domain) (a .gate) (a .address .0) (in-order c)
+few c = let a = c .before .before .args in place-in-order (a .domains) (a .gates .count) (a .domain) (a .gate)
+    (a .address .0) (in-order c)
 
 leads-to-requires : tie.Need-leads-to-requires
 leads-to-requires c κs = search needs
@@ -62,7 +64,8 @@ returns-4 c =
     let e = o .before .before in
     let a = e .before .before .args in
     sym (set-full (a .domains) (a .gates) (a .domain) (a .address) (a .gate) (in-order e)
-    (sym (o .before .leads-to .ensures) ∙ o .if2 .left) (rw (p .place-of .ensures) at (c .before .if3 .left)) (c .if4 .taken))
+    (sym (o .before .leads-to .ensures) ∙ o .if2 .left) (rw (p .place-of .ensures) at (c .before .if3 .left))
+    (c .if4 .taken))
 
 add-put-gate : tie.Need-add-put-gate
 add-put-gate c =
@@ -83,7 +86,8 @@ returns-5 c =
     let a = e .before .before .args in
     rw (c .put-gate2 .ensures)
     (sym (set-adds (a .domains) (a .gates) (a .domain) (a .address) (a .gate) (in-order e)
-    (sym (o .before .leads-to .ensures) ∙ o .if2 .left) (rw (p .place-of .ensures) at (f .before .if3 .left)) (f .if4 .left)))
+    (sym (o .before .leads-to .ensures) ∙ o .if2 .left) (rw (p .place-of .ensures) at (f .before .if3 .left))
+    (f .if4 .left)))
 
 pub set-gate-spec : {M : Type 1} → statement M
 set-gate-spec =

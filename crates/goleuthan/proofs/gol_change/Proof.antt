@@ -22,7 +22,8 @@ same-length-2 c = search needs
 
 returns : tie.Need-returns
 returns c =
-    let e = ap (λ (x : ByteAddr). x .0) (c .before .before .before .before .before .before .before .before .byte-addr .ensures) in
+    let e = ap (λ (x : ByteAddr). x .0)
+    (c .before .before .before .before .before .before .before .before .byte-addr .ensures) in
     record {
       answer = c .before .before .before .before .before .before .change .result;
       promise = rw e at (c .before .before .before .before .before .before .change .ensures);

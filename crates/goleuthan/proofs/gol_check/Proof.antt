@@ -22,7 +22,8 @@ same-length c = search needs
 returns : tie.Need-returns
 returns c =
     let a = c .before .before .before .before .before .before .before .before .args in
-    check-wrong (a .pool .now) (shapeOf (a .d) (a .m) (a .l)) (a .buffer .now) (a .domain) (a .kind) (a .size) (a .address) (a .out .now) _
+    check-wrong (a .pool .now) (shapeOf (a .d) (a .m) (a .l)) (a .buffer .now) (a .domain) (a .kind) (a .size)
+    (a .address) (a .out .now) _
     (c .before .before .before .before .if1 .taken) (c .before .before .two .ensures)
 
 byte-addr-requires : tie.Need-byte-addr-requires
@@ -36,22 +37,31 @@ find-slot-requires c κs = search needs
 
 decide-requires : tie.Need-decide-requires
 decide-requires c κs = λ t e.
-    first-matches (bufferOf (c .before .before .before .before .before .before .before .before .args .buffer .now) .slots) (c .before .before .before .before .before .before .before .before .args .domain) (c .before .before .before .byte-addr .result .0) t (sym (c .find-slot .ensures) ∙ e)
+    first-matches
+    (bufferOf (c .before .before .before .before .before .before .before .before .args .buffer .now) .slots)
+    (c .before .before .before .before .before .before .before .before .args .domain)
+    (c .before .before .before .byte-addr .result .0) t (sym (c .find-slot .ensures) ∙ e)
 
 -- What was decided, of what the words say.
 module _ (c : tie.After-decide) where
   decided : let a = c .before .before .before .before .before .before .before .before .before .args in
       c .decide .result
-      ≡ decideOf (a .pool .now) (shapeOf (a .d) (a .m) (a .l)) (getD (a .buffer .now) 256 0) (firstMatch (bufferOf (a .buffer .now) .slots) (a .domain) (a .address))
+      ≡ decideOf (a .pool .now) (shapeOf (a .d) (a .m) (a .l)) (getD (a .buffer .now) 256 0)
+      (firstMatch (bufferOf (a .buffer .now) .slots) (a .domain) (a .address))
       (a .domain) (a .kind) (a .size) (a .address)
-  decided = rw (c .before .find-slot .ensures, ap (λ (x : ByteAddr). x .0) (c .before .before .before .before .byte-addr .ensures)) at (c .decide .ensures)
+  decided = rw (
+    c .before .find-slot .ensures,
+    ap (λ (x : ByteAddr). x .0)
+        (c .before .before .before .before .byte-addr .ensures),
+  ) at (c .decide .ensures)
 
 fill-words-requires : tie.Need-fill-words-requires
 fill-words-requires c κs =
     let a = c .before .before .before .before .before .before .before .before .before .before .args in (
       c .before .before .before .before .before .before .if1 .left,
       λ t e. decide-put (a .pool .now) (shapeOf (a .d) (a .m) (a .l)) (getD (a .buffer .now) 256 0)
-          (firstMatch (bufferOf (a .buffer .now) .slots) (a .domain) (a .address)) (a .domain) (a .kind) (a .size) (a .address) t
+          (firstMatch (bufferOf (a .buffer .now) .slots) (a .domain) (a .address)) (a .domain) (a .kind) (a .size)
+          (a .address) t
           (ap (λ x. x .fill) (sym (decided (c .before))) ∙ e),
     )
 
@@ -67,9 +77,12 @@ same-length-3 c = search needs
 returns-2 : tie.Need-returns-2
 returns-2 c =
     let a = c .before .before .before .before .before .before .before .before .before .before .before .before .before .before .before .before .before .args in
-    check-by (a .pool .now) (shapeOf (a .d) (a .m) (a .l)) (a .buffer .now) (a .domain) (a .kind) (a .size) (a .address) (a .out .now) _
+    check-by (a .pool .now) (shapeOf (a .d) (a .m) (a .l)) (a .buffer .now) (a .domain) (a .kind) (a .size)
+    (a .address) (a .out .now) _
     (c .before .before .before .before .before .before .before .before .before .before .before .before .before .if1 .left) (c .before .before .before .before .before .before .before .before .decide .result) (decided (c .before .before .before .before .before .before .before .before)) _ _
-    (c .before .before .give-verdict .ensures .0) (c .before .before .before .before .before .before .fill-words .ensures) (c .before .before .give-verdict .ensures .1)
+    (c .before .before .give-verdict .ensures .0)
+    (c .before .before .before .before .before .before .fill-words .ensures)
+    (c .before .before .give-verdict .ensures .1)
 
 pub gol-check-spec : {M : Type 1} → statement M
 gol-check-spec =

@@ -23,8 +23,11 @@ same-length c = search needs
 returns-2 : tie.Need-returns-2
 returns-2 c =
     let a = c .before .before .before .before .before .before .before .before .before .before .args in
-    let e = rw (c .before .before .before .before .before .before .read-buffer .ensures) at (c .before .before .before .before .before .flush-all .ensures) in
-    flush-made flushedWhole (a .buffer .now) (c .before .before .before .before .before .before .before .before .if1 .left) (c .before .before .before .before .before .flush-all .result) e _ (c .before .before .write-buffer .ensures)
+    let e = rw (c .before .before .before .before .before .before .read-buffer .ensures)
+    at (c .before .before .before .before .before .flush-all .ensures) in
+    flush-made flushedWhole (a .buffer .now)
+    (c .before .before .before .before .before .before .before .before .if1 .left)
+    (c .before .before .before .before .before .flush-all .result) e _ (c .before .before .write-buffer .ensures)
 
 pub gol-flush-all-spec : {M : Type 1} → statement M
 gol-flush-all-spec =

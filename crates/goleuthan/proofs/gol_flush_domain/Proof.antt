@@ -6,7 +6,8 @@ use Rattle.goleuthan.proofs.gol_flush_domain.Statement.{statement}
 use Rattle.goleuthan.proofs.gol_flush_domain.Tie as tie
 
 returns : tie.Need-returns
-returns c = let a = c .before .before .args in flush-wrong (λ b. flushedDomain b (a .domain)) (a .buffer .now) (c .if1 .taken)
+returns c = let a = c .before .before .args in flush-wrong (λ b. flushedDomain b (a .domain)) (a .buffer .now)
+    (c .if1 .taken)
 
 read-buffer-requires : tie.Need-read-buffer-requires
 read-buffer-requires c κs = search needs
@@ -23,8 +24,11 @@ same-length c = search needs
 returns-2 : tie.Need-returns-2
 returns-2 c =
     let a = c .before .before .before .before .before .before .before .before .before .before .args in
-    let e = rw (c .before .before .before .before .before .before .read-buffer .ensures) at (c .before .before .before .before .before .flush-domain .ensures) in
-    flush-made (λ b. flushedDomain b (a .domain)) (a .buffer .now) (c .before .before .before .before .before .before .before .before .if1 .left) (c .before .before .before .before .before .flush-domain .result) e _ (c .before .before .write-buffer .ensures)
+    let e = rw (c .before .before .before .before .before .before .read-buffer .ensures)
+    at (c .before .before .before .before .before .flush-domain .ensures) in
+    flush-made (λ b. flushedDomain b (a .domain)) (a .buffer .now)
+    (c .before .before .before .before .before .before .before .before .if1 .left)
+    (c .before .before .before .before .before .flush-domain .result) e _ (c .before .before .write-buffer .ensures)
 
 pub gol-flush-domain-spec : {M : Type 1} → statement M
 gol-flush-domain-spec =

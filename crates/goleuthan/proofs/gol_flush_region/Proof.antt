@@ -8,7 +8,8 @@ use Rattle.goleuthan.proofs.gol_flush_region.Statement.{statement}
 use Rattle.goleuthan.proofs.gol_flush_region.Tie as tie
 
 returns : tie.Need-returns
-returns c = let a = c .before .before .args in flush-wrong (λ b. flushedRegion b (a .domain) (a .start) (a .length)) (a .buffer .now) (c .if1 .taken)
+returns c = let a = c .before .before .args in flush-wrong (λ b. flushedRegion b (a .domain) (a .start) (a .length))
+    (a .buffer .now) (c .if1 .taken)
 
 read-buffer-requires : tie.Need-read-buffer-requires
 read-buffer-requires c κs = search needs
@@ -28,8 +29,14 @@ same-length c = search needs
 returns-2 : tie.Need-returns-2
 returns-2 c =
     let a = c .before .before .before .before .before .before .before .before .before .before .before .args in
-    let e = rw (c .before .before .before .before .before .before .before .read-buffer .ensures, ap (λ (x : ByteAddr). x .0) (c .before .before .before .before .before .before .byte-addr .ensures)) at (c .before .before .before .before .before .flush-region .ensures) in
-    flush-made (λ b. flushedRegion b (a .domain) (a .start) (a .length)) (a .buffer .now) (c .before .before .before .before .before .before .before .before .before .if1 .left) (c .before .before .before .before .before .flush-region .result) e _ (c .before .before .write-buffer .ensures)
+    let e = rw (
+      c .before .before .before .before .before .before .before .read-buffer .ensures,
+      ap (λ (x : ByteAddr). x .0) (c .before .before .before .before .before .before .byte-addr .ensures),
+    )
+    at (c .before .before .before .before .before .flush-region .ensures) in
+    flush-made (λ b. flushedRegion b (a .domain) (a .start) (a .length)) (a .buffer .now)
+    (c .before .before .before .before .before .before .before .before .before .if1 .left)
+    (c .before .before .before .before .before .flush-region .result) e _ (c .before .before .write-buffer .ensures)
 
 pub gol-flush-region-spec : {M : Type 1} → statement M
 gol-flush-region-spec =

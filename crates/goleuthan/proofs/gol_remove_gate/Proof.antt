@@ -6,7 +6,8 @@ use Rattle.goleuthan.proofs.gol_remove_gate.Statement.{statement}
 use Rattle.goleuthan.proofs.gol_remove_gate.Tie as tie
 
 returns : tie.Need-returns
-returns c = let a = c .before .before .args in gates-wrong (λ g. removeOf (a .d) g (a .domain) (record { 0 = a .address })) (a .gates .now) (c .if1 .taken)
+returns c = let a = c .before .before .args in gates-wrong
+    (λ g. removeOf (a .d) g (a .domain) (record { 0 = a .address })) (a .gates .now) (c .if1 .taken)
 
 read-gates-requires : tie.Need-read-gates-requires
 read-gates-requires c κs = search needs
@@ -26,8 +27,14 @@ same-length c = search needs
 returns-2 : tie.Need-returns-2
 returns-2 c =
     let a = c .before .before .before .before .before .before .before .before .before .before .before .args in
-    let e = rw (c .before .before .before .before .before .before .before .read-gates .ensures, c .before .before .before .before .before .before .byte-addr .ensures) at (c .before .before .before .before .before .remove-gate .ensures) in
-    gates-made (λ g. removeOf (a .d) g (a .domain) (record { 0 = a .address })) (a .gates .now) (c .before .before .before .before .before .before .before .before .before .if1 .left) (c .before .before .before .before .before .remove-gate .result) e _ (c .before .before .write-gates .ensures)
+    let e = rw (
+      c .before .before .before .before .before .before .before .read-gates .ensures,
+      c .before .before .before .before .before .before .byte-addr .ensures,
+    )
+    at (c .before .before .before .before .before .remove-gate .ensures) in
+    gates-made (λ g. removeOf (a .d) g (a .domain) (record { 0 = a .address })) (a .gates .now)
+    (c .before .before .before .before .before .before .before .before .before .if1 .left)
+    (c .before .before .before .before .before .remove-gate .result) e _ (c .before .before .write-gates .ensures)
 
 pub gol-remove-gate-spec : {M : Type 1} → statement M
 gol-remove-gate-spec =

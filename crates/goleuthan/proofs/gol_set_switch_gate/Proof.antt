@@ -7,7 +7,9 @@ use Rattle.goleuthan.proofs.gol_set_switch_gate.Statement.{statement}
 use Rattle.goleuthan.proofs.gol_set_switch_gate.Tie as tie
 
 returns : tie.Need-returns
-returns c = let a = c .before .before .args in gates-wrong (λ g. setOf (a .d) g (a .domain) (record { 0 = a .address }) (Switch (a .destination))) (a .gates .now) (c .if1 .taken)
+returns c = let a = c .before .before .args in gates-wrong
+    (λ g. setOf (a .d) g (a .domain) (record { 0 = a .address }) (Switch (a .destination))) (a .gates .now)
+    (c .if1 .taken)
 
 read-gates-requires : tie.Need-read-gates-requires
 read-gates-requires c κs = search needs
@@ -27,8 +29,14 @@ same-length c = search needs
 returns-2 : tie.Need-returns-2
 returns-2 c =
     let a = c .before .before .before .before .before .before .before .before .before .before .before .args in
-    let e = rw (c .before .before .before .before .before .before .before .read-gates .ensures, c .before .before .before .before .before .before .byte-addr .ensures) at (c .before .before .before .before .before .set-gate .ensures) in
-    gates-made (λ g. setOf (a .d) g (a .domain) (record { 0 = a .address }) (Switch (a .destination))) (a .gates .now) (c .before .before .before .before .before .before .before .before .before .if1 .left) (c .before .before .before .before .before .set-gate .result) e _ (c .before .before .write-gates .ensures)
+    let e = rw (
+      c .before .before .before .before .before .before .before .read-gates .ensures,
+      c .before .before .before .before .before .before .byte-addr .ensures,
+    )
+    at (c .before .before .before .before .before .set-gate .ensures) in
+    gates-made (λ g. setOf (a .d) g (a .domain) (record { 0 = a .address }) (Switch (a .destination))) (a .gates .now)
+    (c .before .before .before .before .before .before .before .before .before .if1 .left)
+    (c .before .before .before .before .before .set-gate .result) e _ (c .before .before .write-gates .ensures)
 
 pub gol-set-switch-gate-spec : {M : Type 1} → statement M
 gol-set-switch-gate-spec =

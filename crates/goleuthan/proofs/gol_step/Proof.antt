@@ -12,7 +12,9 @@ same-length : tie.Need-same-length
 same-length c = search needs
 
 returns : tie.Need-returns
-returns c = let a = c .before .before .before .before .before .before .before .before .before .args in step-no-gates (a .pool .now) (shapeOf (a .d) (a .m) (a .l)) (a .gates .now) (a .stack .now) (a .address) (a .target) (a .out .now) _ (c .before .before .before .before .if1 .taken) (c .before .before .one .ensures)
+returns c = let a = c .before .before .before .before .before .before .before .before .before .args in step-no-gates
+    (a .pool .now) (shapeOf (a .d) (a .m) (a .l)) (a .gates .now) (a .stack .now) (a .address) (a .target)
+    (a .out .now) _ (c .before .before .before .before .if1 .taken) (c .before .before .one .ensures)
 
 one-requires-2 : tie.Need-one-requires-2
 one-requires-2 c κs = search needs
@@ -21,7 +23,10 @@ same-length-2 : tie.Need-same-length-2
 same-length-2 c = search needs
 
 returns-2 : tie.Need-returns-2
-returns-2 c = let a = c .before .before .before .before .before .before .before .before .before .before .args in step-no-stack (a .pool .now) (shapeOf (a .d) (a .m) (a .l)) (a .gates .now) (a .stack .now) (a .address) (a .target) (a .out .now) _ (c .before .before .before .before .before .if1 .left) (c .before .before .before .before .if2 .taken) (c .before .before .one2 .ensures)
+returns-2 c = let a = c .before .before .before .before .before .before .before .before .before .before .args in
+    step-no-stack (a .pool .now) (shapeOf (a .d) (a .m) (a .l)) (a .gates .now) (a .stack .now) (a .address)
+    (a .target) (a .out .now) _ (c .before .before .before .before .before .if1 .left)
+    (c .before .before .before .before .if2 .taken) (c .before .before .one2 .ensures)
 
 byte-addr-requires : tie.Need-byte-addr-requires
 byte-addr-requires c κs = search needs
@@ -54,7 +59,9 @@ returns-3 : tie.Need-returns-3
 returns-3 c =
     let a = c .before .before .before .before .before .before .before .before .before .before .before .before .before .before .before .before .before .before .before .before .before .args in
     let e = rw (c .before .before .before .before .before .before .before .before .before .before .read-stack .ensures, c .before .before .before .before .before .before .before .before .before .before .before .before .read-gates .ensures, c .before .before .before .before .before .before .before .before .before .before .before .before .before .byte-addr2 .ensures, c .before .before .before .before .before .before .before .before .before .before .before .before .before .before .byte-addr .ensures) at (c .before .before .before .before .before .before .before .before .before .fetch-step .ensures) in
-    step-made (a .pool .now) (shapeOf (a .d) (a .m) (a .l)) (a .gates .now) (a .stack .now) (a .address) (a .target) (a .out .now) _ (c .before .before .before .before .before .before .before .before .before .before .before .before .before .before .before .before .if1 .left) (c .before .before .before .before .before .before .before .before .before .before .before .before .before .before .before .if2 .left) (c .before .before .before .before .before .before .before .before .before .fetch-step .result) e _ _ (c .before .before .give-step .ensures .0) (c .before .before .before .before .before .before .write-stack .ensures) (c .before .before .give-step .ensures .1)
+    step-made (a .pool .now) (shapeOf (a .d) (a .m) (a .l)) (a .gates .now) (a .stack .now) (a .address) (a .target)
+    (a .out .now) _
+    (c .before .before .before .before .before .before .before .before .before .before .before .before .before .before .before .before .if1 .left) (c .before .before .before .before .before .before .before .before .before .before .before .before .before .before .before .if2 .left) (c .before .before .before .before .before .before .before .before .before .fetch-step .result) e _ _ (c .before .before .give-step .ensures .0) (c .before .before .before .before .before .before .write-stack .ensures) (c .before .before .give-step .ensures .1)
 
 pub gol-step-spec : {M : Type 1} → statement M
 gol-step-spec =

@@ -10,7 +10,8 @@ use Rattle.lines.proofs.feed.Statement.{statement}
 use Rattle.lines.proofs.feed.Tie as tie
 
 abbrev Inv-loop : tie.InvT-loop
-Inv-loop chunk from bytes₀ len₀ i₀ bytes len i = feedOf i (record { bytes = bytes; len = len }) (drop i chunk) ≡ feedOf from (record { bytes = bytes₀; len = len₀ }) (drop from chunk)
+Inv-loop chunk from bytes₀ len₀ i₀ bytes len i = feedOf i (record { bytes = bytes; len = len }) (drop i chunk)
+    ≡ feedOf from (record { bytes = bytes₀; len = len₀ }) (drop from chunk)
 
 abbrev μ-loop : tie.MeasureT-loop
 μ-loop chunk from bytes₀ len₀ i₀ bytes len i = length chunk - i
@@ -32,7 +33,8 @@ blank-line-requires c κs = search needs
 
 returns : tie.Need-returns Inv-loop μ-loop
 returns c =
-    feed-newline _ _ _ (c .before .before .before .before .loop-test .taken) (omega arith) (c .before .said .ensures) (c .blank-line .ensures)
+    feed-newline _ _ _ (c .before .before .before .before .loop-test .taken) (omega arith) (c .before .said .ensures)
+    (c .blank-line .ensures)
     ∙ c .before .before .before .before .before .loop .inv
 
 array-write-bytes : tie.Need-array-write-bytes Inv-loop μ-loop
@@ -45,13 +47,15 @@ loop-less : tie.Need-loop-less Inv-loop μ-loop
 loop-less c = search needs
 
 loop-again : tie.Need-loop-again Inv-loop μ-loop
-loop-again c = sym (feed-room _ _ _ (c .before .before .before .loop-test .taken) (c .before .if1 .left) (omega arith)) ∙ c .before .before .before .before .loop .inv
+loop-again c = sym (feed-room _ _ _ (c .before .before .before .loop-test .taken) (c .before .if1 .left)
+    (omega arith)) ∙ c .before .before .before .before .loop .inv
 
 loop-less-2 : tie.Need-loop-less-2 Inv-loop μ-loop
 loop-less-2 c = search needs
 
 loop-again-2 : tie.Need-loop-again-2 Inv-loop μ-loop
-loop-again-2 c = sym (feed-full _ _ _ (c .before .before .before .loop-test .taken) (c .before .if1 .left) (omega arith)) ∙ c .before .before .before .before .loop .inv
+loop-again-2 c = sym (feed-full _ _ _ (c .before .before .before .loop-test .taken) (c .before .if1 .left)
+    (omega arith)) ∙ c .before .before .before .before .loop .inv
 
 returns-2 : tie.Need-returns-2 Inv-loop μ-loop
 returns-2 c = sym (feed-end _ _ _ (c .loop-test .left)) ∙ c .before .loop .inv

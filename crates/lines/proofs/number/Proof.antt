@@ -7,12 +7,14 @@ use borrow.Author.Needs.{needs}
 use borrow.Author.Tests.{not-true, not-false}
 use Rattle.lines.specs.Inner.{numberAt}
 use Rattle.lines.proofs.DigitLaws.{digit-bounds}
-use Rattle.lines.proofs.ReadLaws.{readOn, word-past, word-space, word-more, read-stop, read-other, read-over, read-more, number-none, number-other, number-digit}
+use Rattle.lines.proofs.ReadLaws.{readOn, word-past, word-space, word-more, read-stop, read-other, read-over}
+use Rattle.lines.proofs.ReadLaws.{read-more, number-none, number-other, number-digit}
 use Rattle.lines.proofs.number.Statement.{statement}
 use Rattle.lines.proofs.number.Tie as tie
 
 abbrev Inv-loop : tie.InvT-loop
-Inv-loop line at value₀ i₀ value i = (i ≤ length line) × (value ≤ 4294967295) × (readOn value i (drop i line) ≡ numberAt line at)
+Inv-loop line at value₀ i₀ value i = (i ≤ length line) × (value ≤ 4294967295)
+    × (readOn value i (drop i line) ≡ numberAt line at)
 
 abbrev μ-loop : tie.MeasureT-loop
 μ-loop line at value₀ i₀ value i = length line - i
@@ -30,7 +32,12 @@ returns-2 : tie.Need-returns-2 Inv-loop μ-loop
 returns-2 c = sym (number-other _ _ (search needs) (sym (c .before .is-digit .ensures) ∙ not-true _ (c .if2 .taken)))
 
 loop-holds : tie.Need-loop-holds Inv-loop μ-loop
-loop-holds c = (search needs, search needs, sym (number-digit _ _ (search needs) (sym (c .before .is-digit .ensures) ∙ not-false _ (c .if2 .left))))
+loop-holds c = (
+  search needs,
+  search needs,
+  sym
+      (number-digit _ _ (search needs) (sym (c .before .is-digit .ensures) ∙ not-false _ (c .if2 .left))),
+)
 
 shared-slice-read-b : tie.Need-shared-slice-read-b Inv-loop μ-loop
 shared-slice-read-b c = search needs
@@ -42,30 +49,44 @@ add-next : tie.Need-add-next Inv-loop μ-loop
 add-next c = search needs
 
 returns-3 : tie.Need-returns-3 Inv-loop μ-loop
-returns-3 c = sym (read-stop _ _ _ (search needs) (word-space _ _ (c .before .before .loop-test .taken) (omega arith))) ∙ c .before .before .before .loop .inv .2
+returns-3 c = sym (read-stop _ _ _ (search needs)
+    (word-space _ _ (c .before .before .loop-test .taken) (omega arith))) ∙ c .before .before .before .loop .inv .2
 
 is-digit-requires-2 : tie.Need-is-digit-requires-2 Inv-loop μ-loop
 is-digit-requires-2 c κs = search needs
 
 returns-4 : tie.Need-returns-4 Inv-loop μ-loop
-returns-4 c = sym (read-other _ _ _ _ _ (word-more _ _ (c .before .before .before .before .loop-test .taken) (λ e. omega arith)) (sym (c .before .is-digit2 .ensures) ∙ not-true _ (c .if4 .taken))) ∙ c .before .before .before .before .before .loop .inv .2
+returns-4 c = sym (read-other _ _ _ _ _ (word-more _ _ (c .before .before .before .before .loop-test .taken)
+    (λ e. omega arith)) (sym (c .before .is-digit2 .ensures) ∙ not-true _ (c .if4 .taken)))
+    ∙ c .before .before .before .before .before .loop .inv .2
 
 wide-requires : tie.Need-wide-requires Inv-loop μ-loop
 wide-requires c κs = search needs
 
 sub-digit : tie.Need-sub-digit Inv-loop μ-loop
-sub-digit c = omega (arith, c .wide .ensures, digit-bounds _ (sym (c .before .before .is-digit2 .ensures) ∙ not-false _ (c .before .if4 .left)) .0)
+sub-digit c = omega (
+  arith,
+  c .wide .ensures,
+  digit-bounds _
+      (sym (c .before .before .is-digit2 .ensures) ∙ not-false _ (c .before .if4 .left)) .0,
+)
 
 mul-value : tie.Need-mul-value Inv-loop μ-loop
 mul-value c = search needs
 
 add-value : tie.Need-add-value Inv-loop μ-loop
-add-value c = omega (arith, c .wide .ensures, digit-bounds _ (sym (c .before .before .is-digit2 .ensures) ∙ not-false _ (c .before .if4 .left)) .1)
+add-value c = omega (
+  arith,
+  c .wide .ensures,
+  digit-bounds _
+      (sym (c .before .before .is-digit2 .ensures) ∙ not-false _ (c .before .if4 .left)) .1,
+)
 
 returns-5 : tie.Need-returns-5 Inv-loop μ-loop
 returns-5 c =
     let w = c .before .wide .ensures in
-    sym (read-over _ _ _ _ _ (word-more _ _ (c .before .before .before .before .before .before .loop-test .taken) (λ e. omega arith)) (omega arith)) ∙ c .before .before .before .before .before .before .before .loop .inv .2
+    sym (read-over _ _ _ _ _ (word-more _ _ (c .before .before .before .before .before .before .loop-test .taken)
+    (λ e. omega arith)) (omega arith)) ∙ c .before .before .before .before .before .before .before .loop .inv .2
 
 add-i : tie.Need-add-i Inv-loop μ-loop
 add-i c = search needs
@@ -75,8 +96,15 @@ loop-less c = search needs
 
 loop-again : tie.Need-loop-again Inv-loop μ-loop
 loop-again c =
-    let step = read-more _ _ _ _ _ (word-more _ _ (c .before .before .before .before .before .before .loop-test .taken) (c .before .before .before .before .if3 .left)) (sym (c .before .before .before .is-digit2 .ensures) ∙ not-false _ (c .before .before .if4 .left)) in
-    (search needs, omega arith, rw (c .before .wide .ensures) (sym step ∙ c .before .before .before .before .before .before .before .loop .inv .2))
+    let step = read-more _ _ _ _ _ (word-more _ _
+    (c .before .before .before .before .before .before .loop-test .taken)
+    (c .before .before .before .before .if3 .left))
+    (sym (c .before .before .before .is-digit2 .ensures) ∙ not-false _ (c .before .before .if4 .left)) in (
+      search needs,
+      omega arith,
+      rw (c .before .wide .ensures)
+          (sym step ∙ c .before .before .before .before .before .before .before .loop .inv .2),
+    )
 
 cast-worth-2 : tie.Need-cast-worth-2 Inv-loop μ-loop
 cast-worth-2 c = search needs

@@ -9,7 +9,8 @@ use Rattle.lines.proofs.request.Statement.{statement}
 use Rattle.lines.proofs.request.Tie as tie
 
 abbrev Inv-loop : tie.InvT-loop
-Inv-loop line at values₀ place₀ k₀ values place k = numbersThen (4 - k) k values (wordsFrom place line) ≡ fourNumbers (wordsFrom at line)
+Inv-loop line at values₀ place₀ k₀ values place k = numbersThen (4 - k) k values (wordsFrom place line)
+    ≡ fourNumbers (wordsFrom at line)
 
 abbrev μ-loop : tie.MeasureT-loop
 μ-loop line at values₀ place₀ k₀ values place k = 4 - k
@@ -27,7 +28,8 @@ enum-told : tie.Need-enum-told Inv-loop μ-loop
 enum-told c = search needs
 
 returns : tie.Need-returns Inv-loop μ-loop
-returns c = sym (numbers-none _ _ _ _ (omega arith) (sym (c .before .before .number .ensures) ∙ c .enum-told .given .1)) ∙ c .before .before .before .before .loop .inv
+returns c = sym (numbers-none _ _ _ _ (omega arith)
+    (sym (c .before .before .number .ensures) ∙ c .enum-told .given .1)) ∙ c .before .before .before .before .loop .inv
 
 mul-values : tie.Need-mul-values Inv-loop μ-loop
 mul-values c = search needs
@@ -42,7 +44,9 @@ loop-less : tie.Need-loop-less Inv-loop μ-loop
 loop-less c = search needs
 
 loop-again : tie.Need-loop-again Inv-loop μ-loop
-loop-again c = sym (numbers-value _ _ _ _ (omega arith) (sym (c .before .before .before .number .ensures) ∙ c .before .value .given .1)) ∙ c .before .before .before .before .before .loop .inv
+loop-again c = sym (numbers-value _ _ _ _ (omega arith)
+    (sym (c .before .before .before .number .ensures) ∙ c .before .value .given .1))
+    ∙ c .before .before .before .before .before .loop .inv
 
 returns-2 : tie.Need-returns-2 Inv-loop μ-loop
 returns-2 c = sym (numbers-more _ _ _ _ (omega arith) (omega arith)) ∙ c .before .before .loop .inv

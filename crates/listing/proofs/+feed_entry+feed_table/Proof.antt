@@ -1,5 +1,6 @@
--- `listing::feed_entry` and `listing::feed_table` call each other, and meet their contracts. The measure is twice the height, and one more in
--- `feed_table`, whose loop calls `feed_entry` at the same height. The loop's invariant: the words of the entries passed were fed.
+-- `listing::feed_entry` and `listing::feed_table` call each other, and meet their contracts. The measure is twice the
+-- height, and one more in `feed_table`, whose loop calls `feed_entry` at the same height. The loop's invariant: the
+-- words of the entries passed were fed.
 use Prim.Native.Nat.{ℕ, _+_, _*_, _-_, _<_, _≤_}
 use mathlib.Core.Path.{_≡_, refl, sym, _∙_}
 use native.Mathlib.Omega.{arith}
@@ -14,7 +15,8 @@ use Rattle.listing.specs.Runs.{memoryWords}
 use Rattle.listing.specs.Sheets.{sheet}
 use Rattle.listing.specs.Levels.{tableRight, EntryAt}
 use Rattle.listing.proofs.SheetLaws.{Along, along-start, along-end}
-use Rattle.listing.proofs.LevelLaws.{whole-table, entry-inside, entry-not-bad, entry-up, entry-table, rights-fed, leads-fed, leaf-fed}
+use Rattle.listing.proofs.LevelLaws.{whole-table, entry-inside, entry-not-bad, entry-up, entry-table}
+use Rattle.listing.proofs.LevelLaws.{rights-fed, leads-fed, leaf-fed}
 use Rattle.listing.proofs.LevelLaws.{entry-at, entry-room, entry-next}
 use Rattle.listing.proofs.feed_entry.Reads as feed-entry
 use Rattle.listing.proofs.feed_entry.Kinds as feed-entry-kinds
@@ -39,7 +41,8 @@ abbrev μ-feed-table : Measures 2 feed-table-kinds.ps ℕ
 
 abbrev Inv : b.InvT-loop
 Inv pool shape height base at runs₀ entries block s₀ i₀ runs s i =
-    Along (tableRight shape pool height (base .0)) entries block at (sheet s₀ runs₀) i (sheet s runs) × (length runs ≡ length runs₀)
+    Along (tableRight shape pool height (base .0)) entries block at (sheet s₀ runs₀) i (sheet s runs)
+    × (length runs ≡ length runs₀)
 
 abbrev μ-loop : b.MeasureT-loop
 μ-loop pool shape height base at runs₀ entries block s₀ i₀ runs s i = entries - i
@@ -91,8 +94,10 @@ module _ (t : ℕ) where
   -- What the entry decodes to.
   decoded : (c : e.After-decode (e-calls t) (e-at t) feed-entry.Post)
       → c .decode .result
-      ≡ decodeOf (c .before .before .before .before .before .args .shape) (c .before .before .before .before .before .args .height)
-      (words (c .before .before .before .before .before .args .pool .now) (c .before .before .before .before .before .args .entry .0))
+      ≡ decodeOf (c .before .before .before .before .before .args .shape)
+      (c .before .before .before .before .before .args .height)
+      (words (c .before .before .before .before .before .args .pool .now)
+      (c .before .before .before .before .before .args .entry .0))
   decoded c = c .decode .ensures ∙ rw (c .before .before .pool-index .ensures) refl
 
   -- Where it leads.
@@ -125,7 +130,11 @@ module _ (t : ℕ) where
   sub-feed-table : e.Need-sub-feed-table (e-calls t) (e-at t) feed-entry.Post
   sub-feed-table c =
       let d = c .before .before in
-      omega (arith, entry-up _ _ _ _ _ _ _ (d .before .before .before .before .before .before .before .pre .1 .0) (led d))
+      omega (
+        arith,
+        entry-up _ _ _ _ _ _ _ (d .before .before .before .before .before .before .before .pre .1 .0)
+            (led d),
+      )
 
   feed-table-requires : e.Need-feed-table-requires (e-calls t) (e-at t) feed-entry.Post
   feed-table-requires c κs =
@@ -144,7 +153,8 @@ module _ (t : ℕ) where
   e-returns c =
       let d = c .before .before .before .before .before in
       let x = d .before .before .before .before .before .before .before .pre .1 .0 in
-      c .before .before .feed-rights .ensures ∙ rights-fed _ _ _ _ _ _ _ x (sym (decoded (d .before .before)) ∙ d .e .given .1)
+      c .before .before .feed-rights .ensures ∙ rights-fed _ _ _ _ _ _ _ x
+      (sym (decoded (d .before .before)) ∙ d .e .given .1)
 
   same-length-2 : e.Need-same-length-2 (e-calls t) (e-at t) feed-entry.Post
   same-length-2 c = search needs
@@ -153,7 +163,8 @@ module _ (t : ℕ) where
   e-returns-2 c =
       let d = c .before .before .before .before .before .before in
       let s = d .before .before .before .before .before .before .before in
-      c .before .before .feed-leaf .ensures ∙ leaf-fed _ _ _ _ _ _ _ _ (s .pre .1 .0) (led d) (c .before .before .before .before .if1 .taken)
+      c .before .before .feed-leaf .ensures ∙ leaf-fed _ _ _ _ _ _ _ _ (s .pre .1 .0) (led d)
+      (c .before .before .before .before .if1 .taken)
 
   same-length-3 : e.Need-same-length-3 (e-calls t) (e-at t) feed-entry.Post
   same-length-3 c = search needs
@@ -180,15 +191,21 @@ module _ (t : ℕ) where
 
   -- Entry `i` is for its block, which lies in the memory.
   stands : (c : b.In-loop (b-calls t) (b-at t) feed-table.Post Inv μ-loop)
-      → EntryAt (c .before .before .before .before .before .args .pool .now) (c .before .before .before .before .before .args .shape)
-      (c .before .before .before .before .before .args .height) (c .before .before .before .before .before .args .base .0 + c .before .loop .i)
-      (c .before .before .before .before .before .args .at + c .before .loop .i * c .before .before .level-of .result .block)
-  stands c = entry-at _ _ _ _ _ (c .before .before .before .before .before .pre .1 .0) _ (c .before .before .level-of .ensures) _ (c .loop-test .taken)
+      → EntryAt (c .before .before .before .before .before .args .pool .now)
+      (c .before .before .before .before .before .args .shape)
+      (c .before .before .before .before .before .args .height)
+      (c .before .before .before .before .before .args .base .0 + c .before .loop .i)
+      (c .before .before .before .before .before .args .at + c .before .loop .i *
+      c .before .before .level-of .result .block)
+  stands c = entry-at _ _ _ _ _ (c .before .before .before .before .before .pre .1 .0) _
+      (c .before .before .level-of .ensures) _ (c .loop-test .taken)
 
   room : (c : b.In-loop (b-calls t) (b-at t) feed-table.Post Inv μ-loop)
-      → c .before .before .before .before .before .args .at + c .before .loop .i * c .before .before .level-of .result .block
+      → c .before .before .before .before .before .args .at + c .before .loop .i *
+      c .before .before .level-of .result .block
       + c .before .before .level-of .result .block ≤ memoryWords
-  room c = entry-room _ _ _ _ _ (c .before .before .before .before .before .pre .1 .0) _ (c .before .before .level-of .ensures) _ (c .loop-test .taken)
+  room c = entry-room _ _ _ _ _ (c .before .before .before .before .before .pre .1 .0) _
+      (c .before .before .level-of .ensures) _ (c .loop-test .taken)
 
   word-after-requires : b.Need-word-after-requires (b-calls t) (b-at t) feed-table.Post Inv μ-loop
   word-after-requires c κs = let x = stands c in omega (arith, entry-inside _ _ x, x .fits .long, x .fits .range)
@@ -214,7 +231,8 @@ module _ (t : ℕ) where
   loop-again c =
       let i = c .before .before .before .before .before in
       let v = i .before .before in (
-        entry-next _ _ _ _ _ (v .before .before .before .pre .1 .0) _ (v .level-of .ensures) _ (i .loop-test .taken) _ _ _ (i .before .loop .inv .0)
+        entry-next _ _ _ _ _ (v .before .before .before .pre .1 .0) _ (v .level-of .ensures) _ (i .loop-test .taken) _
+            _ _ (i .before .loop .inv .0)
             (c .before .before .feed-entry .ensures ∙ rw (c .before .before .before .before .word-after .ensures) refl),
         omega arith,
       )
@@ -225,7 +243,8 @@ module _ (t : ℕ) where
   b-returns : b.Need-returns (b-calls t) (b-at t) feed-table.Post Inv μ-loop
   b-returns c =
       along-end _ _ _ _ _ _ _ (c .before .loop .inv .0) (c .loop-test .left)
-      ∙ rw (whole-table (c .before .before .before .before .before .args .height) _ (c .before .before .level-of .ensures)) refl
+      ∙ rw (whole-table (c .before .before .before .before .before .args .height) _
+      (c .before .before .level-of .ensures)) refl
 
 pub +feed-entry+feed-table-spec : {M : Type 1} → statement M
 +feed-entry+feed-table-spec =

@@ -6,7 +6,10 @@ use Rattle.listing.proofs.close.Statement.{statement}
 use Rattle.listing.proofs.close.Tie as tie
 
 put-run-requires : tie.Need-put-run-requires
-put-run-requires c κs = (c .before .before .before .pre .1 .some (c .before .if1 .taken), c .before .before .before .pre .0)
+put-run-requires c κs = (
+  c .before .before .before .pre .1 .some (c .before .if1 .taken),
+  c .before .before .before .pre .0,
+)
 
 add-n : tie.Need-add-n
 add-n c = search needs

@@ -15,7 +15,8 @@ use Rattle.listing.proofs.feed_leaf.Tie as tie
 
 abbrev Inv-loop : tie.InvT-loop
 Inv-loop pool at runs₀ start s₀ i₀ runs s i =
-    ((x : Shape) → TableAt pool x 0 start at → Along (tableRight x pool 0 start) 64 16 at (sheet s₀ runs₀) i (sheet s runs)) × (length runs ≡ length runs₀)
+    ((x : Shape) → TableAt pool x 0 start at → Along (tableRight x pool 0 start) 64 16 at (sheet s₀ runs₀) i
+    (sheet s runs)) × (length runs ≡ length runs₀)
 
 abbrev μ-loop : tie.MeasureT-loop
 μ-loop pool at runs₀ start s₀ i₀ runs s i = 64 - i
@@ -30,12 +31,14 @@ cast-w : tie.Need-cast-w Inv-loop μ-loop
 cast-w c = search needs
 
 -- The leaf, from where its first word stands.
-leaf : (c : tie.After-pool-index Inv-loop μ-loop) → let a = c .before .before .before .args in TableAt (a .pool .now) (a .shape) 0 (c .pool-index .result) (a .at)
+leaf : (c : tie.After-pool-index Inv-loop μ-loop) → let a = c .before .before .before .args in TableAt (a .pool .now)
+    (a .shape) 0 (c .pool-index .result) (a .at)
 leaf c = rw (c .pool-index .ensures) (c .before .before .before .pre .0)
 
 -- Entry `i` is for its block, which lies in the memory.
 stands : (c : tie.In-loop Inv-loop μ-loop) → let a = c .before .before .before .before .before .args in
-    EntryAt (a .pool .now) (a .shape) 0 (c .before .before .pool-index .result + c .before .loop .i) (a .at + c .before .loop .i * 16)
+    EntryAt (a .pool .now) (a .shape) 0 (c .before .before .pool-index .result + c .before .loop .i)
+    (a .at + c .before .loop .i * 16)
 stands c = entry-at _ _ _ _ _ (leaf (c .before .before)) (levelOf 0) refl _ (c .loop-test .taken)
 
 add-w : tie.Need-add-w Inv-loop μ-loop
@@ -70,7 +73,8 @@ loop-again c =
     let f = c .before .before in
     let i = f .before .before .before in (
       (λ x k. entry-next _ x _ _ _ k (levelOf 0) refl _ (i .loop-test .taken) _ _ _ (i .before .loop .inv .0 x k)
-          (f .feed-rights .ensures ∙ rights-fed _ _ _ _ _ _ _ (entry-at _ x _ _ _ k (levelOf 0) refl _ (i .loop-test .taken)) refl)),
+          (f .feed-rights .ensures ∙ rights-fed _ _ _ _ _ _ _
+          (entry-at _ x _ _ _ k (levelOf 0) refl _ (i .loop-test .taken)) refl)),
       omega arith,
     )
 
@@ -81,7 +85,8 @@ returns : tie.Need-returns Inv-loop μ-loop
 returns c =
     let b = c .before .before in
     let a = b .before .before .before .args in
-    along-end _ _ _ _ _ _ _ (c .before .loop .inv .0 (a .shape) (leaf b)) (c .loop-test .left) ∙ rw (b .pool-index .ensures) refl
+    along-end _ _ _ _ _ _ _ (c .before .loop .inv .0 (a .shape) (leaf b)) (c .loop-test .left)
+    ∙ rw (b .pool-index .ensures) refl
 
 pub feed-leaf-spec : {M : Type 1} → statement M
 feed-leaf-spec =

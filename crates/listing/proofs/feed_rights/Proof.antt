@@ -23,7 +23,8 @@ abbrev μ-loop : tie.MeasureT-loop
 inside : (c : tie.In-loop Inv-loop μ-loop)
     → c .before .loop .i * c .before .before .level-of .result .step + c .before .before .level-of .result .step
     ≤ blockWords (c .before .before .before .before .before .before .before .args .height)
-inside c = part-room (c .before .before .before .before .before .before .before .args .height) _ (c .before .before .level-of .ensures) _ (c .loop-test .taken)
+inside c = part-room (c .before .before .before .before .before .before .before .args .height) _
+    (c .before .before .level-of .ensures) _ (c .loop-test .taken)
 
 right-at-requires : tie.Need-right-at-requires Inv-loop μ-loop
 right-at-requires c κs = search needs
@@ -42,7 +43,8 @@ returns c =
     let s = c .before .before .before .before .before .before .before .before .args in
     let e = c .before .before .before .before .before .before .right-at .ensures in
     let f : s .w ≡ sameOf (s .height) (rightAt (s .w) 0) =
-    c .before .before .before .before .if1 .taken ∙ c .before .before .before .before .before .same-entry .ensures ∙ ap (sameOf (s .height)) e in
+    c .before .before .before .before .if1 .taken ∙ c .before .before .before .before .before .same-entry .ensures
+    ∙ ap (sameOf (s .height)) e in
     c .before .before .feed-right .ensures
     ∙ ap (λ q. feed q (s .at) (sheet (s .run) (s .runs .now))) e
     ∙ sym (same-fed (s .height) (s .w) (s .at) _ f)
@@ -55,7 +57,8 @@ loop-holds c = (along-start _ _ _ _ _ (c .before .before .before .before .before
 
 right-at-requires-2 : tie.Need-right-at-requires-2 Inv-loop μ-loop
 right-at-requires-2 c κs =
-    part-few (c .before .before .before .before .before .before .before .args .height) _ (c .before .before .level-of .ensures) _ (c .loop-test .taken)
+    part-few (c .before .before .before .before .before .before .before .args .height) _
+    (c .before .before .level-of .ensures) _ (c .loop-test .taken)
 
 mul-from : tie.Need-mul-from Inv-loop μ-loop
 mul-from c = omega (arith, inside (c .before))
@@ -64,7 +67,10 @@ add-from : tie.Need-add-from Inv-loop μ-loop
 add-from c = omega (arith, inside (c .before))
 
 feed-right-requires-2 : tie.Need-feed-right-requires-2 Inv-loop μ-loop
-feed-right-requires-2 c κs = (omega (arith, inside (c .before .before)), c .before .before .before .loop .inv .0 .numbers)
+feed-right-requires-2 c κs = (
+  omega (arith, inside (c .before .before)),
+  c .before .before .before .loop .inv .0 .numbers,
+)
 
 add-i : tie.Need-add-i Inv-loop μ-loop
 add-i c = search needs
@@ -77,7 +83,8 @@ loop-again c =
     let i = c .before .before .before .before .before in
     let v = i .before .before in
     let s = v .before .before .before .before .before in (
-      part-next (s .args .height) _ _ _ _ _ _ _ (v .level-of .ensures) (s .pre .0 .0) (i .before .loop .inv .0) (i .loop-test .taken)
+      part-next (s .args .height) _ _ _ _ _ _ _ (v .level-of .ensures) (s .pre .0 .0) (i .before .loop .inv .0)
+          (i .loop-test .taken)
           (c .before .before .feed-right2 .ensures ∙ rw (c .before .before .before .before .right-at2 .ensures) refl),
       omega arith,
     )
@@ -88,7 +95,8 @@ same-length-2 c = search needs
 returns-2 : tie.Need-returns-2 Inv-loop μ-loop
 returns-2 c =
     along-end _ _ _ _ _ _ _ (c .before .loop .inv .0) (c .loop-test .left)
-    ∙ rw (whole-block (c .before .before .before .before .before .before .before .args .height) _ (c .before .before .level-of .ensures)) refl
+    ∙ rw (whole-block (c .before .before .before .before .before .before .before .args .height) _
+    (c .before .before .level-of .ensures)) refl
 
 pub feed-rights-spec : {M : Type 1} → statement M
 feed-rights-spec =

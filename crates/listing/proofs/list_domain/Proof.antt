@@ -43,7 +43,8 @@ returns c =
     (c .before .before .close .ensures
     ∙ ap (closed memoryWords)
     (c .before .before .before .before .before .before .feed-table .ensures
-    ∙ ap (λ b. fed memoryWords (tableRight (a .shape) (a .pool .now) 2 (b .0)) 0 (sheet (opening (a .domain) (a .count) (a .from)) (a .runs .now))) root))
+    ∙ ap (λ b. fed memoryWords (tableRight (a .shape) (a .pool .now) 2 (b .0)) 0
+    (sheet (opening (a .domain) (a .count) (a .from)) (a .runs .now))) root))
 
 pub list-domain-spec : {M : Type 1} → statement M
 list-domain-spec =

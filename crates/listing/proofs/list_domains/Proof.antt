@@ -33,8 +33,11 @@ loop-less c = search needs
 
 loop-again : tie.Need-loop-again Inv-loop μ-loop
 loop-again c =
-    let i = c .before .before .before .before in
-    (upto-next _ _ _ _ _ _ _ _ _ (i .before .loop .inv .0) (i .loop-test .taken) (c .before .before .list-domain .ensures), omega arith)
+    let i = c .before .before .before .before in (
+      upto-next _ _ _ _ _ _ _ _ _ (i .before .loop .inv .0) (i .loop-test .taken)
+          (c .before .before .list-domain .ensures),
+      omega arith,
+    )
 
 same-length : tie.Need-same-length Inv-loop μ-loop
 same-length c = search needs

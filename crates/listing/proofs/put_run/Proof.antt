@@ -69,9 +69,11 @@ same-length c = search needs
 returns-2 : tie.Need-returns-2
 unfolding putRun
 returns-2 c =
-    let n : 4 * (c .before .before .before .before .args .run .past - 1) + 3 ≡ 4 * c .before .before .before .before .args .run .past - 1 =
+    let n : 4 * (c .before .before .before .before .args .run .past - 1) + 3
+    ≡ 4 * c .before .before .before .before .args .run .past - 1 =
     omega (arith, c .before .before .before .before .pre .0) in
-    simp (le-ltb _ _ (c .before .before .before .if1 .left), lt-ltb _ _ (c .before .before .if2 .taken)) (rw (n, add-one, add-two, add-three))
+    simp (le-ltb _ _ (c .before .before .before .if1 .left), lt-ltb _ _ (c .before .before .if2 .taken))
+    (rw (n, add-one, add-two, add-three))
 
 returns-3 : tie.Need-returns-3
 unfolding putRun

@@ -1,4 +1,5 @@
--- `lookaside::find` meets its contract. The invariant: the answer is that of the search in what is left of the list. Assumes nothing.
+-- `lookaside::find` meets its contract. The invariant: the answer is that of the search in what is left of the list.
+-- Assumes nothing.
 use Prim.Native.Nat.{_-_, _≤_}
 use mathlib.Core.Path.{_≡_, refl, sym, _∙_}
 use native.Mathlib.Omega.{arith}
@@ -11,7 +12,8 @@ use Rattle.lookaside.proofs.find.Tie as tie
 
 abbrev Inv-loop : tie.InvT-loop
 Inv-loop domain address buffer i₀ i =
-    (i ≤ 64) × (firstMatch (buffer .slots) domain (address .0) ≡ firstMatch (drop i (buffer .slots)) domain (address .0))
+    (i ≤ 64) × (firstMatch (buffer .slots) domain (address .0) ≡ firstMatch (drop i (buffer .slots)) domain
+    (address .0))
 
 abbrev μ-loop : tie.MeasureT-loop
 μ-loop domain address buffer i₀ i = 64 - i
@@ -35,7 +37,8 @@ returns c =
     let n : length (a .t1 .slots) ≡ 64 = search (needs, unmapped) in
     sym
     (l .loop .inv .1
-    ∙ first-here (a .t1 .slots) (a .domain) (a .address .0) (l .loop .i) (omega arith) (sym (c .before .slot-matches .ensures) ∙ c .if1 .taken))
+    ∙ first-here (a .t1 .slots) (a .domain) (a .address .0) (l .loop .i) (omega arith)
+    (sym (c .before .slot-matches .ensures) ∙ c .if1 .taken))
 
 add-i : tie.Need-add-i Inv-loop μ-loop
 add-i c = omega arith
@@ -50,14 +53,16 @@ loop-again c =
     let n : length (a .t1 .slots) ≡ 64 = search (needs, unmapped) in (
       omega arith,
       l .loop .inv .1
-          ∙ first-later (a .t1 .slots) (a .domain) (a .address .0) (l .loop .i) (omega arith) (sym (c .before .slot-matches .ensures) ∙ c .if1 .left),
+          ∙ first-later (a .t1 .slots) (a .domain) (a .address .0) (l .loop .i) (omega arith)
+          (sym (c .before .slot-matches .ensures) ∙ c .if1 .left),
     )
 
 returns-2 : tie.Need-returns-2 Inv-loop μ-loop
 returns-2 c =
     let a = c .before .before .args in
     let n : length (a .t1 .slots) ≡ 64 = search (needs, unmapped) in
-    sym (c .before .loop .inv .1 ∙ first-none (a .t1 .slots) (a .domain) (a .address .0) (c .before .loop .i) (omega arith))
+    sym (c .before .loop .inv .1 ∙ first-none (a .t1 .slots) (a .domain) (a .address .0) (c .before .loop .i)
+    (omega arith))
 
 pub find-spec : {M : Type 1} → statement M
 find-spec =

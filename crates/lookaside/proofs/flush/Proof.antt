@@ -1,4 +1,5 @@
--- `lookaside::flush` meets its contract. The invariant: the first `at` slots are flushed, the others and the pointer are as they came. Assumes nothing.
+-- `lookaside::flush` meets its contract. The invariant: the first `at` slots are flushed, the others and the pointer
+-- are as they came. Assumes nothing.
 use Prim.Native.Nat.{_-_, _≤_}
 use mathlib.Core.Path.{_≡_, refl, _∙_}
 use native.Mathlib.Omega.{arith}
@@ -45,7 +46,8 @@ loop-again c =
     let a = c .before .before .before .before .args in
     let l = c .before .before .before .loop in (
       omega arith,
-      map-to-turn (flushedSlot (a .f)) (l .at) (a .buffer .slots) (l .b .slots) emptySlot (c .flush-slot .result) (l .inv .1) (c .flush-slot .ensures),
+      map-to-turn (flushedSlot (a .f)) (l .at) (a .buffer .slots) (l .b .slots) emptySlot (c .flush-slot .result)
+          (l .inv .1) (c .flush-slot .ensures),
       l .inv .2,
     )
 
@@ -55,7 +57,8 @@ returns c =
     let a = c .before .before .args in
     let l = c .before .loop in
     let n : length (a .buffer .slots) ≡ 64 = search (needs, unmapped) in
-    buffer-is (l .b) _ _ (l .inv .1 ∙ map-to-all (flushedSlot (a .f)) (l .at) (a .buffer .slots) (omega arith)) (l .inv .2)
+    buffer-is (l .b) _ _ (l .inv .1 ∙ map-to-all (flushedSlot (a .f)) (l .at) (a .buffer .slots) (omega arith))
+    (l .inv .2)
 
 pub flush-spec : {M : Type 1} → statement M
 flush-spec =

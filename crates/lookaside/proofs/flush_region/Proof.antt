@@ -32,7 +32,8 @@ returns-3 c =
     let r = c .before .before .before .before in
     let a = r .before .before .args in
     let e = sym (r .round-region .ensures) ∙ c .before .before .asked2 .given .1 in
-    rw (c .flush .ensures) (sym (region-done (a .buffer) (a .domain) (a .start .0) (a .length) (r .before .if1 .left) _ e))
+    rw (c .flush .ensures) (sym (region-done (a .buffer) (a .domain) (a .start .0) (a .length) (r .before .if1 .left)
+    _ e))
 
 pub flush-region-spec : {M : Type 1} → statement M
 flush-region-spec =

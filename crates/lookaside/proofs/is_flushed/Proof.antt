@@ -22,7 +22,12 @@ slot-of-requires-2 c κs = search needs
 
 returns : tie.Need-returns
 unfolding flushes
-returns c = simp (c .before .before .before .f2 .given .1, ← c .before .slot-of2 .ensures, not-true (c .before .slot-of2 .result) (c .if1 .taken))
+returns c = simp (
+  c .before .before .before .f2 .given .1,
+  ← c .before .slot-of2 .ensures,
+  not-true
+      (c .before .slot-of2 .result) (c .if1 .taken),
+)
 
 block-meets-requires : tie.Need-block-meets-requires
 block-meets-requires c κs = search needs
@@ -39,7 +44,13 @@ returns-4 : tie.Need-returns-4
 unfolding flushes
 returns-4 c =
     let m = c .before .before in
-    simp (m .before .before .f2 .given .1, ← m .slot-of2 .ensures, not-false (m .slot-of2 .result) (c .before .if1 .left), c .block-meets .ensures)
+    simp (
+      m .before .before .f2 .given .1,
+      ← m .slot-of2 .ensures,
+      not-false (m .slot-of2 .result)
+          (c .before .if1 .left),
+      c .block-meets .ensures,
+    )
 
 pub is-flushed-spec : {M : Type 1} → statement M
 is-flushed-spec =

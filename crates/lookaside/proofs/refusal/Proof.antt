@@ -5,7 +5,8 @@ use borrow.Author.Needs.{needs}
 use borrow.Author.Tests.{not-true, not-false}
 use Rattle.table.specs.Shape.{fitsOf}
 use Rattle.lookaside.specs.Check.{isAccess}
-use Rattle.lookaside.proofs.CheckLaws.{access-some, refused-shape, refused-pointer, refused-domain, refused-access, refused-address, not-refused}
+use Rattle.lookaside.proofs.CheckLaws.{access-some, refused-shape, refused-pointer, refused-domain}
+use Rattle.lookaside.proofs.CheckLaws.{refused-access, refused-address, not-refused}
 use Rattle.lookaside.proofs.refusal.Statement.{statement}
 use Rattle.lookaside.proofs.refusal.Tie as tie
 
@@ -35,7 +36,8 @@ returns-4 c =
     sym (refused-access _ _ _ _ _ _ _ (fits (t .before .before)) (t .before .if2 .left) (t .if3 .left) k)
 
 -- .. and the fourth.
-access : (c : tie.Else4) → (let a = c .before .before .before .before .before .before .args in isAccess (a .kind) (a .size) ≡ true)
+access : (c : tie.Else4) → (let a = c .before .before .before .before .before .before .args in isAccess (a .kind)
+    (a .size) ≡ true)
 access c = sym (c .before .is-access .ensures) ∙ not-false _ (c .if4 .left)
 
 addr-number-requires : tie.Need-addr-number-requires

@@ -26,7 +26,9 @@ returns c = λ R g.
     let a = s .args in
     let f = c .before .before .before .block-edge .ensures R g in
     draft-is (words (a .pool .now)) (a .domain) (a .paint) R (s .pre .1 .1) _ _ _ _ f
-    (c .before .before .last-block-edge .ensures R g (edge-number (words (a .pool .now)) (a .domain) (a .paint) R _ 1 _ f)) (c .before .page-edge .ensures R g) (c .page-edge2 .ensures R g)
+    (c .before .before .last-block-edge .ensures R g
+    (edge-number (words (a .pool .now)) (a .domain) (a .paint) R _ 1 _ f)) (c .before .page-edge .ensures R g)
+    (c .page-edge2 .ensures R g)
 
 pub draft-plan-spec : {M : Type 1} → statement M
 draft-plan-spec =

@@ -16,7 +16,8 @@ page-target-requires : tie.Need-page-target-requires
 page-target-requires c κs =
     let s = c .before .before in
     let a = s .args in (
-      subst (Readable (a .pool .now) 1) (sym (c .page-entry .ensures)) (entry-readable (a .pool .now) (a .domain) (a .n) (s .pre .1 .1) (s .pre .0)),
+      subst (Readable (a .pool .now) 1) (sym (c .page-entry .ensures))
+          (entry-readable (a .pool .now) (a .domain) (a .n) (s .pre .1 .1) (s .pre .0)),
       (s .pre .1 .1, s .pre .1 .2),
     )
 
@@ -30,7 +31,8 @@ returns c = λ R g.
     let e = c .before .before .page-entry .ensures in
     c .edge-of .ensures
     ∙ ap (edgeFor (a .n) (c .before .before .page-entry .result)) (c .before .page-target .ensures R
-    (subst (λ x. Gives (words (a .pool .now)) 1 x (a .n) R) (sym e) (entry-gives (a .pool .now) (a .domain) (a .n) (s .pre .1 .1) R g)))
+    (subst (λ x. Gives (words (a .pool .now)) 1 x (a .n) R) (sym e)
+    (entry-gives (a .pool .now) (a .domain) (a .n) (s .pre .1 .1) R g)))
     ∙ ap (λ x. edgeFor (a .n) x (targetOf (painted (a .paint) R) 1 (a .n * 4096))) e
 
 pub page-edge-spec : {M : Type 1} → statement M

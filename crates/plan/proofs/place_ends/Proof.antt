@@ -28,7 +28,8 @@ returns-2 c =
 take-place-requires-2 : tie.Need-take-place-requires-2
 take-place-requires-2 c κs =
     let s = c .before .before .before .before .before in
-    let x = taken-low (omega arith) (rw (c .before .before .one .given .1) at (c .before .before .before .before .take-place .ensures)) in
+    let x = taken-low (omega arith) (rw (c .before .before .one .given .1)
+    at (c .before .before .before .before .take-place .ensures)) in
     (x, s .pre .0, s .pre .1, s .pre .2)
 
 enum-known-two : tie.Need-enum-known-two

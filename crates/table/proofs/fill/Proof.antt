@@ -1,4 +1,5 @@
--- `table::fill` meets its contract. The loop's invariant: the first `i` words have the value, and the others are as they were.
+-- `table::fill` meets its contract. The loop's invariant: the first `i` words have the value, and the others are as
+-- they were.
 use mathlib.Core.Path.{_≡_, refl, sym, ap, _∙_}
 use mathlib.Core.List.{List, _++_, append-nil}
 use Prim.Native.Nat.{ℕ, _+_, _≤_, _-_}
@@ -11,7 +12,8 @@ use Rattle.table.proofs.fill.Statement.{statement}
 use Rattle.table.proofs.fill.Tie as tie
 
 abbrev Inv-loop : tie.InvT-loop
-Inv-loop part₀ value i₀ part i = (i ≤ length part₀) × (length part ≡ length part₀) × (part ≡ replicate i value ++ drop i part₀)
+Inv-loop part₀ value i₀ part i = (i ≤ length part₀) × (length part ≡ length part₀)
+    × (part ≡ replicate i value ++ drop i part₀)
 
 abbrev μ-loop : tie.MeasureT-loop
 μ-loop part₀ value i₀ part i = length part₀ - i
@@ -34,8 +36,12 @@ loop-less c = omega arith
 loop-again : tie.Need-loop-again Inv-loop μ-loop
 loop-again c =
     let l = c .before .loop in
-    let a = c .before .before .args in
-    (omega arith, simp length-set (omega arith), rw (l .inv .2) (fill-more (l .i) (a .value) (a .part .now) (omega arith)))
+    let a = c .before .before .args in (
+      omega arith,
+      simp length-set (omega arith),
+      rw (l .inv .2)
+          (fill-more (l .i) (a .value) (a .part .now) (omega arith)),
+    )
 
 same-length : tie.Need-same-length Inv-loop μ-loop
 same-length c = c .before .loop .inv .1

@@ -18,7 +18,11 @@ add-loads : tie.Need-add-loads
 add-loads c = search needs
 
 returns : tie.Need-returns
-returns c = (rw (c .before .pool-index .ensures), omega (arith, c .shared-slice-known2 .given (c .before .pool-index .result)), refl)
+returns c = (
+  rw (c .before .pool-index .ensures),
+  omega (arith, c .shared-slice-known2 .given (c .before .pool-index .result)),
+  refl,
+)
 
 pub load-spec : {M : Type 1} → statement M
 load-spec =

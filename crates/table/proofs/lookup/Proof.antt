@@ -25,8 +25,10 @@ returns-2 c =
 
 walk-down-requires : tie.Need-walk-down-requires
 walk-down-requires c κs =
-    let a = c .before .before .before .before .args in
-    (test-fits (a .shape) _ (sym (c .before .before .shape-fits .ensures) ∙ not-false _ (c .before .if1 .left)), omega arith)
+    let a = c .before .before .before .before .args in (
+      test-fits (a .shape) _ (sym (c .before .before .shape-fits .ensures) ∙ not-false _ (c .before .if1 .left)),
+      omega arith,
+    )
 
 returns-3 : tie.Need-returns-3
 returns-3 c =

@@ -17,11 +17,21 @@ returns-3 c = let a = c .before .before .args in
 
 returns-4 : tie.Need-returns-4
 returns-4 c = let a = c .before .before .before .args in
-    simp (ne-eqb (a .kind) 0 (c .before .before .if1 .left), ne-eqb (a .kind) 1 (c .before .if3 .left), eq-eqb (a .kind) 2 (c .if4 .taken))
+    simp (
+      ne-eqb (a .kind) 0 (c .before .before .if1 .left),
+      ne-eqb (a .kind) 1 (c .before .if3 .left),
+      eq-eqb
+          (a .kind) 2 (c .if4 .taken),
+    )
 
 returns-5 : tie.Need-returns-5
 returns-5 c = let a = c .before .before .before .args in
-    simp (ne-eqb (a .kind) 0 (c .before .before .if1 .left), ne-eqb (a .kind) 1 (c .before .if3 .left), ne-eqb (a .kind) 2 (c .if4 .left))
+    simp (
+      ne-eqb (a .kind) 0 (c .before .before .if1 .left),
+      ne-eqb (a .kind) 1 (c .before .if3 .left),
+      ne-eqb
+          (a .kind) 2 (c .if4 .left),
+    )
 
 pub passes-spec : {M : Type 1} → statement M
 passes-spec = tie.close (tie.spec returns returns-2 returns-3 returns-4 returns-5)

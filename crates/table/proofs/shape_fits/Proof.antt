@@ -18,7 +18,13 @@ returns-3 c = let s = c .before .before .before .args .shape in
 
 returns-4 : tie.Need-returns-4
 returns-4 c = let s = c .before .before .before .before .args .shape in
-    simp (le-leb 1 (s .domains) (omega arith), le-leb (s .domains) 4 (omega arith), le-leb (s .middles) 8 (omega arith), lt-leb (s .leaves) 64 (omega arith))
+    simp (
+      le-leb 1 (s .domains) (omega arith),
+      le-leb (s .domains) 4 (omega arith),
+      le-leb (s .middles) 8
+          (omega arith),
+      lt-leb (s .leaves) 64 (omega arith),
+    )
 
 mul-result : tie.Need-mul-result
 mul-result c = search needs
@@ -40,7 +46,13 @@ cast-result c = search needs
 
 returns-5 : tie.Need-returns-5
 returns-5 c = let s = c .before .before .before .before .args .shape in
-    simp (le-leb 1 (s .domains) (omega arith), le-leb (s .domains) 4 (omega arith), le-leb (s .middles) 8 (omega arith), le-leb (s .leaves) 64 (omega arith))
+    simp (
+      le-leb 1 (s .domains) (omega arith),
+      le-leb (s .domains) 4 (omega arith),
+      le-leb (s .middles) 8
+          (omega arith),
+      le-leb (s .leaves) 64 (omega arith),
+    )
 
 pub shape-fits-spec : {M : Type 1} → statement M
 shape-fits-spec =

@@ -16,7 +16,7 @@ use Rattle.table.specs.Map.{block}
 use Rattle.targets.specs.declared.Target.{Target}
 use Rattle.targets.specs.declared.Target.the-variants.{Says}
 use Rattle.targets.specs.declared.One.the-variants.{Two}
-use Rattle.targets.specs.Targets.{blocks, painted, given, targetOf, Gives, Readable}
+use Rattle.targets.specs.Targets.{entryBlocks, painted, given, targetOf, Gives, Readable}
 use Rattle.targets.specs.Steps.{Plain, PartIs}
 use Rattle.targets.proofs.TargetLaws.{same-said, mixed-not-said}
 use Rattle.targets.proofs.PartLaws.{target-first}
@@ -153,7 +153,7 @@ module _ (t : ℕ) where
         omega (arith, unknown c),
         (
           subst (λ h. Readable (a .pool .now) h (a .e)) up (x .0),
-          (omega arith, subst (λ h. a .n < blocks h) up (x .1 .1), x .1 .2),
+          (omega arith, subst (λ h. a .n < entryBlocks h) up (x .1 .1), x .1 .2),
         ),
       )
 
@@ -238,7 +238,7 @@ module _ (t : ℕ) where
       x ≡ a .e + (c .part-entries .result * a .i + j) → m ≡ (8 * a .n + a .i) * c .part-entries .result + j
       → (3 * a .below + 2 < t)
       × (Readable (a .pool .now) (a .below) (words (a .pool .now) x)
-      × ((a .below ≤ 2) × (m < blocks (a .below)) × (a .paint .right < 4)))
+      × ((a .below ≤ 2) × (m < entryBlocks (a .below)) × (a .paint .right < 4)))
   given-entry c j x m l at to =
       let a = c .before .before .before .args in
       let y = c .before .before .before .pre .1 in

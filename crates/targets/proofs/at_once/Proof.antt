@@ -6,7 +6,7 @@ use native.Mathlib.Omega.{arith}
 use borrow.Author.Needs.{needs}
 use Rattle.targets.specs.declared.Target.the-variants.{Says}
 use Rattle.table.specs.Map.{leads}
-use Rattle.targets.specs.Targets.{blocks}
+use Rattle.targets.specs.Targets.{entryBlocks}
 use Rattle.targets.specs.Steps.{SaysIs}
 use Rattle.targets.proofs.HeightLaws.{block-room}
 use Rattle.targets.proofs.EntryLaws.{leaf-entry, whole-entry, apart-entry, leads-leaf, leads-high}
@@ -40,23 +40,27 @@ enum-told-2 : tie.Need-enum-told-2
 enum-told-2 c = search needs
 
 -- The region lies apart, and the entry is rights.
-apart : (c : tie.After-enum-told2) → let a = c .before .before .before .before .before .args in leads (a .height) (a .e) ≡ false → SaysIs (a .paint) (a .height) (a .e) (a .n) (a .e)
+apart : (c : tie.After-enum-told2) → let a = c .before .before .before .before .before .args in leads (a .height)
+    (a .e) ≡ false → SaysIs (a .paint) (a .height) (a .e) (a .n) (a .e)
 apart c l = λ P R g.
     let m = c .before .before .before in
     let s = m .before .before in
-    apart-entry (s .args .paint) R (s .args .height) (s .args .n) (m .before .block-words .result) (m .before .block-words .ensures)
+    apart-entry (s .args .paint) R (s .args .height) (s .args .n) (m .before .block-words .result)
+    (m .before .block-words .ensures)
     P (s .args .e) (omega arith) (s .pre .0) g l (rw (c .enum-told2 .given .1) at (m .meeting .ensures))
 
 returns-2 : tie.Need-returns-2
-returns-2 c = apart (c .before) (leads-high (c .before .before .before .before .before .before .args .height) _ (c .if1 .taken))
+returns-2 c = apart (c .before) (leads-high (c .before .before .before .before .before .before .args .height) _
+    (c .if1 .taken))
 
 returns-3 : tie.Need-returns-3
-returns-3 c = apart (c .before .before) (leads-leaf _ (c .before .before .before .before .before .before .before .args .e) (c .if2 .taken))
+returns-3 c = apart (c .before .before) (leads-leaf _
+    (c .before .before .before .before .before .before .before .args .e) (c .if2 .taken))
 
 paint-word-requires : tie.Need-paint-word-requires
 paint-word-requires c κs =
     let s = c .before .before .before .before .before in
-    let l : s .args .n < blocks 0 = subst (λ h. s .args .n < blocks h) (c .if3 .taken) (s .pre .1 .1) in
+    let l : s .args .n < entryBlocks 0 = subst (λ h. s .args .n < entryBlocks h) (c .if3 .taken) (s .pre .1 .1) in
     (omega arith, s .pre .1 .2)
 
 returns-4 : tie.Need-returns-4

@@ -27,7 +27,8 @@ returns-3 c = λ R f. same-plain _ _ _ _ _ f (c .if1 .taken)
 
 returns-4 : tie.Need-returns-4
 returns-4 c = λ R f.
-    half-two _ _ _ _ _ f (c .if1 .left) (rw (c .before .enum-told3 .given .1) at (c .before .before .before .meeting .ensures))
+    half-two _ _ _ _ _ f (c .if1 .left) (rw (c .before .enum-told3 .given .1)
+    at (c .before .before .before .meeting .ensures))
 
 pub even-part-spec : {M : Type 1} → statement M
 even-part-spec =

@@ -43,7 +43,11 @@ loop-less : tie.Need-loop-less Inv-loop μ-loop
 loop-less c = search needs
 
 loop-again : tie.Need-loop-again Inv-loop μ-loop
-loop-again c = (omega arith, rw (c .before .loop .inv .1) (packed-more _ _ _ _ (c .loop-test .taken) (c .before .loop .inv .0)))
+loop-again c = (
+  omega arith,
+  rw (c .before .loop .inv .1)
+      (packed-more _ _ _ _ (c .loop-test .taken) (c .before .loop .inv .0)),
+)
 
 returns : tie.Need-returns Inv-loop μ-loop
 returns c = c .before .loop .inv .1 ∙ packed-all _ _ _ _ (c .loop-test .left)

@@ -31,14 +31,16 @@ repack-requires c κs = search needs
 returns : tie.Need-returns
 returns c = λ R g.
     let a = c .before .before .before .args in
-    after-apart (a .paint) (a .w) (a .chunk * 16) (omega arith) (rw (c .enum-told .given .1) at (c .before .before .meeting .ensures))
+    after-apart (a .paint) (a .w) (a .chunk * 16) (omega arith)
+    (rw (c .enum-told .given .1) at (c .before .before .meeting .ensures))
     ∙ sym (said-after (a .paint) (a .w) (a .chunk) R g)
 
 returns-2 : tie.Need-returns-2
 returns-2 c = λ R g.
     let a = c .before .before .before .before .args in
     c .sixteen-of .ensures
-    ∙ after-whole (a .paint) (a .w) (a .chunk * 16) (rw (c .before .enum-told2 .given .1) at (c .before .before .before .meeting .ensures))
+    ∙ after-whole (a .paint) (a .w) (a .chunk * 16)
+    (rw (c .before .enum-told2 .given .1) at (c .before .before .before .meeting .ensures))
     ∙ sym (said-after (a .paint) (a .w) (a .chunk) R g)
 
 returns-3 : tie.Need-returns-3

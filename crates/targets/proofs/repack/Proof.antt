@@ -25,11 +25,13 @@ right-after-requires : tie.Need-right-after-requires Inv-loop μ-loop
 right-after-requires c κs = search needs
 
 -- What is packed so far leaves room for one right.
-room : (c : tie.After-right-after Inv-loop μ-loop) → (c .before .before .loop .acc < 1073741824) × (c .right-after .result < 4)
+room : (c : tie.After-right-after Inv-loop μ-loop) → (c .before .before .loop .acc < 1073741824)
+    × (c .right-after .result < 4)
 room c =
     let l = c .before .before .loop in
     let a = c .before .before .before .args in
-    let s : (i : ℕ) → rightAfter (a .paint) (a .w) (a .s) i < 4 = λ i. after-small (a .paint) (a .w) (a .s) i (c .before .before .before .pre .1) in
+    let s : (i : ℕ) → rightAfter (a .paint) (a .w) (a .s) i < 4 = λ i. after-small (a .paint) (a .w) (a .s) i
+    (c .before .before .before .pre .1) in
     let z = packed-room 0 16 (rightAfter (a .paint) (a .w) (a .s)) (l .i) s (c .before .loop-test .taken) in
     (omega (arith, l .inv .1), rw (c .right-after .ensures) (s (l .i - 1)))
 

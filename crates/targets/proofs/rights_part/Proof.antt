@@ -33,7 +33,8 @@ returns : tie.Need-returns
 returns c = λ P.
     let s = c .before .before .before in
     let a = s .args in
-    rights-found (a .paint) P (a .below) (a .e) (a .n) (a .i) _ _ (c .even-part .result) (s .pre .0) (s .pre .3) (c .before .before .right-at .ensures) (c .before .part-words .ensures) (c .even-part .ensures (given P _ _))
+    rights-found (a .paint) P (a .below) (a .e) (a .n) (a .i) _ _ (c .even-part .result) (s .pre .0) (s .pre .3)
+    (c .before .before .right-at .ensures) (c .before .part-words .ensures) (c .even-part .ensures (given P _ _))
 
 pub rights-part-spec : {M : Type 1} → statement M
 rights-part-spec =

@@ -25,11 +25,13 @@ returns-2 : tie.Need-returns-2
 returns-2 c = λ y. absurd (true≢false (sym y))
 
 returns-3 : tie.Need-returns-3
-returns-3 c = λ y P R g. (rw (c .before .before .known .given .1) at (c .before .before .before .before .at-once .ensures)) P R g ∙ ap Says (c .if2 .taken)
+returns-3 c = λ y P R g. (rw (c .before .before .known .given .1)
+    at (c .before .before .before .before .at-once .ensures)) P R g ∙ ap Says (c .if2 .taken)
 
 returns-4 : tie.Need-returns-4
 returns-4 c = λ y. absurd (true≢false (sym y))
 
 pub says-spec : {M : Type 1} → statement M
 says-spec =
-    tie.close (tie.spec stands-requires returns at-once-requires enum-known-known enum-told returns-2 returns-3 returns-4)
+    tie.close (tie.spec stands-requires returns at-once-requires enum-known-known enum-told returns-2 returns-3
+    returns-4)

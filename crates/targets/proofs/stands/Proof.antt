@@ -17,13 +17,15 @@ returns-3 : tie.Need-returns-3
 returns-3 c = λ y.
     let s = c .before .before .before in
     let a = s .args in
-    bare-says (a .paint) (a .height) (a .e) (a .n) (a .same) (c .before .before .if1 .left) (c .before .if2 .left) (omega arith) (s .pre) (leads-high (a .height) (a .e) (c .if3 .taken))
+    bare-says (a .paint) (a .height) (a .e) (a .n) (a .same) (c .before .before .if1 .left) (c .before .if2 .left)
+    (omega arith) (s .pre) (leads-high (a .height) (a .e) (c .if3 .taken))
 
 returns-4 : tie.Need-returns-4
 returns-4 c = λ y.
     let s = c .before .before .before in
     let a = s .args in
-    bare-says (a .paint) (a .height) (a .e) (a .n) (a .same) (c .before .before .if1 .left) (c .before .if2 .left) (omega arith) (s .pre) (leads-leaf (a .height) (a .e) (eqb-true _ 0 y))
+    bare-says (a .paint) (a .height) (a .e) (a .n) (a .same) (c .before .before .if1 .left) (c .before .if2 .left)
+    (omega arith) (s .pre) (leads-leaf (a .height) (a .e) (eqb-true _ 0 y))
 
 pub stands-spec : {M : Type 1} → statement M
 stands-spec = tie.close (tie.spec returns returns-2 returns-3 returns-4)

@@ -12,7 +12,8 @@ returns : tie.Need-returns
 returns c = ahead-all (c .before .pre) (λ j l z. no-table (c .before .args .page) 64 j (c .if1 .taken) z)
 
 returns-2 : tie.Need-returns-2
-returns-2 c = ahead-all (c .before .before .pre) (λ j l. absurd (false≢true (sym (le-ltb _ 2147483648 (c .if2 .taken)) ∙ l)))
+returns-2 c = ahead-all (c .before .before .pre)
+    (λ j l. absurd (false≢true (sym (le-ltb _ 2147483648 (c .if2 .taken)) ∙ l)))
 
 pool-word-requires : tie.Need-pool-word-requires
 pool-word-requires c κs = search needs
@@ -27,7 +28,8 @@ returns-3 : tie.Need-returns-3
 returns-3 c =
     let start = ap (λ w. w .0) (c .before .before .pool-word .ensures) in
     let past = ap (λ w. w .0) (c .before .word-after .ensures) in
-    ahead-as (rw (past, start) at (c .nearer .ensures)) (λ j o l. table-outside (c .before .before .before .before .before .args .page) 64 j o)
+    ahead-as (rw (past, start) at (c .nearer .ensures))
+    (λ j o l. table-outside (c .before .before .before .before .before .args .page) 64 j o)
 
 pub near-leaf-spec : {M : Type 1} → statement M
 near-leaf-spec =

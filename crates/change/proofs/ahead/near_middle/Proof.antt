@@ -12,7 +12,8 @@ returns : tie.Need-returns
 returns c = ahead-all (c .before .pre .2) (λ j l z. absurd (no-table (c .before .args .block) 1024 j (c .if1 .taken) z))
 
 returns-2 : tie.Need-returns-2
-returns-2 c = ahead-all (c .before .before .pre .2) (λ j l. absurd (false≢true (sym (le-ltb _ 2147483648 (c .if2 .taken)) ∙ l)))
+returns-2 c = ahead-all (c .before .before .pre .2)
+    (λ j l. absurd (false≢true (sym (le-ltb _ 2147483648 (c .if2 .taken)) ∙ l)))
 
 mul-begin : tie.Need-mul-begin
 mul-begin c = search needs
@@ -59,7 +60,8 @@ returns-3 c =
     let table = ap (λ w. w .0) (c .before .before .before .pool-word .ensures) in
     let start = ap (λ w. w .0) (c .before .before .word-after .ensures) in
     let past = ap (λ w. w .0) (c .before .word-after2 .ensures) in
-    ahead-as (rw (past, start, table) at (c .nearer .ensures)) (λ j. middle-outside (a .args .plan) (a .pre .0) (a .args .block) _ _ j
+    ahead-as (rw (past, start, table) at (c .nearer .ensures))
+    (λ j. middle-outside (a .args .plan) (a .pre .0) (a .args .block) _ _ j
     (left .if2 .left) (b1 .pages-before .ensures) (b2 .pages-before2 .ensures))
 
 pub near-middle-spec : {M : Type 1} → statement M

@@ -42,7 +42,8 @@ returns c =
     let a = c .before .before .before .before .before .before .before .before .before in
     let root = ap (λ w. w .0) (c .before .before .before .before .before .pool-word .ensures) in
     let start = ap (λ w. w .0) (c .before .before .before .word-after .ensures) in
-    let past : c .before .word-after2 .result .0 ≡ 1024 * a .args .plan .domain + a .args .plan .«last_block» .number + 1 =
+    let past : c .before .word-after2 .result .0
+    ≡ 1024 * a .args .plan .domain + a .args .plan .«last_block» .number + 1 =
     let e = ap (λ w. w .0) (c .before .word-after2 .ensures) in omega arith in
     ahead-as (rw (past, start, root) at (c .nearer .ensures)) (root-outside (a .args .plan) (a .pre .0))
 

@@ -45,14 +45,19 @@ enum-told-2 c = search needs
 returns : tie.Need-returns Inv-loop μ-loop
 returns c =
     let g = c .enum-told2 .given .1 in
-    rw g (wanted-from (c .before .before .before .before .before .loop .inv .2) (in-store _ g (c .before .before .next-in-row .ensures)))
+    rw g (wanted-from (c .before .before .before .before .before .loop .inv .2)
+    (in-store _ g (c .before .before .next-in-row .ensures)))
 
 next-row-requires : tie.Need-next-row-requires Inv-loop μ-loop
 next-row-requires c κs =
     let l = c .before .before .before .before .before in
     let end = ap (λ w. w .0) (l .before .pool-word .ensures) in
-    let f = few-words (l .before .before .before .pre .fits) in
-    (l .before .before .before .pre .follows .0, omega (arith, l .loop .inv .1), omega arith, c .before .before .before .if1 .taken)
+    let f = few-words (l .before .before .before .pre .fits) in (
+      l .before .before .before .pre .follows .0,
+      omega (arith, l .loop .inv .1),
+      omega arith,
+      c .before .before .before .if1 .taken,
+    )
 
 loop-less : tie.Need-loop-less Inv-loop μ-loop
 loop-less c =
@@ -71,7 +76,8 @@ loop-again c =
       r .row .0,
       omega (arith, r .row .1),
       λ u y. r .comes (a .shape) u (a .pool .now) (sym end)
-          (in-none _ (c .before .enum-told .given .1) (c .before .before .before .next-in-row .ensures) u (l .loop .inv .2 u y)),
+          (in-none _ (c .before .enum-told .given .1) (c .before .before .before .next-in-row .ensures) u
+          (l .loop .inv .2 u y)),
     )
 
 returns-2 : tie.Need-returns-2 Inv-loop μ-loop

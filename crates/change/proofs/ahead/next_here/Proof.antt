@@ -27,13 +27,15 @@ phase-of-requires c κs = c .before .before .before .before .before .pre .0 .fit
 -- The word that was read.
 read : (c : tie.After-phase-of) → let a = c .before .before .before .before .before .before .args in
     words (a .pool .now) (c .before .before .pool-index .result) ≡ words (a .pool .now) (a .at .word .0)
-read c = ap (words (c .before .before .before .before .before .before .args .pool .now)) (c .before .before .pool-index .ensures)
+read c = ap (words (c .before .before .before .before .before .before .args .pool .now))
+    (c .before .before .pool-index .ensures)
 
 returns : tie.Need-returns
 returns c =
     let s = c .before .before .before .before .before .before .before in
     let a = s .args in
-    λ u y. turn-other (a .shape) (a .plan) (a .at .phase) (a .at .word .0) (a .pool .now) (omega (arith, s .pre .1, s .pre .0 .follows .2)) u y
+    λ u y. turn-other (a .shape) (a .plan) (a .at .phase) (a .at .word .0) (a .pool .now)
+    (omega (arith, s .pre .1, s .pre .0 .follows .2)) u y
     (λ e. c .if1 .taken (c .before .phase-of .ensures ∙ rw (read (c .before)) e))
 
 final-word-requires : tie.Need-final-word-requires
@@ -44,7 +46,8 @@ returns-2 c =
     let p = c .before .before .before in
     let s = p .before .before .before .before .before .before in
     let a = s .args in
-    λ u y. turn-same (a .shape) (a .plan) (a .at .phase) (a .at .word .0) (a .pool .now) (omega (arith, s .pre .1, s .pre .0 .follows .2)) u y
+    λ u y. turn-same (a .shape) (a .plan) (a .at .phase) (a .at .word .0) (a .pool .now)
+    (omega (arith, s .pre .1, s .pre .0 .follows .2)) u y
     (rw (← read p) (sym (c .before .final-word .ensures) ∙ c .if2 .taken))
 
 word-after-requires : tie.Need-word-after-requires

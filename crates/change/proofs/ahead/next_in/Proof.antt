@@ -18,7 +18,8 @@ next-kept-requires : tie.Need-next-kept-requires
 next-kept-requires c κs = search needs
 
 returns-2 : tie.Need-returns-2
-returns-2 c = ahead-as (c .next-kept .ensures) (λ j z. ⊎-elim inl (λ y. inr (y ∙ sym (ap not (ne-eqb _ 2 (c .before .if1 .left))))) z)
+returns-2 c = ahead-as (c .next-kept .ensures)
+    (λ j z. ⊎-elim inl (λ y. inr (y ∙ sym (ap not (ne-eqb _ 2 (c .before .if1 .left))))) z)
 
 pub next-in-spec : {M : Type 1} → statement M
 next-in-spec = tie.close (tie.spec next-new-requires returns next-kept-requires returns-2)

@@ -1,4 +1,5 @@
--- `ahead::next_in_row` meets its contract. The loop takes every run that stands at the cursor to word `word` of its row.
+-- `ahead::next_in_row` meets its contract. The loop takes every run that stands at the cursor to word `word` of its
+-- row.
 use Prim.Native.Nat.{_+_, _≤_}
 use mathlib.Core.Path.{_≡_, ap}
 use native.Mathlib.Omega.{arith}
@@ -13,7 +14,8 @@ use Rattle.change.proofs.ahead.next_in_row.Tie as tie
 abbrev Inv-loop : tie.InvT-loop
 Inv-loop pool shape plan phase past left₀ word₀ left word =
     (word .0 + left ≡ past .0)
-    × ((u : Run shape (Change plan)) → Stands shape (Change plan) u phase (word₀ .0) pool → Stands shape (Change plan) u phase (word .0) pool)
+    × ((u : Run shape (Change plan)) → Stands shape (Change plan) u phase (word₀ .0) pool
+    → Stands shape (Change plan) u phase (word .0) pool)
 
 abbrev μ-loop : tie.MeasureT-loop
 μ-loop pool shape plan phase past left₀ word₀ left word = left
@@ -33,8 +35,10 @@ loop-holds c = (omega (arith, c .before .before .before .before .before .pre .fo
 next-here-requires : tie.Need-next-here-requires Inv-loop μ-loop
 next-here-requires c κs =
     let p = c .before .before .before .before .before .before .before .pre in
-    let i = c .before .loop .inv .0 in
-    (record { fits = p .fits; sound = p .sound; follows = (p .follows .0, omega arith, p .follows .2) }, omega (arith, c .loop-test .taken))
+    let i = c .before .loop .inv .0 in (
+      record { fits = p .fits; sound = p .sound; follows = (p .follows .0, omega arith, p .follows .2) },
+      omega (arith, c .loop-test .taken),
+    )
 
 enum-told : tie.Need-enum-told Inv-loop μ-loop
 enum-told c = search needs
@@ -45,7 +49,8 @@ enum-told-2 c = search needs
 returns : tie.Need-returns Inv-loop μ-loop
 returns c =
     let g = c .enum-told2 .given .1 in
-    rw g (wanted-from (c .before .before .before .before .loop .inv .1) (in-store _ g (c .before .before .next-here .ensures)))
+    rw g (wanted-from (c .before .before .before .before .loop .inv .1)
+    (in-store _ g (c .before .before .next-here .ensures)))
 
 word-after-requires : tie.Need-word-after-requires Inv-loop μ-loop
 word-after-requires c κs =
@@ -64,13 +69,15 @@ loop-again c =
     let l = c .before .before .before .before .before in
     let e = ap (λ w. w .0) (c .word-after .ensures) in (
       omega (arith, l .loop .inv .0, c .before .before .before .before .loop-test .taken),
-      λ u y. rw e (in-none _ (c .before .enum-told .given .1) (c .before .before .before .next-here .ensures) u (l .loop .inv .1 u y)),
+      λ u y. rw e (in-none _ (c .before .enum-told .given .1) (c .before .before .before .next-here .ensures) u
+          (l .loop .inv .1 u y)),
     )
 
 returns-2 : tie.Need-returns-2 Inv-loop μ-loop
 returns-2 c =
     let l = c .before .loop in
-    let e : l .word .0 ≡ c .before .before .before .before .before .before .before .args .at .past .0 = omega (arith, l .inv .0, c .loop-test .left) in
+    let e : l .word .0 ≡ c .before .before .before .before .before .before .before .args .at .past .0 =
+    omega (arith, l .inv .0, c .loop-test .left) in
     λ u y. rw e at (l .inv .1 u y)
 
 pub next-in-row-spec : {M : Type 1} → statement M

@@ -22,9 +22,11 @@ near-leaf-requires-2 c κs = search needs
 returns : tie.Need-returns
 returns c =
     ahead-as
-    (ahead-both (ahead-both (ahead-both (ahead-both (c .before .before .before .before .near-root .ensures) (c .before .before .before .near-middle .ensures)) (c .before .before .near-middle2 .ensures))
+    (ahead-both (ahead-both (ahead-both (ahead-both (c .before .before .before .before .near-root .ensures)
+    (c .before .before .before .near-middle .ensures)) (c .before .before .near-middle2 .ensures))
     (c .before .near-leaf .ensures)) (c .near-leaf2 .ensures))
-    (λ j z. kept-idle (c .before .before .before .before .before .args .plan) j (z .0 .0 .0 .0) (z .0 .0 .0 .1) (z .0 .0 .1) (z .0 .1) (z .1))
+    (λ j z. kept-idle (c .before .before .before .before .before .args .plan) j (z .0 .0 .0 .0) (z .0 .0 .0 .1)
+    (z .0 .0 .1) (z .0 .1) (z .1))
 
 pub next-kept-spec : {M : Type 1} → statement M
 next-kept-spec =

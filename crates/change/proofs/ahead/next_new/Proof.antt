@@ -18,7 +18,8 @@ near-new-requires-4 c κs = search needs
 
 returns : tie.Need-returns
 returns c =
-    ahead-as (ahead-both (ahead-both (ahead-both (c .before .before .before .near-new .ensures) (c .before .before .near-new2 .ensures)) (c .before .near-new3 .ensures)) (c .near-new4 .ensures))
+    ahead-as (ahead-both (ahead-both (ahead-both (c .before .before .before .near-new .ensures)
+    (c .before .before .near-new2 .ensures)) (c .before .near-new3 .ensures)) (c .near-new4 .ensures))
     (λ j z. new-idle (c .before .before .before .before .args .plan) j (z .0 .0 .0) (z .0 .0 .1) (z .0 .1) (z .1))
 
 pub next-new-spec : {M : Type 1} → statement M

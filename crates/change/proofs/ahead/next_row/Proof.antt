@@ -38,7 +38,8 @@ returns-2 c =
     let a = n .before .before .before .before .before .args in
     let r = n .next-in .ensures in
     let row = n .next-in .result in
-    let o : row .from .0 < row .past .0 = ⊎-elim (λ h. h) (λ e. absurd (let z = ap (λ r. r .past .0) e in omega arith)) (r .some) in
+    let o : row .from .0 < row .past .0 = ⊎-elim (λ h. h)
+    (λ e. absurd (let z = ap (λ r. r .past .0) e in omega arith)) (r .some) in
     let f = r .from in record {
       row = (omega arith, omega arith);
       last = omega arith;
@@ -55,7 +56,8 @@ returns-3 c =
       row = (r .upto, omega arith);
       last = omega arith;
       moves = omega arith;
-      comes = λ s u x e y. row-ahead s (a .plan) (a .at .phase) (a .at .past .0) x u y (n .next-in .result .from .0) f (r .passed);
+      comes = λ s u x e y. row-ahead s (a .plan) (a .at .phase) (a .at .past .0) x u y (n .next-in .result .from .0) f
+          (r .passed);
     }
 
 pub next-row-spec : {M : Type 1} → statement M

@@ -1,4 +1,5 @@
--- `tidying::next_given_up` meets its contract. The loop takes every tidying that stands at word `from` of the table to its word `i`.
+-- `tidying::next_given_up` meets its contract. The loop takes every tidying that stands at word `from` of the table
+-- to its word `i`.
 use Prim.Native.Nat.{_+_, _-_, _≤_, _<_}
 use mathlib.Core.Path.{_≡_, refl, ap, _∙_}
 use native.Mathlib.Omega.{arith}
@@ -14,7 +15,8 @@ use Rattle.change.proofs.tidying.next_given_up.Tie as tie
 abbrev Inv-loop : tie.InvT-loop
 Inv-loop pool shape owner base from i₀ i =
     (i ≤ 1024)
-    × ((u : Run shape Tidying) → Stands shape Tidying u 1 (base .0 + from) pool → Stands shape Tidying u 1 (base .0 + i) pool)
+    × ((u : Run shape Tidying) → Stands shape Tidying u 1 (base .0 + from) pool → Stands shape Tidying u 1
+    (base .0 + i) pool)
 
 abbrev μ-loop : tie.MeasureT-loop
 μ-loop pool shape owner base from i₀ i = 1024 - i
@@ -71,7 +73,8 @@ returns c =
       inside = omega (arith, inside i, i .before .before .before .pre .0 .0 .long);
       word = ap (λ w. w .0) (c .word-after2 .ensures) ∙ rw e;
       follows = refl;
-      stores = λ u y. aim-stores (a .shape) u (a .base .0 + l .i) _ _ (c .before .before .target .given .1) (t .target-at .ensures) (l .inv .1 u y);
+      stores = λ u y. aim-stores (a .shape) u (a .base .0 + l .i) _ _ (c .before .before .target .given .1)
+          (t .target-at .ensures) (l .inv .1 u y);
     })
 
 enum-told : tie.Need-enum-told Inv-loop μ-loop
@@ -91,7 +94,8 @@ loop-again c =
     let a = i .before .before .before .args in
     let e : a .base .0 + l .i + 1 ≡ a .base .0 + (l .i + 1) = omega arith in (
       omega (arith, i .loop-test .taken),
-      λ u y. rw e at (aim-passes (a .shape) u (a .base .0 + l .i) _ (c .enum-told .given .1) (t .target-at .ensures) (l .inv .1 u y)),
+      λ u y. rw e at (aim-passes (a .shape) u (a .base .0 + l .i) _ (c .enum-told .given .1) (t .target-at .ensures)
+          (l .inv .1 u y)),
     )
 
 add-i-2 : tie.Need-add-i-2 Inv-loop μ-loop
@@ -110,7 +114,8 @@ loop-again-2 c =
     let a = s .args in
     let e = here w in (
       n .ensures .0,
-      λ u y. plain-passed (a .shape) (a .pool .now) (a .owner) (a .base .0) (l .i) (n .result) (s .pre .1 .0) (n .ensures .0)
+      λ u y. plain-passed (a .shape) (a .pool .now) (a .owner) (a .base .0) (l .i) (n .result) (s .pre .1 .0)
+          (n .ensures .0)
           (rw e at (n .ensures .1)) u (l .inv .1 u y),
     )
 

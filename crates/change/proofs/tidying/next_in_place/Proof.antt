@@ -26,7 +26,8 @@ next-given-up-requires : tie.Need-next-given-up-requires
 next-given-up-requires c κs =
     let s = c .before .before .before .before in
     let p = s .pre in
-    let b : s .args .base .0 < firstMiddle (s .args .shape .domains) = omega (arith, c .before .pool-index .ensures, c .if1 .taken) in
+    let b : s .args .base .0 < firstMiddle (s .args .shape .domains) =
+    omega (arith, c .before .pool-index .ensures, c .if1 .taken) in
     (p .0, (inl (place-root (s .args .shape) _ (p .1 .1 .0) b), p .1 .1 .1))
 
 returns : tie.Need-returns
@@ -36,7 +37,8 @@ returns c = c .next-given-up .ensures
 middle : (c : tie.Else1) → let a = c .before .before .before .before .args in MiddlePlace (a .shape) (a .base .0)
 middle c =
     let s = c .before .before .before .before in
-    let b : firstMiddle (s .args .shape .domains) ≤ s .args .base .0 = omega (arith, c .before .pool-index .ensures, c .if1 .left) in
+    let b : firstMiddle (s .args .shape .domains) ≤ s .args .base .0 =
+    omega (arith, c .before .pool-index .ensures, c .if1 .left) in
     place-middle (s .args .shape) _ (s .pre .1 .1 .0) b
 
 cast-p : tie.Need-cast-p
@@ -56,7 +58,8 @@ shared-slice-read-owner c =
 
 -- No root word but the owner leads here.
 only : (c : tie.After-shared-slice-known3) → let a = c .before .before .before .before .before .args in
-    OnlyFrom (a .shape) (a .pool .now) (getD (a .owners .now) ((c .before .before .pool-index .result - 1024 * a .shape .domains) / 1024) 0) (a .base .0)
+    OnlyFrom (a .shape) (a .pool .now) (getD (a .owners .now)
+    ((c .before .before .pool-index .result - 1024 * a .shape .domains) / 1024) 0) (a .base .0)
 only c =
     let s = c .before .before .before .before .before in
     let a = s .args in
@@ -80,16 +83,25 @@ pool-index-requires-2 c κs = search needs
 -- The owner's root word,
 owner-word : (c : tie.After-pool-index2) → let o = c .before .before .before in
     c .pool-index2 .result ≡ getD (o .before .before .before .before .before .args .owners .now)
-    ((o .before .before .pool-index .result - 1024 * o .before .before .before .before .before .args .shape .domains) / 1024) 0
+    ((o .before .before .pool-index .result - 1024 *
+    o .before .before .before .before .before .args .shape .domains) / 1024) 0
 owner-word c = c .pool-index2 .ensures ∙ ap (λ w. w .0) (c .before .pool-word .ensures)
 
 mul-w : tie.Need-mul-w
-mul-w c = let e = owner-word c in omega (arith, c .before .before .if2 .left, c .before .before .before .before .before .before .before .before .pre .0 .0 .range)
+mul-w c = let e = owner-word c in omega (
+  arith,
+  c .before .before .if2 .left,
+  c .before .before .before .before .before .before .before .before .pre .0 .0 .range,
+)
 
 shared-slice-read-w : tie.Need-shared-slice-read-w
 shared-slice-read-w c =
     let e = owner-word (c .before) in
-    omega (arith, c .before .before .before .if2 .left, c .before .before .before .before .before .before .before .before .before .pre .0 .0 .long)
+    omega (
+      arith,
+      c .before .before .before .if2 .left,
+      c .before .before .before .before .before .before .before .before .before .pre .0 .0 .long,
+    )
 
 cast-if3 : tie.Need-cast-if3
 cast-if3 c = omega (arith, c .shared-slice-known4 .given (c .before .pool-index2 .result))
@@ -114,7 +126,12 @@ next-given-up-requires-2 c κs =
     let e = ap (words (s .args .pool .now)) (owner-word i) in (
       s .pre .0,
       (
-        inr (record { root = i .before .before .if2 .left; leads = sym e ∙ c .if3 .left ∙ m .before .pool-index .ensures; place = middle m }),
+        inr (record {
+          root = i .before .before .if2 .left;
+          leads = sym e ∙ c .if3 .left
+              ∙ m .before .pool-index .ensures;
+          place = middle m;
+        }),
         s .pre .1 .1 .1,
       ),
     )

@@ -48,14 +48,23 @@ cast-next-in-place : tie.Need-cast-next-in-place Inv-loop μ-loop
 cast-next-in-place c = search needs
 
 -- The place in which the word stands.
-base : (c : tie.After-pool-word Inv-loop μ-loop) → let k = c .before .before .loop .k in c .pool-word .result .0 ≡ k - k % 1024
+base : (c : tie.After-pool-word Inv-loop μ-loop) → let k = c .before .before .loop .k in c .pool-word .result .0
+    ≡ k - k % 1024
 base c = ap (λ w. w .0) (c .pool-word .ensures)
 
 next-in-place-requires : tie.Need-next-in-place-requires Inv-loop μ-loop
 next-in-place-requires c κs =
     let s = c .before .before .before .before .before .before in
-    let p = s .pre .0 in
-    ((p .fits, p .sound), (s .pre .1, (rw (base c) (place-at (s .args .shape) _ (c .before .loop-test .taken)), omega arith)))
+    let p = s .pre .0 in (
+      (p .fits, p .sound),
+      (
+        s .pre .1,
+        (
+          rw (base c) (place-at (s .args .shape) _ (c .before .loop-test .taken)),
+          omega arith,
+        ),
+      ),
+    )
 
 enum-told : tie.Need-enum-told Inv-loop μ-loop
 enum-told c = search needs
@@ -64,7 +73,8 @@ enum-told-2 : tie.Need-enum-told-2 Inv-loop μ-loop
 enum-told-2 c = search needs
 
 -- From where it stands on.
-from : (c : tie.After-pool-word Inv-loop μ-loop) → let k = c .before .before .loop .k in c .pool-word .result .0 + k % 1024 ≡ k
+from : (c : tie.After-pool-word Inv-loop μ-loop) → let k = c .before .before .loop .k in c .pool-word .result .0 +
+    k % 1024 ≡ k
 from c = let e = base c in omega arith
 
 returns : tie.Need-returns Inv-loop μ-loop
@@ -80,7 +90,11 @@ sub-k : tie.Need-sub-k Inv-loop μ-loop
 sub-k c = search needs
 
 add-k : tie.Need-add-k Inv-loop μ-loop
-add-k c = omega (arith, c .before .before .before .before .loop-test .taken, c .before .before .before .before .before .before .before .before .before .pre .0 .fits .range)
+add-k c = omega (
+  arith,
+  c .before .before .before .before .loop-test .taken,
+  c .before .before .before .before .before .before .before .before .before .pre .0 .fits .range,
+)
 
 loop-less : tie.Need-loop-less Inv-loop μ-loop
 loop-less c = omega (arith, c .before .before .before .before .loop-test .taken)
@@ -91,7 +105,8 @@ loop-again c =
     let l = p .before .before in
     let k = l .loop .k in
     let e : p .pool-word .result .0 + 1024 ≡ k - k % 1024 + 1024 = rw (base p) in
-    λ u y. rw e at (in-none _ (c .enum-told .given .1) (rw (from p) at (c .before .before .next-in-place .ensures)) u (l .loop .inv u y))
+    λ u y. rw e at (in-none _ (c .enum-told .given .1) (rw (from p) at (c .before .before .next-in-place .ensures)) u
+    (l .loop .inv u y))
 
 returns-2 : tie.Need-returns-2 Inv-loop μ-loop
 returns-2 c =

@@ -6,12 +6,14 @@ use borrow.Author.Needs.{needs}
 use borrow.Author.Tests.{lt-ltb}
 use Rattle.table.specs.Shape.{firstMiddle}
 use Rattle.change.specs.Tidying.{Owns}
-use Rattle.change.proofs.TidyAimLaws.{root-reads, root-aim, page-reads, page-aim, table-inside, table-root, table-owned, table-passed}
+use Rattle.change.proofs.TidyAimLaws.{root-reads, root-aim, page-reads, page-aim, table-inside, table-root}
+use Rattle.change.proofs.TidyAimLaws.{table-owned, table-passed}
 use Rattle.change.proofs.tidying.target_at.Statement.{statement}
 use Rattle.change.proofs.tidying.target_at.Tie as tie
 
 word-after-requires : tie.Need-word-after-requires
-word-after-requires c κs = let p = c .before .pre in omega (arith, table-inside _ _ _ _ _ (p .1 .0) (p .1 .1), p .0 .0 .range)
+word-after-requires c κs = let p = c .before .pre in
+    omega (arith, table-inside _ _ _ _ _ (p .1 .0) (p .1 .1), p .0 .0 .range)
 
 pool-index-requires : tie.Need-pool-index-requires
 pool-index-requires c κs = search needs
@@ -37,7 +39,8 @@ returns c =
     let s = c .before .before .before .before .before in
     let a = s .args in
     let e = at (c .before .before) in
-    table-passed (a .shape) (a .pool .now) (a .owner) (a .base .0) (a .i) (s .pre .1 .0) (s .pre .1 .1) (rw e at (c .if1 .taken))
+    table-passed (a .shape) (a .pool .now) (a .owner) (a .base .0) (a .i) (s .pre .1 .0) (s .pre .1 .1)
+    (rw e at (c .if1 .taken))
 
 pool-index-requires-2 : tie.Need-pool-index-requires-2
 pool-index-requires-2 c κs = search needs
@@ -56,7 +59,8 @@ root : (c : tie.Then2) → let a = c .before .before .before .before .before .be
     a .base .0 + a .i < firstMiddle (a .shape .domains)
 root c =
     let s = c .before .before .before .before .before .before .before in
-    let b : s .args .base .0 < firstMiddle (s .args .shape .domains) = omega (arith, c .before .pool-index2 .ensures, c .if2 .taken) in
+    let b : s .args .base .0 < firstMiddle (s .args .shape .domains) =
+    omega (arith, c .before .pool-index2 .ensures, c .if2 .taken) in
     table-root _ _ _ _ _ (s .pre .1 .0) (s .pre .1 .1) b
 
 -- or a middle table that has an owner.
@@ -64,14 +68,16 @@ owned : (c : tie.Else2) → let a = c .before .before .before .before .before .b
     Owns (a .shape) (a .pool .now) (a .owner) (a .base .0)
 owned c =
     let s = c .before .before .before .before .before .before .before in
-    let b : firstMiddle (s .args .shape .domains) ≤ s .args .base .0 = omega (arith, c .before .pool-index2 .ensures, c .if2 .left) in
+    let b : firstMiddle (s .args .shape .domains) ≤ s .args .base .0 =
+    omega (arith, c .before .pool-index2 .ensures, c .if2 .left) in
     table-owned _ _ _ _ (s .pre .1 .0) b
 
 block-target-requires : tie.Need-block-target-requires
 block-target-requires c κs =
     let s = c .before .before .before .before .before .before .before in
     let a = s .args in
-    rw (at (c .before .before .before .before)) (root-reads (a .shape) (a .pool .now) _ (root c) (s .pre .0 .0) (s .pre .0 .1), omega arith)
+    rw (at (c .before .before .before .before))
+    (root-reads (a .shape) (a .pool .now) _ (root c) (s .pre .0 .0) (s .pre .0 .1), omega arith)
 
 returns-2 : tie.Need-returns-2
 returns-2 c =
@@ -90,8 +96,10 @@ page-target-requires : tie.Need-page-target-requires
 page-target-requires c κs =
     let s = c .before .before .before .before .before .before .before in
     let a = s .args in
-    rw (at (c .before .before .before .before))
-    (page-reads (a .shape) (a .pool .now) _ _ (owned c) _ (s .pre .1 .1) (s .pre .0 .0) (s .pre .0 .1), omega (arith, s .pre .1 .1))
+    rw (at (c .before .before .before .before)) (
+      page-reads (a .shape) (a .pool .now) _ _ (owned c) _ (s .pre .1 .1) (s .pre .0 .0) (s .pre .0 .1),
+      omega (arith, s .pre .1 .1),
+    )
 
 returns-3 : tie.Need-returns-3
 returns-3 c =

@@ -18,14 +18,16 @@ use Rattle.change.proofs.tidying.tidy.Tie as tie
 fits-at : (c : tie.Else1) → let a = c .before .before .before .args in Fits (a .shape) (length (a .pool .now))
 fits-at c = test-fits _ _ (sym (c .before .shape-fits .ensures) ∙ not-false _ (c .if1 .left))
 
-sound-at : (c : tie.Else2) → let a = c .before .before .before .before .before .before .before .before .args in SoundPool (formOf (a .shape)) (words (a .pool .now))
+sound-at : (c : tie.Else2) → let a = c .before .before .before .before .before .before .before .before .args in
+    SoundPool (formOf (a .shape)) (words (a .pool .now))
 sound-at c = c .before .before .census .ensures .sound (not-false _ (c .if2 .left))
 
 shape-fits-requires : tie.Need-shape-fits-requires
 shape-fits-requires c κs = search needs
 
 returns : tie.Need-returns
-returns c = no-shape (λ f. true≢false (sym (fits-test _ _ f) ∙ sym (c .before .shape-fits .ensures) ∙ not-true _ (c .if1 .taken)))
+returns c = no-shape (λ f. true≢false (sym (fits-test _ _ f) ∙ sym (c .before .shape-fits .ensures)
+    ∙ not-true _ (c .if1 .taken)))
 
 slice-aggregate-census : tie.Need-slice-aggregate-census
 slice-aggregate-census c = search needs
@@ -37,7 +39,8 @@ same-length : tie.Need-same-length
 same-length c = search needs
 
 returns-2 : tie.Need-returns-2
-returns-2 c = unsound (fits-at (c .before .before .before .before .before)) (λ o. true≢false (sym (c .before .before .census .ensures .whole o) ∙ not-true _ (c .if2 .taken)))
+returns-2 c = unsound (fits-at (c .before .before .before .before .before))
+    (λ o. true≢false (sym (c .before .before .census .ensures .whole o) ∙ not-true _ (c .if2 .taken)))
 
 slice-aggregate-make-stores : tie.Need-slice-aggregate-make-stores
 slice-aggregate-make-stores c = search needs
@@ -45,8 +48,11 @@ slice-aggregate-make-stores c = search needs
 make-stores-requires : tie.Need-make-stores-requires
 make-stores-requires c κs =
     let e = c .before .before in
-    let fits = fits-at (e .before .before .before .before .before) in
-    (tidy-ready _ _ fits (sound-at e), owners-begin fits (e .before .before .census .ensures .owners (not-false _ (e .if2 .left))))
+    let fits = fits-at (e .before .before .before .before .before) in (
+      tidy-ready _ _ fits (sound-at e),
+      owners-begin fits
+          (e .before .before .census .ensures .owners (not-false _ (e .if2 .left))),
+    )
 
 same-length-2 : tie.Need-same-length-2
 same-length-2 c = search needs
@@ -54,7 +60,8 @@ same-length-2 c = search needs
 returns-3 : tie.Need-returns-3
 returns-3 c =
     let e = c .before .before .before .before .before in
-    tidy-answers (fits-at (e .before .before .before .before .before)) (sound-at e) (c .before .before .make-stores .ensures)
+    tidy-answers (fits-at (e .before .before .before .before .before)) (sound-at e)
+    (c .before .before .make-stores .ensures)
 
 pub tidy-spec : {M : Type 1} → statement M
 tidy-spec =

@@ -10,7 +10,8 @@ use Rattle.gates.proofs.places.close_up.Tie as tie
 
 abbrev Inv-loop : tie.InvT-loop
 Inv-loop place n left last s₀ i₀ s i =
-    (i < s₀ .count) × (length (s .places) ≡ 64) × (closed (s₀ .count) i (s .places) ≡ closed (s₀ .count) place (s₀ .places))
+    (i < s₀ .count) × (length (s .places) ≡ 64)
+    × (closed (s₀ .count) i (s .places) ≡ closed (s₀ .count) place (s₀ .places))
 
 abbrev μ-loop : tie.MeasureT-loop
 μ-loop place n left last s₀ i₀ s i = s₀ .count - i
@@ -58,7 +59,8 @@ returns c =
     let G = c .before .before .args .gates in
     let l = c .before .loop in
     let e : G .count - 1 ≡ l .i = omega arith in
-    rw (sym (closed-last (G .count) (l .s .places) (omega arith) (omega arith)) ∙ ap (λ j. closed (G .count) j (l .s .places)) e ∙ l .inv .2)
+    rw (sym (closed-last (G .count) (l .s .places) (omega arith) (omega arith))
+    ∙ ap (λ j. closed (G .count) j (l .s .places)) e ∙ l .inv .2)
 
 pub close-up-spec : {M : Type 1} → statement M
 close-up-spec =

@@ -25,7 +25,8 @@ returns : tie.Need-returns
 returns c =
     let a = c .before .before .before .args in
     let n : length (a .t1 .places) ≡ 64 = search (needs, unmapped) in
-    let e : c .before .before .place-of .result ≡ placeOf (a .t1) (a .domain) (a .address .0) = c .before .before .place-of .ensures in
+    let e : c .before .before .place-of .result ≡ placeOf (a .t1) (a .domain) (a .address .0) =
+    c .before .before .place-of .ensures in
     rw e (sym (gate-at (a .t1) (a .domain) (a .address .0) (omega arith) _ (omega arith)))
 
 returns-2 : tie.Need-returns-2

@@ -10,7 +10,8 @@ use Rattle.gates.proofs.places.place_of.Statement.{statement}
 use Rattle.gates.proofs.places.place_of.Tie as tie
 
 abbrev Inv-loop : tie.InvT-loop
-Inv-loop domain address gates n count i₀ i = (i ≤ gates .count) × Passed (standsAt domain (address .0)) (gates .places) (gates .count) i
+Inv-loop domain address gates n count i₀ i = (i ≤ gates .count) × Passed (standsAt domain (address .0))
+    (gates .places) (gates .count) i
 
 abbrev μ-loop : tie.MeasureT-loop
 μ-loop domain address gates n count i₀ i = gates .count - i
@@ -35,7 +36,8 @@ returns c =
     let l = c .before .before .before .before in
     let a = l .before .args in
     let n : length (a .t1 .places) ≡ 64 = search (needs, unmapped) in
-    sym (passed-hit (standsAt (a .domain) (a .address .0)) (a .t1 .places) (a .t1 .count) _ (omega arith) (l .loop .i) (omega arith)
+    sym (passed-hit (standsAt (a .domain) (a .address .0)) (a .t1 .places) (a .t1 .count) _ (omega arith) (l .loop .i)
+    (omega arith)
     (sym (c .before .stands-at .ensures) ∙ c .if1 .taken) (l .loop .inv .1))
 
 add-i : tie.Need-add-i Inv-loop μ-loop
@@ -50,7 +52,8 @@ loop-again c =
     let a = l .before .args in
     let n : length (a .t1 .places) ≡ 64 = search (needs, unmapped) in (
       omega arith,
-      passed-more (standsAt (a .domain) (a .address .0)) (a .t1 .places) (a .t1 .count) _ (omega arith) (l .loop .i) (omega arith)
+      passed-more (standsAt (a .domain) (a .address .0)) (a .t1 .places) (a .t1 .count) _ (omega arith) (l .loop .i)
+          (omega arith)
           (sym (c .before .stands-at .ensures) ∙ c .if1 .left) (l .loop .inv .1),
     )
 
@@ -59,7 +62,8 @@ returns-2 c =
     let a = c .before .before .args in
     let n : length (a .t1 .places) ≡ 64 = search (needs, unmapped) in
     let e : c .before .loop .i ≡ a .t1 .count = omega arith in
-    sym (passed-all (standsAt (a .domain) (a .address .0)) (a .t1 .places) (a .t1 .count) noGate (omega arith) (rw e at (c .before .loop .inv .1)))
+    sym (passed-all (standsAt (a .domain) (a .address .0)) (a .t1 .places) (a .t1 .count) noGate (omega arith)
+    (rw e at (c .before .loop .inv .1)))
 
 pub place-of-spec : {M : Type 1} → statement M
 place-of-spec =

@@ -15,7 +15,11 @@ addr-number-requires-2 c κs = search needs
 
 returns-2 : tie.Need-returns-2
 returns-2 c = let a = c .before .before .before .before .args in
-    rw (eq-eqb (a .g .domain) (a .domain) (c .before .before .before .if1 .left), c .before .addr-number .ensures, c .addr-number2 .ensures)
+    rw (
+      eq-eqb (a .g .domain) (a .domain) (c .before .before .before .if1 .left),
+      c .before .addr-number .ensures,
+      c .addr-number2 .ensures,
+    )
 
 pub stands-at-spec : {M : Type 1} → statement M
 stands-at-spec = tie.close (tie.spec returns addr-number-requires addr-number-requires-2 returns-2)

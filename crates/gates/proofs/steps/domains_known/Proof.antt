@@ -18,7 +18,11 @@ unfolding domainsKnown
 returns-2 c =
     let e = c .before .before in
     let a = e .before .args in
-    rw (lt-ltb (a .stack .current) (a .domains) (e .if1 .left), sym (c .before .frames-below .ensures) ∙ not-true _ (c .if2 .taken))
+    rw (
+      lt-ltb (a .stack .current) (a .domains) (e .if1 .left),
+      sym (c .before .frames-below .ensures)
+          ∙ not-true _ (c .if2 .taken),
+    )
 
 gates-below-requires : tie.Need-gates-below-requires
 gates-below-requires c κs = search needs

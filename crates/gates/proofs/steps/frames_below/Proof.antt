@@ -33,7 +33,8 @@ returns c =
     let l = c .before .before .before in
     let a = l .before .args in
     let n : length (a .t1 .frames) ≡ 16 = search (needs, unmapped) in
-    sym (tested-fails (frameBelow (a .domains)) (a .t1 .frames) (a .t1 .depth) noFrame (omega arith) (l .loop .i) (omega arith)
+    sym (tested-fails (frameBelow (a .domains)) (a .t1 .frames) (a .t1 .depth) noFrame (omega arith) (l .loop .i)
+    (omega arith)
     (le-ltb (getD (a .t1 .frames) (l .loop .i) noFrame .domain) (a .domains) (c .if1 .taken)) (l .loop .inv .1))
 
 add-i : tie.Need-add-i Inv-loop μ-loop
@@ -48,7 +49,8 @@ loop-again c =
     let a = l .before .args in
     let n : length (a .t1 .frames) ≡ 16 = search (needs, unmapped) in (
       omega arith,
-      tested-more (frameBelow (a .domains)) (a .t1 .frames) (a .t1 .depth) noFrame (omega arith) (l .loop .i) (omega arith)
+      tested-more (frameBelow (a .domains)) (a .t1 .frames) (a .t1 .depth) noFrame (omega arith) (l .loop .i)
+          (omega arith)
           (lt-ltb (getD (a .t1 .frames) (l .loop .i) noFrame .domain) (a .domains) (c .if1 .left)) (l .loop .inv .1),
     )
 
@@ -57,7 +59,8 @@ returns-2 c =
     let a = c .before .before .args in
     let n : length (a .t1 .frames) ≡ 16 = search (needs, unmapped) in
     let e : c .before .loop .i ≡ a .t1 .depth = omega arith in
-    sym (tested-all (frameBelow (a .domains)) (a .t1 .frames) (a .t1 .depth) noFrame (omega arith) (rw e at (c .before .loop .inv .1)))
+    sym (tested-all (frameBelow (a .domains)) (a .t1 .frames) (a .t1 .depth) noFrame (omega arith)
+    (rw e at (c .before .loop .inv .1)))
 
 pub frames-below-spec : {M : Type 1} → statement M
 frames-below-spec =

@@ -11,7 +11,11 @@ leads-below-requires : tie.Need-leads-below-requires
 leads-below-requires c κs = search needs
 
 returns-2 : tie.Need-returns-2
-returns-2 c = rw (lt-ltb (c .before .before .args .g .domain) (c .before .before .args .domains) (c .before .if1 .left), c .leads-below .ensures)
+returns-2 c = rw (
+  lt-ltb (c .before .before .args .g .domain) (c .before .before .args .domains)
+      (c .before .if1 .left),
+  c .leads-below .ensures,
+)
 
 pub gate-below-spec : {M : Type 1} → statement M
 gate-below-spec = tie.close (tie.spec returns leads-below-requires returns-2)

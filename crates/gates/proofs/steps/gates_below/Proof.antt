@@ -61,7 +61,8 @@ returns-2 c =
     let a = c .before .before .args in
     let n : length (a .t1 .places) ≡ 64 = search (needs, unmapped) in
     let e : c .before .loop .i ≡ a .t1 .count = omega arith in
-    sym (tested-all (gateBelow (a .domains)) (a .t1 .places) (a .t1 .count) noGate (omega arith) (rw e at (c .before .loop .inv .1)))
+    sym (tested-all (gateBelow (a .domains)) (a .t1 .places) (a .t1 .count) noGate (omega arith)
+    (rw e at (c .before .loop .inv .1)))
 
 pub gates-below-spec : {M : Type 1} → statement M
 gates-below-spec =

@@ -36,7 +36,8 @@ returns-2 c =
     let n = c .before in
     rw (
       ne-eqb (a .t1 .depth) 0 (e .if1 .left),
-      ne-eqb (top (a .t1) .back .0) (a .target .0) (λ q. c .if2 .taken (n .before .addr-number .ensures ∙ q ∙ sym (n .addr-number2 .ensures))),
+      ne-eqb (top (a .t1) .back .0) (a .target .0)
+          (λ q. c .if2 .taken (n .before .addr-number .ensures ∙ q ∙ sym (n .addr-number2 .ensures))),
     )
 
 returns-3 : tie.Need-returns-3
@@ -47,7 +48,8 @@ returns-3 c =
     let n = c .before in
     rw (
       ne-eqb (a .t1 .depth) 0 (e .if1 .left),
-      eq-eqb (top (a .t1) .back .0) (a .target .0) (sym (n .before .addr-number .ensures) ∙ c .if2 .left ∙ n .addr-number2 .ensures),
+      eq-eqb (top (a .t1) .back .0) (a .target .0)
+          (sym (n .before .addr-number .ensures) ∙ c .if2 .left ∙ n .addr-number2 .ensures),
     )
 
 pub give-back-spec : {M : Type 1} → statement M

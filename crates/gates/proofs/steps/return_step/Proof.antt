@@ -20,7 +20,12 @@ give-back-requires c κs = search needs
 returns-2 : tie.Need-returns-2
 returns-2 c =
     let e = c .before in
-    rw (c .give-back .ensures, ← e .before .before .fetch .ensures, sym (e .before .is-pass .ensures) ∙ not-false _ (e .if1 .left))
+    rw (
+      c .give-back .ensures,
+      ← e .before .before .fetch .ensures,
+      sym (e .before .is-pass .ensures)
+          ∙ not-false _ (e .if1 .left),
+    )
 
 pub return-step-spec : {M : Type 1} → statement M
 return-step-spec =

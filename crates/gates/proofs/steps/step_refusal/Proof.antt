@@ -21,7 +21,11 @@ returns-2 : tie.Need-returns-2
 unfolding stepRefusal
 returns-2 c =
     let a = c .before .before .before .args in
-    rw (sym (c .before .before .shape-fits .ensures) ∙ not-false _ (c .before .if1 .left), lt-ltb maxGates (a .gates .count) (c .if2 .taken))
+    rw (
+      sym (c .before .before .shape-fits .ensures) ∙ not-false _ (c .before .if1 .left),
+      lt-ltb maxGates
+          (a .gates .count) (c .if2 .taken),
+    )
 
 returns-3 : tie.Need-returns-3
 unfolding stepRefusal
@@ -36,7 +40,8 @@ returns-3 c =
 -- The shape and the counts are in order: what is left to refuse.
 counts : (c : tie.Else3) → let a = c .before .before .before .before .args in
     stepRefusal (a .long) (a .shape) (a .gates) (a .stack) (a .address .0) (a .target .0)
-    ≡ cond (not (domainsKnown (a .gates) (a .stack) (a .shape .domains))) 2 (cond (not (eqb (a .address .0 % 4) 0 && eqb (a .target .0 % 4) 0)) 10 0)
+    ≡ cond (not (domainsKnown (a .gates) (a .stack) (a .shape .domains))) 2
+    (cond (not (eqb (a .address .0 % 4) 0 && eqb (a .target .0 % 4) 0)) 10 0)
 unfolding stepRefusal
 counts c =
     let a = c .before .before .before .before .args in

@@ -21,7 +21,12 @@ unfolding switchStep
 returns-2 c =
     let f = c .before .before in
     let a = f .before .before .before .args in
-    rw (lt-ltb (a .stack .depth) maxDepth (f .before .if1 .left), ← f .fetch .ensures, sym (c .before .is-pass .ensures) ∙ not-true _ (c .if2 .taken))
+    rw (
+      lt-ltb (a .stack .depth) maxDepth (f .before .if1 .left),
+      ← f .fetch .ensures,
+      sym
+          (c .before .is-pass .ensures) ∙ not-true _ (c .if2 .taken),
+    )
 
 push-requires : tie.Need-push-requires
 push-requires c κs = search needs

@@ -26,7 +26,8 @@ same-length-2 : tie.Need-same-length-2
 same-length-2 c = search needs
 
 returns-2 : tie.Need-returns-2
-returns-2 c = rw (c .before .before .before .before .before .found2 .given .1) (refl, c .before .before .three2 .ensures)
+returns-2 c = rw (c .before .before .before .before .before .found2 .given .1)
+    (refl, c .before .before .three2 .ensures)
 
 pub give-found-spec : {M : Type 1} → statement M
 give-found-spec =

@@ -23,7 +23,8 @@ same-length : tie.Need-same-length
 same-length c = search needs
 
 returns : tie.Need-returns
-returns c = rw (c .before .before .before .before .before .before .listed .given .1) (refl, rw (c .before .before .before .before .in-one-word .ensures) at (c .before .before .one .ensures))
+returns c = rw (c .before .before .before .before .before .before .listed .given .1)
+    (refl, rw (c .before .before .before .before .in-one-word .ensures) at (c .before .before .one .ensures))
 
 same-length-2 : tie.Need-same-length-2
 same-length-2 c = search needs

@@ -32,13 +32,15 @@ same-length-2 : tie.Need-same-length-2
 same-length-2 c = search needs
 
 returns-2 : tie.Need-returns-2
-returns-2 c = rw (c .before .before .before .before .before .verdict2 .given .1) (refl, c .before .before .two2 .ensures)
+returns-2 c = rw (c .before .before .before .before .before .verdict2 .given .1)
+    (refl, c .before .before .two2 .ensures)
 
 same-length-3 : tie.Need-same-length-3
 same-length-3 c = search needs
 
 returns-3 : tie.Need-returns-3
-returns-3 c = rw (c .before .before .before .before .before .verdict3 .given .1) (refl, c .before .before .two3 .ensures)
+returns-3 c = rw (c .before .before .before .before .before .verdict3 .given .1)
+    (refl, c .before .before .two3 .ensures)
 
 pub give-verdict-spec : {M : Type 1} → statement M
 give-verdict-spec =

@@ -17,7 +17,12 @@ same-length : tie.Need-same-length
 same-length c = search needs
 
 returns : tie.Need-returns
-returns c = rw (c .before .before .put3 .ensures, c .before .before .before .before .before .before .put2 .ensures, c .before .before .before .before .before .before .before .before .before .before .put .ensures) (over-three _ _ _ _)
+returns c = rw (
+  c .before .before .put3 .ensures,
+  c .before .before .before .before .before .before .put2 .ensures,
+  c .before .before .before .before .before .before .before .before .before .before .put .ensures,
+)
+    (over-three _ _ _ _)
 
 pub three-spec : {M : Type 1} → statement M
 three-spec = tie.close (tie.spec put-requires put-requires-2 put-requires-3 same-length returns)

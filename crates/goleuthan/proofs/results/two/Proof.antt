@@ -14,7 +14,8 @@ same-length : tie.Need-same-length
 same-length c = search needs
 
 returns : tie.Need-returns
-returns c = rw (c .before .before .put2 .ensures, c .before .before .before .before .before .before .put .ensures) (over-two _ _ _)
+returns c = rw (c .before .before .put2 .ensures, c .before .before .before .before .before .before .put .ensures)
+    (over-two _ _ _)
 
 pub two-spec : {M : Type 1} → statement M
 two-spec = tie.close (tie.spec put-requires put-requires-2 same-length returns)

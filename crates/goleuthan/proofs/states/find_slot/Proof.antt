@@ -1,4 +1,5 @@
--- `goleuthan::states::find_slot` meets its contract. The invariant: the answer is that of the search in the slots that are left. Assumes nothing.
+-- `goleuthan::states::find_slot` meets its contract. The invariant: the answer is that of the search in the slots
+-- that are left. Assumes nothing.
 use Prim.Native.Nat.{_*_, _-_, _≤_}
 use mathlib.Core.Path.{_≡_, refl, sym, ap, _∙_}
 use native.Mathlib.Omega.{arith}
@@ -15,7 +16,8 @@ use Rattle.goleuthan.proofs.states.find_slot.Tie as tie
 
 abbrev Inv-loop : tie.InvT-loop
 Inv-loop ws domain address i₀ i =
-    (i ≤ 64) × (firstMatch (bufferOf ws .slots) domain (address .0) ≡ firstMatch (drop i (bufferOf ws .slots)) domain (address .0))
+    (i ≤ 64) × (firstMatch (bufferOf ws .slots) domain (address .0) ≡ firstMatch (drop i (bufferOf ws .slots)) domain
+    (address .0))
 
 abbrev μ-loop : tie.MeasureT-loop
 μ-loop ws domain address i₀ i = 64 - i
@@ -31,9 +33,11 @@ slot-at-requires c κs = omega arith
 
 -- The slot that was read is the one of that number.
 module _ (c : tie.After-slot-at Inv-loop μ-loop) where
-  is-slot : getD (bufferOf (c .before .before .before .before .args .ws .now) .slots) (c .before .before .loop .i) emptySlot ≡ c .slot-at .result
+  is-slot : getD (bufferOf (c .before .before .before .before .args .ws .now) .slots) (c .before .before .loop .i)
+      emptySlot ≡ c .slot-at .result
   is-slot =
-      rows-at 64 (λ j. slotAt (c .before .before .before .before .args .ws .now) (4 * j)) (c .before .before .loop .i) emptySlot (omega arith) ∙ sym (c .slot-at .ensures)
+      rows-at 64 (λ j. slotAt (c .before .before .before .before .args .ws .now) (4 * j)) (c .before .before .loop .i)
+      emptySlot (omega arith) ∙ sym (c .slot-at .ensures)
 
 slot-matches-requires : tie.Need-slot-matches-requires Inv-loop μ-loop
 slot-matches-requires c κs = search needs
@@ -44,8 +48,10 @@ returns c =
     let a = l .before .before .args in
     let e = is-slot (c .before .before) in
     let n = length-rows 64 (λ j. slotAt (a .ws .now) (4 * j)) in
-    sym (l .loop .inv .1 ∙ first-here (bufferOf (a .ws .now) .slots) (a .domain) (a .address .0) (l .loop .i) (omega arith)
-    (ap (λ x. matches x (a .domain) (a .address .0)) e ∙ sym (c .before .slot-matches .ensures) ∙ c .if1 .taken) ∙ ap At e)
+    sym (l .loop .inv .1 ∙ first-here (bufferOf (a .ws .now) .slots) (a .domain) (a .address .0) (l .loop .i)
+    (omega arith)
+    (ap (λ x. matches x (a .domain) (a .address .0)) e ∙ sym (c .before .slot-matches .ensures) ∙ c .if1 .taken)
+    ∙ ap At e)
 
 add-i : tie.Need-add-i Inv-loop μ-loop
 add-i c = search needs
@@ -60,7 +66,8 @@ loop-again c =
     let e = is-slot (c .before .before) in
     let n = length-rows 64 (λ j. slotAt (a .ws .now) (4 * j)) in (
       omega arith,
-      l .loop .inv .1 ∙ first-later (bufferOf (a .ws .now) .slots) (a .domain) (a .address .0) (l .loop .i) (omega arith)
+      l .loop .inv .1 ∙ first-later (bufferOf (a .ws .now) .slots) (a .domain) (a .address .0) (l .loop .i)
+          (omega arith)
           (ap (λ x. matches x (a .domain) (a .address .0)) e ∙ sym (c .before .slot-matches .ensures) ∙ c .if1 .left),
     )
 
@@ -68,7 +75,8 @@ returns-2 : tie.Need-returns-2 Inv-loop μ-loop
 returns-2 c =
     let a = c .before .before .before .args in
     let n = length-rows 64 (λ j. slotAt (a .ws .now) (4 * j)) in
-    sym (c .before .loop .inv .1 ∙ first-none (bufferOf (a .ws .now) .slots) (a .domain) (a .address .0) (c .before .loop .i) (omega arith))
+    sym (c .before .loop .inv .1 ∙ first-none (bufferOf (a .ws .now) .slots) (a .domain) (a .address .0)
+    (c .before .loop .i) (omega arith))
 
 pub find-slot-spec : {M : Type 1} → statement M
 find-slot-spec =

@@ -47,7 +47,8 @@ loop-again c =
     let l = c .before .before .loop in
     let ws = c .before .before .before .before .before .args .ws .now in (
       omega arith,
-      rows-turn (l .b .slots) (λ j. slotAt ws (4 * j)) (l .i) (c .slot-at .result) (omega arith) (l .inv .1) (c .slot-at .ensures),
+      rows-turn (l .b .slots) (λ j. slotAt ws (4 * j)) (l .i) (c .slot-at .result) (omega arith) (l .inv .1)
+          (c .slot-at .ensures),
       length-set (l .b .slots) (l .i) (c .slot-at .result) ∙ l .inv .2,
     )
 

@@ -12,7 +12,8 @@ use Rattle.goleuthan.proofs.states.read_gates.Statement.{statement}
 use Rattle.goleuthan.proofs.states.read_gates.Tie as tie
 
 abbrev Inv-loop : tie.InvT-loop
-Inv-loop ws set₀ i₀ set i = (i ≤ 64) × (take i (set .places) ≡ rowsOf i (λ j. gateAt ws (3 * j))) × (length (set .places) ≡ 64)
+Inv-loop ws set₀ i₀ set i = (i ≤ 64) × (take i (set .places) ≡ rowsOf i (λ j. gateAt ws (3 * j)))
+    × (length (set .places) ≡ 64)
 
 abbrev μ-loop : tie.MeasureT-loop
 μ-loop ws set₀ i₀ set i = 64 - i
@@ -47,7 +48,8 @@ loop-again c =
     let l = c .before .before .loop in
     let ws = c .before .before .before .before .before .args .ws .now in (
       omega arith,
-      rows-turn (l .set .places) (λ j. gateAt ws (3 * j)) (l .i) (c .gate-at .result) (omega arith) (l .inv .1) (c .gate-at .ensures),
+      rows-turn (l .set .places) (λ j. gateAt ws (3 * j)) (l .i) (c .gate-at .result) (omega arith) (l .inv .1)
+          (c .gate-at .ensures),
       length-set (l .set .places) (l .i) (c .gate-at .result) ∙ l .inv .2,
     )
 

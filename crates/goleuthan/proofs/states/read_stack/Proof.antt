@@ -12,7 +12,8 @@ use Rattle.goleuthan.proofs.states.read_stack.Statement.{statement}
 use Rattle.goleuthan.proofs.states.read_stack.Tie as tie
 
 abbrev Inv-loop : tie.InvT-loop
-Inv-loop ws stack₀ i₀ stack i = (i ≤ 16) × (take i (stack .frames) ≡ rowsOf i (λ j. frameAt ws (2 * j))) × (length (stack .frames) ≡ 16)
+Inv-loop ws stack₀ i₀ stack i = (i ≤ 16) × (take i (stack .frames) ≡ rowsOf i (λ j. frameAt ws (2 * j)))
+    × (length (stack .frames) ≡ 16)
 
 abbrev μ-loop : tie.MeasureT-loop
 μ-loop ws stack₀ i₀ stack i = 16 - i
@@ -47,7 +48,8 @@ loop-again c =
     let l = c .before .before .loop in
     let ws = c .before .before .before .before .before .args .ws .now in (
       omega arith,
-      rows-turn (l .stack .frames) (λ j. frameAt ws (2 * j)) (l .i) (c .frame-at .result) (omega arith) (l .inv .1) (c .frame-at .ensures),
+      rows-turn (l .stack .frames) (λ j. frameAt ws (2 * j)) (l .i) (c .frame-at .result) (omega arith) (l .inv .1)
+          (c .frame-at .ensures),
       length-set (l .stack .frames) (l .i) (c .frame-at .result) ∙ l .inv .2,
     )
 

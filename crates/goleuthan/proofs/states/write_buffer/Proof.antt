@@ -1,4 +1,5 @@
--- `goleuthan::states::write_buffer` meets its contract. The invariant: the first `i` slots are written, the words after them are as they came. Assumes nothing.
+-- `goleuthan::states::write_buffer` meets its contract. The invariant: the first `i` slots are written, the words
+-- after them are as they came. Assumes nothing.
 use Rattle.goleuthan.specs.States.{slotWords}
 use Rattle.goleuthan.specs.Rows.{wordsOf}
 use lib.ListN.{length, take, drop, set, length-set}
@@ -49,7 +50,8 @@ loop-again c =
     let p = c .before .before .before .before .before .before .before .before .pre in
     let e = c .before .before .put-slot .ensures in (
       omega arith,
-      words-turn slotWords 4 (λ y. refl) (a .t2 .slots) (a .ws .now) (l .ws) _ (l .i) _ (omega arith) (omega arith) (l .inv .1) e,
+      words-turn slotWords 4 (λ y. refl) (a .t2 .slots) (a .ws .now) (l .ws) _ (l .i) _ (omega arith) (omega arith)
+          (l .inv .1) e,
       c .before .before .put-slot .kept .0 ∙ l .inv .2,
     )
 
@@ -68,7 +70,8 @@ returns c =
     let m = length-words slotWords 4 (λ x. refl) (a .t2 .slots) in
     let k : l .i ≡ 64 = omega arith in
     let e : l .ws ≡ w ++ drop 256 (a .ws .now) = rw (k, take-all 64 (a .t2 .slots) (omega arith)) at (l .inv .1) in
-    ap (λ (r : List ℕ). set r 256 (a .t2 .next)) e ∙ sets-end w (a .ws .now) (a .t2 .next ∷ []) 256 (omega arith) (c .before .before .before .pre)
+    ap (λ (r : List ℕ). set r 256 (a .t2 .next)) e ∙ sets-end w (a .ws .now) (a .t2 .next ∷ []) 256 (omega arith)
+    (c .before .before .before .pre)
 
 pub write-buffer-spec : {M : Type 1} → statement M
 write-buffer-spec =

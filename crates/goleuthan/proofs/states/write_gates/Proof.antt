@@ -1,4 +1,5 @@
--- `goleuthan::states::write_gates` meets its contract. The invariant: the first `i` rows are written, the words after them are as they came. Assumes nothing.
+-- `goleuthan::states::write_gates` meets its contract. The invariant: the first `i` rows are written, the words after
+-- them are as they came. Assumes nothing.
 use Rattle.goleuthan.proofs.RowLaws.{length-words, words-turn, sets-end}
 use Rattle.goleuthan.specs.States.{gateWords}
 use Rattle.goleuthan.specs.Rows.{wordsOf}
@@ -14,7 +15,8 @@ use Rattle.goleuthan.proofs.states.write_gates.Statement.{statement}
 use Rattle.goleuthan.proofs.states.write_gates.Tie as tie
 
 abbrev Inv-loop : tie.InvT-loop
-Inv-loop ws₀ set i₀ ws i = (i ≤ 64) × (ws ≡ wordsOf gateWords (take i (set .places)) ++ drop (3 * i) ws₀) × (length ws ≡ 193)
+Inv-loop ws₀ set i₀ ws i = (i ≤ 64) × (ws ≡ wordsOf gateWords (take i (set .places)) ++ drop (3 * i) ws₀)
+    × (length ws ≡ 193)
 
 abbrev μ-loop : tie.MeasureT-loop
 μ-loop ws₀ set i₀ ws i = 64 - i
@@ -49,7 +51,8 @@ loop-again c =
     let p = c .before .before .before .before .before .before .before .before .pre in
     let e = c .before .before .put-gate .ensures in (
       omega arith,
-      words-turn gateWords 3 (λ y. refl) (a .t2 .places) (a .ws .now) (l .ws) _ (l .i) _ (omega arith) (omega arith) (l .inv .1) e,
+      words-turn gateWords 3 (λ y. refl) (a .t2 .places) (a .ws .now) (l .ws) _ (l .i) _ (omega arith) (omega arith)
+          (l .inv .1) e,
       c .before .before .put-gate .kept .0 ∙ l .inv .2,
     )
 
@@ -68,7 +71,8 @@ returns c =
     let m = length-words gateWords 3 (λ y. refl) (a .t2 .places) in
     let k : l .i ≡ 64 = omega arith in
     let e : l .ws ≡ w ++ drop 192 (a .ws .now) = rw (k, take-all 64 (a .t2 .places) (omega arith)) at (l .inv .1) in
-    ap (λ (r : List ℕ). set r 192 (a .t2 .count)) e ∙ sets-end w (a .ws .now) (a .t2 .count ∷ []) 192 (omega arith) (c .before .before .before .pre)
+    ap (λ (r : List ℕ). set r 192 (a .t2 .count)) e ∙ sets-end w (a .ws .now) (a .t2 .count ∷ []) 192 (omega arith)
+    (c .before .before .before .pre)
 
 pub write-gates-spec : {M : Type 1} → statement M
 write-gates-spec =

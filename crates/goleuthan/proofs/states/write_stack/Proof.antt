@@ -1,4 +1,5 @@
--- `goleuthan::states::write_stack` meets its contract. The invariant: the first `i` rows are written, the words after them are as they came. Assumes nothing.
+-- `goleuthan::states::write_stack` meets its contract. The invariant: the first `i` rows are written, the words after
+-- them are as they came. Assumes nothing.
 use Rattle.goleuthan.proofs.RowLaws.{length-words, words-turn, sets-end}
 use Rattle.goleuthan.specs.States.{frameWords}
 use Rattle.goleuthan.specs.Rows.{wordsOf}
@@ -14,7 +15,8 @@ use Rattle.goleuthan.proofs.states.write_stack.Statement.{statement}
 use Rattle.goleuthan.proofs.states.write_stack.Tie as tie
 
 abbrev Inv-loop : tie.InvT-loop
-Inv-loop ws₀ stack i₀ ws i = (i ≤ 16) × (ws ≡ wordsOf frameWords (take i (stack .frames)) ++ drop (2 * i) ws₀) × (length ws ≡ 34)
+Inv-loop ws₀ stack i₀ ws i = (i ≤ 16) × (ws ≡ wordsOf frameWords (take i (stack .frames)) ++ drop (2 * i) ws₀)
+    × (length ws ≡ 34)
 
 abbrev μ-loop : tie.MeasureT-loop
 μ-loop ws₀ stack i₀ ws i = 16 - i
@@ -49,7 +51,8 @@ loop-again c =
     let p = c .before .before .before .before .before .before .before .before .pre in
     let e = c .before .before .put-frame .ensures in (
       omega arith,
-      words-turn frameWords 2 (λ y. refl) (a .t2 .frames) (a .ws .now) (l .ws) _ (l .i) _ (omega arith) (omega arith) (l .inv .1) e,
+      words-turn frameWords 2 (λ y. refl) (a .t2 .frames) (a .ws .now) (l .ws) _ (l .i) _ (omega arith) (omega arith)
+          (l .inv .1) e,
       c .before .before .put-frame .kept .0 ∙ l .inv .2,
     )
 
@@ -71,7 +74,8 @@ returns c =
     let m = length-words frameWords 2 (λ y. refl) (a .t2 .frames) in
     let k : l .i ≡ 16 = omega arith in
     let e : l .ws ≡ w ++ drop 32 (a .ws .now) = rw (k, take-all 16 (a .t2 .frames) (omega arith)) at (l .inv .1) in
-    ap (λ (r : List ℕ). set (set r 32 (a .t2 .depth)) 33 (a .t2 .current)) e ∙ sets-end w (a .ws .now) (a .t2 .depth ∷ a .t2 .current ∷ []) 32 (omega arith) (c .before .before .before .pre)
+    ap (λ (r : List ℕ). set (set r 32 (a .t2 .depth)) 33 (a .t2 .current)) e ∙ sets-end w (a .ws .now)
+    (a .t2 .depth ∷ a .t2 .current ∷ []) 32 (omega arith) (c .before .before .before .pre)
 
 pub write-stack-spec : {M : Type 1} → statement M
 write-stack-spec =

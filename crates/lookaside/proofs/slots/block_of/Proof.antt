@@ -24,7 +24,12 @@ byte-addr-requires : tie.Need-byte-addr-requires
 byte-addr-requires c κs = search needs
 
 returns : tie.Need-returns
-returns c = c .byte-addr .ensures ∙ rw (c .before .before .addr-number .ensures, c .before .block-bytes .ensures, round-down)
+returns c = c .byte-addr .ensures ∙ rw (
+  c .before .before .addr-number .ensures,
+  c .before .block-bytes .ensures,
+  round-down,
+)
 
 pub block-of-spec : {M : Type 1} → statement M
-block-of-spec = tie.close (tie.spec addr-number-requires block-bytes-requires rem-past sub-byte-addr byte-addr-requires returns)
+block-of-spec = tie.close (tie.spec addr-number-requires block-bytes-requires rem-past sub-byte-addr
+    byte-addr-requires returns)

@@ -19,7 +19,12 @@ is-level-requires c κs = search needs
 
 returns-2 : tie.Need-returns-2
 unfolding matches holdsFor holds
-returns-2 c = simp (eq-eqb _ _ (c .before .before .if1 .left), ← c .before .is-level .ensures, not-true (c .before .is-level .result) (c .if2 .taken))
+returns-2 c = simp (
+  eq-eqb _ _ (c .before .before .if1 .left),
+  ← c .before .is-level .ensures,
+  not-true
+      (c .before .is-level .result) (c .if2 .taken),
+)
 
 block-of-requires : tie.Need-block-of-requires
 block-of-requires c κs = search needs
@@ -35,11 +40,16 @@ returns-3 c =
     let t = c .before .before .before .before in
     let e = t .before .before in
     let a = e .before .before .before .args in
-    let r : c .before .before .addr-number .result ≡ a .address .0 / blockBytes (a .s .level) * blockBytes (a .s .level) =
+    let r : c .before .before .addr-number .result ≡ a .address .0 / blockBytes (a .s .level) * blockBytes
+    (a .s .level) =
     c .before .before .addr-number .ensures ∙ ap (λ x. x .0) (c .before .before .before .block-of .ensures) in
     let n : eqb (a .address .0 / blockBytes (a .s .level) * blockBytes (a .s .level)) (a .s .block .0) ≡ false =
     ne-eqb _ _ (λ z. c .if3 .taken (r ∙ z ∙ sym (c .before .addr-number2 .ensures))) in
-    rw (match-test (a .s) (a .domain) (a .address .0) (e .if1 .left) (sym (t .before .is-level .ensures) ∙ not-false _ (t .if2 .left)), n)
+    rw (
+      match-test (a .s) (a .domain) (a .address .0) (e .if1 .left)
+          (sym (t .before .is-level .ensures) ∙ not-false _ (t .if2 .left)),
+      n,
+    )
 
 good-entry-requires : tie.Need-good-entry-requires
 good-entry-requires c κs = search needs
@@ -50,11 +60,16 @@ returns-4 c =
     let t = u .before .before .before .before in
     let e = t .before .before in
     let a = e .before .before .before .args in
-    let r : u .before .before .addr-number .result ≡ a .address .0 / blockBytes (a .s .level) * blockBytes (a .s .level) =
+    let r : u .before .before .addr-number .result ≡ a .address .0 / blockBytes (a .s .level) * blockBytes
+    (a .s .level) =
     u .before .before .addr-number .ensures ∙ ap (λ x. x .0) (u .before .before .before .block-of .ensures) in
     let y : eqb (a .address .0 / blockBytes (a .s .level) * blockBytes (a .s .level)) (a .s .block .0) ≡ true =
     eq-eqb _ _ (sym r ∙ u .if3 .left ∙ u .before .addr-number2 .ensures) in
-    rw (match-test (a .s) (a .domain) (a .address .0) (e .if1 .left) (sym (t .before .is-level .ensures) ∙ not-false _ (t .if2 .left)), y)
+    rw (
+      match-test (a .s) (a .domain) (a .address .0) (e .if1 .left)
+          (sym (t .before .is-level .ensures) ∙ not-false _ (t .if2 .left)),
+      y,
+    )
     (c .good-entry .ensures)
 
 pub slot-matches-spec : {M : Type 1} → statement M

@@ -16,7 +16,12 @@ is-level-requires c κs = search needs
 
 returns-2 : tie.Need-returns-2
 unfolding holdsFor holds
-returns-2 c = simp (eq-eqb _ _ (c .before .before .if1 .left), ← c .before .is-level .ensures, not-true (c .before .is-level .result) (c .if2 .taken))
+returns-2 c = simp (
+  eq-eqb _ _ (c .before .before .if1 .left),
+  ← c .before .is-level .ensures,
+  not-true
+      (c .before .is-level .result) (c .if2 .taken),
+)
 
 block-of-requires : tie.Need-block-of-requires
 block-of-requires c κs = search needs
@@ -33,7 +38,8 @@ returns-3 c =
     let e = t .before .before in
     let a = e .before .before .before .args in
     rw (c .addr-number2 .ensures, c .before .addr-number .ensures, c .before .before .block-of .ensures)
-    (sym (holds-test (a .s) (a .domain) (e .if1 .left) (sym (t .before .is-level .ensures) ∙ not-false _ (t .if2 .left))))
+    (sym (holds-test (a .s) (a .domain) (e .if1 .left)
+    (sym (t .before .is-level .ensures) ∙ not-false _ (t .if2 .left))))
 
 pub slot-of-spec : {M : Type 1} → statement M
 slot-of-spec =

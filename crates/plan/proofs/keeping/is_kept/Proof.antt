@@ -20,7 +20,12 @@ still-wanted-requires c κs = search needs
 returns-2 : tie.Need-returns-2
 returns-2 c =
     let d = c .before .before in
-    c .still-wanted .ensures ∙ rw (d .domain-of .ensures, c .before .block-in-domain .ensures, ne-eqb _ _ (d .before .if1 .left)) refl
+    c .still-wanted .ensures ∙ rw (
+      d .domain-of .ensures,
+      c .before .block-in-domain .ensures,
+      ne-eqb _ _
+          (d .before .if1 .left),
+    ) refl
 
 pub is-kept-spec : {M : Type 1} → statement M
 is-kept-spec = tie.close (tie.spec returns domain-of-requires block-in-domain-requires still-wanted-requires returns-2)

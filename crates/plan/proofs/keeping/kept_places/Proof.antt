@@ -1,4 +1,5 @@
--- `plan::keeping::kept_places` meets its contract. The loop's invariant: the places passed are marked as they should be.
+-- `plan::keeping::kept_places` meets its contract. The loop's invariant: the places passed are marked as they should
+-- be.
 use Prim.Native.Nat.{_-_, _≤_}
 use mathlib.Core.Path.{_≡_, refl, subst, _∙_}
 use native.Mathlib.Omega.{arith}
@@ -9,7 +10,8 @@ use Rattle.plan.proofs.keeping.kept_places.Statement.{statement}
 use Rattle.plan.proofs.keeping.kept_places.Tie as tie
 
 abbrev Inv-loop : tie.InvT-loop
-Inv-loop owners height count domain first last from kept₀ p₀ kept p = (p ≤ count) × Marked owners height p domain first last (kept .on)
+Inv-loop owners height count domain first last from kept₀ p₀ kept p = (p ≤ count)
+    × Marked owners height p domain first last (kept .on)
 
 abbrev μ-loop : tie.MeasureT-loop
 μ-loop owners height count domain first last from kept₀ p₀ kept p = count - p
@@ -50,15 +52,19 @@ loop-less c = search needs
 loop-again : tie.Need-loop-again Inv-loop μ-loop
 loop-again c =
     let l = c .before .before .before in
-    let n = l .before in
-    (omega arith, marked-next _ _ _ _ _ _ _ _ (omega arith) (c .is-kept .ensures ∙ rw (n .first-number .ensures) refl) (l .loop .inv .1))
+    let n = l .before in (
+      omega arith,
+      marked-next _ _ _ _ _ _ _ _ (omega arith) (c .is-kept .ensures ∙ rw (n .first-number .ensures) refl)
+          (l .loop .inv .1),
+    )
 
 returns : tie.Need-returns Inv-loop μ-loop
 returns c =
     let l = c .before in
     let a = l .before .before .before .args in
     let all : l .loop .p ≡ a .count = omega arith in
-    subst (λ p. Marked (a .owners .now) (a .height) p (a .domain) (a .first) (a .last) (l .loop .kept .on)) all (l .loop .inv .1)
+    subst (λ p. Marked (a .owners .now) (a .height) p (a .domain) (a .first) (a .last) (l .loop .kept .on)) all
+    (l .loop .inv .1)
 
 pub kept-places-spec : {M : Type 1} → statement M
 kept-places-spec =

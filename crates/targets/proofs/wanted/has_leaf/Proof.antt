@@ -28,7 +28,14 @@ shared-slice-read-page c = search needs
 returns-2 : tie.Need-returns-2 Inv-loop μ-loop
 returns-2 c = λ e.
     let l = c .before .before .before in
-    record { middle = omega arith; place = l .loop .m; above = omega arith; below = omega arith; inside = c .if2 .taken }
+    record {
+      middle = omega arith;
+      place = l .loop .m;
+      above = omega arith;
+      below = omega arith;
+      inside =
+          c .if2 .taken;
+    }
 
 add-m : tie.Need-add-m Inv-loop μ-loop
 add-m c = search needs

@@ -37,8 +37,17 @@ table-wanted-requires c κs =
     let t = c .before .before in
     let l = t .before .before .before in
     let s = l .before .before .before in
-    let b : l .loop .n - 1 < 72 = omega arith in
-    (s .pre .0, (s .pre .1 .0, (b, ⊎-elim (λ e. absurd (t .if1 .taken e)) (λ x. x) (s .pre .1 .1 .stands (l .loop .n - 1) b))))
+    let b : l .loop .n - 1 < 72 = omega arith in (
+      s .pre .0,
+      (
+        s .pre .1 .0,
+        (
+          b,
+          ⊎-elim (λ e. absurd (t .if1 .taken e)) (λ x. x)
+              (s .pre .1 .1 .stands (l .loop .n - 1) b),
+        ),
+      ),
+    )
 
 returns : tie.Need-returns Inv-loop μ-loop
 returns c =
@@ -49,7 +58,8 @@ returns c =
       holds = λ y. absurd (false≢true y);
       passes = λ z. absurd (true≢false
           (sym (c .before .table-wanted .ensures
-          ∙ settled-wanted _ _ (s .pre .0) (s .pre .1 .0) _ (s .pre .1 .1) z (l .loop .n - 1) (omega arith) (omega arith) (ap not (ne-eqb _ none (t .if1 .taken))))
+          ∙ settled-wanted _ _ (s .pre .0) (s .pre .1 .0) _ (s .pre .1 .1) z (l .loop .n - 1) (omega arith)
+          (omega arith) (ap not (ne-eqb _ none (t .if1 .taken))))
           ∙ not-true _ (c .if3 .taken)));
     }
 
@@ -59,8 +69,11 @@ loop-less c = search needs
 loop-again : tie.Need-loop-again Inv-loop μ-loop
 loop-again c =
     let l = c .before .before .before .before .before .before .before in
-    let a = l .before .before .before .args in
-    (omega arith, wanted-more (a .pool .now) (a .shape) (a .owners .now) (l .loop .n) (l .loop .inv .1) (λ x. sym (c .before .table-wanted .ensures) ∙ not-false _ (c .if3 .left)))
+    let a = l .before .before .before .args in (
+      omega arith,
+      wanted-more (a .pool .now) (a .shape) (a .owners .now) (l .loop .n) (l .loop .inv .1)
+          (λ x. sym (c .before .table-wanted .ensures) ∙ not-false _ (c .if3 .left)),
+    )
 
 loop-less-2 : tie.Need-loop-less-2 Inv-loop μ-loop
 loop-less-2 c = search needs
@@ -72,7 +85,8 @@ loop-again-2 c =
     let a = s .args in (
       omega arith,
       wanted-more (a .pool .now) (a .shape) (a .owners .now) (l .loop .n) (l .loop .inv .1) (λ x.
-          leaf-wanted _ _ (s .pre .0) (s .pre .1 .0) _ (s .pre .1 .1) (l .loop .n - 1) (l .loop .n) (omega arith) (omega arith) x
+          leaf-wanted _ _ (s .pre .0) (s .pre .1 .0) _ (s .pre .1 .1) (l .loop .n - 1) (l .loop .n) (omega arith)
+          (omega arith) x
           (c .before .has-leaf .ensures (not-false _ (c .if2 .left))) (l .loop .inv .1)),
     )
 
@@ -82,15 +96,22 @@ loop-less-3 c = search needs
 loop-again-3 : tie.Need-loop-again-3 Inv-loop μ-loop
 loop-again-3 c =
     let l = c .before .before .before in
-    let a = l .before .before .before .args in
-    (omega arith, wanted-more (a .pool .now) (a .shape) (a .owners .now) (l .loop .n) (l .loop .inv .1) (λ x. absurd (true≢false (sym x ∙ ap not (eq-eqb _ none (c .if1 .left))))))
+    let a = l .before .before .before .args in (
+      omega arith,
+      wanted-more (a .pool .now) (a .shape) (a .owners .now) (l .loop .n) (l .loop .inv .1)
+          (λ x. absurd (true≢false (sym x ∙ ap not (eq-eqb _ none (c .if1 .left))))),
+    )
 
 returns-2 : tie.Need-returns-2 Inv-loop μ-loop
 returns-2 c =
     let l = c .before in
     let s = l .before .before .before in
     let all : l .loop .n ≡ 0 = omega arith in
-    record { holds = λ y. wanted-settled _ _ (s .pre .0) (s .pre .1 .0) _ (s .pre .1 .1) (rw all at (l .loop .inv .1)); passes = λ z. refl }
+    record {
+      holds = λ y. wanted-settled _ _ (s .pre .0) (s .pre .1 .0) _ (s .pre .1 .1)
+          (rw all at (l .loop .inv .1));
+      passes = λ z. refl;
+    }
 
 pub settled-spec : {M : Type 1} → statement M
 settled-spec =
