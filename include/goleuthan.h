@@ -74,8 +74,8 @@
  *     is led to and not yet filled.
  *   - On x86-64 with write-back memory this is the order that other processors see, and NOT what a loss of power
  *     leaves in non-volatile memory behind a cache: the lines go back in any order. Map the pool uncached there.
- * The proof is about the program's stores; the compiler that made the library is trusted to leave them single and in
- * order, and so is any that compiles it for another machine.
+ * The proof is about the program's stores. That the compiled library leaves them single and in order is tested, not
+ * proved: rust/stepping watches it instruction by instruction. A library compiled for another machine wants the same.
  *
  * RECOVERY after a brown-out. A change or a tidying may stop after any of its stores, by its allowance or by a loss of
  * power. The pool is then sound: each word has its old right or, where the change covers it, its new one, and nothing
