@@ -15,11 +15,8 @@ use Rattle.table.specs.Shape.{InRange, maxMiddles, poolLength, firstPlace, plac
 use Rattle.table.specs.Map.{isPlace, size, leads, formOf}
 use Rattle.table.specs.Entries.{leadsTo, decodeOf}
 use Rattle.table.proofs.FormLaws.{leads-place}
-use Rattle.table.proofs.EntryLaws.{decode-middle, decode-root, decoded-leads}
+use Rattle.table.proofs.EntryLaws.{bad-leads, decode-middle, decode-root, decoded-leads}
 use Rattle.census.specs.Places.{maxPlaces, placeHeight, firstNumber, placeWord}
-
-bad-leads : {t : PoolWord} {n : ℕ} → Bad ≡ Leads t n → ⊥
-bad-leads e = let z : _≡_ {A = ℕ} 0 1 = cc in omega arith
 
 leads-number : (from long k nth w : ℕ) (t : PoolWord) (n : ℕ) → leadsTo from long k nth w ≡ Leads t n → n
     ≡ nth + (w - from) / long

@@ -18,7 +18,6 @@ pub mod TidyAimLaws
 pub mod TidyEndLaws
 pub mod TidiesLaws
 pub mod ChangesLaws
-pub mod Witness
 pub mod EndLaws
 pub mod StoreListLaws
 pub mod SteerLaws

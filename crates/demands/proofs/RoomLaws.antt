@@ -16,11 +16,8 @@ use Rattle.change.specs.declared.Answer.the-variants.{Done, Cut, Refused}
 use Rattle.change.specs.Answers.{paintOf, Asked, ChangesRegion, Changes, Tidies, no-shape, no-domain, no-right}
 use Rattle.change.specs.Answers.{no-region, in-order, unsound, unsettled, no-room, done, cut}
 use Rattle.demands.specs.Series.{History, Series, RoomFor, ByRoom, full, finishes, is-cut}
-use Rattle.change.proofs.AnswerLaws.{done-refused, cut-refused, same-number}
+use Rattle.change.proofs.AnswerLaws.{done-refused, cut-refused, done-cut, same-number}
 use Rattle.demands.proofs.SeriesLaws.{one-region, series-tidy-ends}
-
-cut-done : {k : ℕ} → Cut ≡ Done k → ⊥
-cut-done e = let z : _≡_ {A = ℕ} 0 1 = cc in omega arith
 
 -- A finished change and a finished tidying leave a settled pool ..
 pub changed-settled : {s : Shape} {p q : List ℕ} {d start len r n k : ℕ} {c : Answer} → Changes p s d start len r n c q
@@ -33,14 +30,14 @@ changed-settled (in-order g asked (unsound y)) e = absurd (done-refused (sym e))
 changed-settled (in-order g asked (unsettled y z)) e = absurd (done-refused (sym e))
 changed-settled (in-order g asked (no-room y z)) e = absurd (done-refused (sym e))
 changed-settled (in-order g asked (done y q z)) e = z .finished .settled
-changed-settled (in-order g asked (cut y q z)) e = absurd (cut-done e)
+changed-settled (in-order g asked (cut y q z)) e = absurd (done-cut (sym e))
 
 pub tidied-settled : {s : Shape} {p q : List ℕ} {n k : ℕ} {c : Answer} → Tidies p s n c q → c ≡ Done k
     → Settled (formOf s) (words q)
 tidied-settled (no-shape y) e = absurd (done-refused (sym e))
 tidied-settled (unsound y z) e = absurd (done-refused (sym e))
 tidied-settled (done y z q w) e = w .finished .settled
-tidied-settled (cut y z q w) e = absurd (cut-done e)
+tidied-settled (cut y z q w) e = absurd (done-cut (sym e))
 
 -- The request of a change that is in order up to 5 is answered as its region is.
 asked-region : {p : List ℕ} {s : Shape} {d start len r n : ℕ} {g : Region} {c : Answer} {q : List ℕ}

@@ -18,6 +18,7 @@ use Rattle.table.specs.Map.{part, parts, size, index, formOf}
 use Rattle.table.specs.Wants.{wordsIn}
 use Rattle.table.specs.Entries.{decodeOf}
 use Rattle.table.proofs.BlockLaws.{first-word}
+use Rattle.table.proofs.EntryLaws.{bad-rights, rights-leads}
 use Rattle.census.proofs.ReadableLaws.{Walkable, sound-readable, reached-not-bad, reached-rights-right, reached-leads}
 use Rattle.listing.specs.declared.Level.{Level}
 use Rattle.listing.specs.Runs.{memoryWords}
@@ -139,12 +140,6 @@ sub-blocks (suc zero) a i lo hi e b c = (omega arith, omega arith)
 sub-blocks (suc (suc zero)) a i lo hi e b c = (omega arith, omega arith)
 sub-blocks (suc (suc (suc h))) a i lo hi e b c = absurd (omega arith)
 
-leaf-not-bad : {w : ℕ} → Rights w ≡ Bad → ⊥
-leaf-not-bad e = let z : _≡_ {A = ℕ} 0 1 = cc in omega arith
-
-leaf-not-leads : {w n : ℕ} {t : PoolWord} → Rights w ≡ Leads t n → ⊥
-leaf-not-leads e = let z : _≡_ {A = ℕ} 0 1 = cc in omega arith
-
 same-rights : {w x : ℕ} → Rights w ≡ Rights x → w ≡ x
 same-rights e = cc
 
@@ -160,7 +155,7 @@ module _ (p : List ℕ) (s : Shape) where
 
   -- An entry, by what it decodes to: it is not bad,
   pub entry-not-bad : (h k a : ℕ) → EntryAt p s h k a → decodeOf s h (words p k) ≡ Bad → ⊥
-  entry-not-bad zero k a x e = leaf-not-bad e
+  entry-not-bad zero k a x e = bad-rights (sym e)
   entry-not-bad (suc h) k a x e = reached-not-bad p s (readable x) (x .reached) (omega arith) e
 
   -- its rights are those that it says,
@@ -172,7 +167,7 @@ module _ (p : List ℕ) (s : Shape) where
 
   -- and it leads to a table for the same words.
   pub entry-up : (h k a n : ℕ) (t : PoolWord) → EntryAt p s h k a → decodeOf s h (words p k) ≡ Leads t n → 0 < h
-  entry-up zero k a n t x e = absurd (leaf-not-leads e)
+  entry-up zero k a n t x e = absurd (rights-leads e)
   entry-up (suc h) k a n t x e = omega arith
 
   module _ (h k a n : ℕ) (t : PoolWord) (x : EntryAt p s h k a) (e : decodeOf s h (words p k) ≡ Leads t n) where

@@ -71,34 +71,34 @@ module _ (l p g : Bool) (w : ℕ) (t : PoolWord) (n : ℕ) where
   abbrev shown : Entry
   shown = cond l (cond p (Leads t n) Bad) (cond g (Rights w) Bad)
 
-not-rights : {w : ℕ} → Bad ≡ Rights w → ⊥
-not-rights e = let z : _≡_ {A = ℕ} 0 1 = cc in omega arith
+pub bad-rights : {w : ℕ} → Bad ≡ Rights w → ⊥
+bad-rights e = let z : _≡_ {A = ℕ} 0 1 = cc in omega arith
 
-not-leads : {t : PoolWord} {n : ℕ} → Bad ≡ Leads t n → ⊥
-not-leads e = let z : _≡_ {A = ℕ} 0 1 = cc in omega arith
+pub bad-leads : {t : PoolWord} {n : ℕ} → Bad ≡ Leads t n → ⊥
+bad-leads e = let z : _≡_ {A = ℕ} 0 1 = cc in omega arith
 
-never-both : {w n : ℕ} {t : PoolWord} → Rights w ≡ Leads t n → ⊥
-never-both e = let z : _≡_ {A = ℕ} 0 1 = cc in omega arith
+pub rights-leads : {w n : ℕ} {t : PoolWord} → Rights w ≡ Leads t n → ⊥
+rights-leads e = let z : _≡_ {A = ℕ} 0 1 = cc in omega arith
 
 shown-bad : (l p g : Bool) (w : ℕ) (t : PoolWord) (n : ℕ) → shown l p g w t n ≡ Bad → cond l p g ≡ false
-shown-bad true true g w t n e = absurd (not-leads (sym e))
+shown-bad true true g w t n e = absurd (bad-leads (sym e))
 shown-bad true false g w t n e = refl
-shown-bad false p true w t n e = absurd (not-rights (sym e))
+shown-bad false p true w t n e = absurd (bad-rights (sym e))
 shown-bad false p false w t n e = refl
 
 shown-rights : (l p g : Bool) (w : ℕ) (t : PoolWord) (n r : ℕ) → shown l p g w t n ≡ Rights r → (r ≡ w)
     × (cond l p g ≡ true) × (l ≡ false)
-shown-rights true true g w t n r e = absurd (never-both (sym e))
-shown-rights true false g w t n r e = absurd (not-rights e)
+shown-rights true true g w t n r e = absurd (rights-leads (sym e))
+shown-rights true false g w t n r e = absurd (bad-rights e)
 shown-rights false p true w t n r e = (cc, refl, refl)
-shown-rights false p false w t n r e = absurd (not-rights e)
+shown-rights false p false w t n r e = absurd (bad-rights e)
 
 shown-leads : (l p g : Bool) (w : ℕ) (t : PoolWord) (n : ℕ) (u : PoolWord) (m : ℕ) → shown l p g w t n ≡ Leads u m
     → (u ≡ t) × (m ≡ n) × (cond l p g ≡ true) × (l ≡ true) × (p ≡ true)
 shown-leads true true g w t n u m e = (cc, cc, refl, refl, refl)
-shown-leads true false g w t n u m e = absurd (not-leads e)
-shown-leads false p true w t n u m e = absurd (never-both e)
-shown-leads false p false w t n u m e = absurd (not-leads e)
+shown-leads true false g w t n u m e = absurd (bad-leads e)
+shown-leads false p true w t n u m e = absurd (rights-leads e)
+shown-leads false p false w t n u m e = absurd (bad-leads e)
 
 -- The same for an entry of a height whose places, `n` of `long` words, begin at `from` and are numbered from `nth` on.
 module _ (from long n nth w : ℕ) where
@@ -147,11 +147,11 @@ module _ (s : Shape) where
 
   -- A leaf entry is never bad and never leads.
   pub bad-above : (h w : ℕ) → decodeOf s h w ≡ Bad → 0 < h
-  bad-above zero w e = absurd (not-rights (sym e))
+  bad-above zero w e = absurd (bad-rights (sym e))
   bad-above (suc h) w e = omega arith
 
   pub leads-above : (h w : ℕ) (t : PoolWord) (n : ℕ) → decodeOf s h w ≡ Leads t n → 0 < h
-  leads-above zero w t n e = absurd (never-both e)
+  leads-above zero w t n e = absurd (rights-leads e)
   leads-above (suc h) w t n e = omega arith
 
   -- An entry that leads is a good one, and the table to which it leads lies in the pool.
