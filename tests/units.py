@@ -56,7 +56,7 @@ BARE = {
     ("goleuthan", "gol_remove_gate", "address"): "a number from C",
     ("goleuthan", "gol_step", "address"): "a number from C",
     ("goleuthan", "gol_step", "target"): "a number from C",
-    ("goleuthan", "put", "at"): "a word of the results",
+    ("goleuthan", "give_word", "at"): "a word of the results",
     ("goleuthan", "slot_at", "at"): "a word of a lent state",
     ("goleuthan", "put_slot", "at"): "a word of a lent state",
     ("goleuthan", "gate_at", "at"): "a word of a lent state",

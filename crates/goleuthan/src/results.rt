@@ -21,7 +21,7 @@ use table::Made;
 pub const CUT: u32 = 100;
 
 // One result word, where `out` has its place.
-fn put(out: &mut [u32], at: usize, v: u32)
+fn give_word(out: &mut [u32], at: usize, v: u32)
     ensures { λ _. ⌜ now (out .exit) ≡ set (now (out .entry)) at v ⌝ }
 {
     if at < out.len() {
@@ -33,22 +33,22 @@ fn put(out: &mut [u32], at: usize, v: u32)
 pub fn one(out: &mut [u32], a: u32)
     ensures { λ _. ⌜ now (out .exit) ≡ outWith (a ∷ []) (now (out .entry)) ⌝ }
 {
-    put(out, 0, a);
+    give_word(out, 0, a);
 }
 
 pub fn two(out: &mut [u32], a: u32, b: u32)
     ensures { λ _. ⌜ now (out .exit) ≡ outWith (a ∷ b ∷ []) (now (out .entry)) ⌝ }
 {
-    put(out, 0, a);
-    put(out, 1, b);
+    give_word(out, 0, a);
+    give_word(out, 1, b);
 }
 
 pub fn three(out: &mut [u32], a: u32, b: u32, c: u32)
     ensures { λ _. ⌜ now (out .exit) ≡ outWith (a ∷ b ∷ c ∷ []) (now (out .entry)) ⌝ }
 {
-    put(out, 0, a);
-    put(out, 1, b);
-    put(out, 2, c);
+    give_word(out, 0, a);
+    give_word(out, 1, b);
+    give_word(out, 2, c);
 }
 
 // A count in one word: the greatest word where it is greater.

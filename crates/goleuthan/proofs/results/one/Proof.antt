@@ -5,14 +5,14 @@ use borrow.Author.Needs.{needs}
 use Rattle.goleuthan.proofs.results.one.Statement.{statement}
 use Rattle.goleuthan.proofs.results.one.Tie as tie
 
-put-requires : tie.Need-put-requires
-put-requires c κs = search needs
+give-word-requires : tie.Need-give-word-requires
+give-word-requires c κs = search needs
 
 same-length : tie.Need-same-length
 same-length c = search needs
 
 returns : tie.Need-returns
-returns c = c .before .before .put .ensures ∙ over-one _ _
+returns c = c .before .before .give-word .ensures ∙ over-one _ _
 
 pub one-spec : {M : Type 1} → statement M
-one-spec = tie.close (tie.spec put-requires same-length returns)
+one-spec = tie.close (tie.spec give-word-requires same-length returns)

@@ -2,8 +2,8 @@
 use mathlib.Core.Path.{sym}
 use lib.Seq.{set-out}
 use borrow.Author.Needs.{needs}
-use Rattle.goleuthan.proofs.results.put.Statement.{statement}
-use Rattle.goleuthan.proofs.results.put.Tie as tie
+use Rattle.goleuthan.proofs.results.give_word.Statement.{statement}
+use Rattle.goleuthan.proofs.results.give_word.Tie as tie
 
 mul-out : tie.Need-mul-out
 mul-out c = search needs
@@ -20,5 +20,5 @@ returns c = search needs
 returns-2 : tie.Need-returns-2
 returns-2 c = sym (set-out _ _ _ (c .if1 .left))
 
-pub put-spec : {M : Type 1} → statement M
-put-spec = tie.close (tie.spec mul-out slice-write-out same-length returns returns-2)
+pub give-word-spec : {M : Type 1} → statement M
+give-word-spec = tie.close (tie.spec mul-out slice-write-out same-length returns returns-2)
