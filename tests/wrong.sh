@@ -98,7 +98,11 @@ if ! (cd "$root" && rt check) > "$work/proved" 2>&1; then
     exit 1
 fi
 : > "$work/counts"
-[ $# -gt 0 ] || set -- $(ls "$root/tests/wrong")
+# the crates with the most edits come first, so that no processor waits for the last of them
+most_first() {
+    (cd "$root/tests/wrong" && for crate in *; do echo "$(ls "$crate" | wc -l) $crate"; done | sort -rn | cut -d ' ' -f 2)
+}
+[ $# -gt 0 ] || set -- $(most_first)
 for crate in "$@"; do
     while [ "$(jobs -rp | wc -l)" -ge "$(nproc)" ]; do wait -n; done
     wrong_programs "$crate" &
