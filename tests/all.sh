@@ -1,6 +1,7 @@
 #!/usr/bin/env bash
-# All tests: the proof of every listed crate with its must-fail edits and programs (rt ci), then the tests of other kinds, each with the seconds
-# that it took. The last line counts them all, 'N passed, M failed'; the exit status is 0 only where nothing failed.
+# All tests: the proof of every listed crate with its must-fail edits and programs (rt ci), then the tests of other
+# kinds, each with the seconds that it took. The last line counts them all, 'N passed, M failed'; the exit status is 0
+# only where nothing failed.
 set -u
 cd "$(dirname "$0")/.." || exit 1
 log=$(mktemp) || exit 1
@@ -8,8 +9,8 @@ trap 'rm -f "$log"' EXIT
 passed=0
 failed=0
 
-# Runs a test, shows what it prints, and adds the counts of its last line, which is 'N passed, M failed' after an optional 'name: '.
-# A test that ends badly, or without that line, counts as a failure.
+# Runs a test, shows what it prints, and adds the counts of its last line, which is 'N passed, M failed' after an
+# optional 'name: '. A test that ends badly, or without that line, counts as a failure.
 run() {
     local begun=$SECONDS
     echo "== $*"

@@ -1,6 +1,6 @@
 #!/usr/bin/env bash
-# The listing program on inputs of one kind each (tests/listing/NAME.in), against what the paper says of them (NAME.out);
-# on large inputs; and where it cannot read or write.
+# The listing program on inputs of one kind each (tests/listing/NAME.in), against what the paper says of them
+# (NAME.out); on large inputs; and where it cannot read or write.
 set -u
 cd "$(dirname "$0")/.." || exit 1
 work=$(mktemp -d)

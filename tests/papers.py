@@ -1,10 +1,14 @@
-"""Holds the pages to the tree (see papers.sh): names and files that they give, and which definitions a promise rests on."""
+"""Holds the pages to the tree (see papers.sh): names and files that they give, and what a promise rests on."""
 import glob
 import os
 import re
 
 CRATES = {line.split(":")[0] for line in open("crates.txt") if ":" in line and not line.startswith("#")}
-SPECS = {f[len("crates/"):-len(".antt")]: open(f).read() for f in glob.glob("crates/*/specs/*.antt") if not f.endswith("/Lib.antt")}
+SPECS = {
+    file[len("crates/"):-len(".antt")]: open(file).read()
+    for file in glob.glob("crates/*/specs/*.antt")
+    if not file.endswith("/Lib.antt")
+}
 CODE = {f: open(f).read() for f in glob.glob("crates/*/src/*.rt")}
 EDITS = {os.path.basename(f)[:-5] for f in glob.glob("crates/*/must-fail/*.edit") + glob.glob("tests/wrong/*/*.edit")}
 
@@ -29,8 +33,9 @@ CALLS = {
 
 
 def declared():
-    """Every name that the tree declares: definitions, laws, records, fields, constructors; in code functions, types, variants, constants."""
-    antt = "\n".join(open(f).read() for f in glob.glob("crates/*/specs/**/*.antt", recursive=True) + glob.glob("crates/*/proofs/**/*.antt", recursive=True))
+    """Every name that the tree declares: definitions, laws, fields; in code functions, types, variants, constants."""
+    files = [f for kind in ("specs", "proofs") for f in glob.glob(f"crates/*/{kind}/**/*.antt", recursive=True)]
+    antt = "\n".join(open(f).read() for f in files)
     code = "\n".join(CODE.values())
     names = set(re.findall(r"^\s*(?:abbrev |unfoldable )?(?:pub )?([^\s:(){}]+) :", antt, re.M))
     names |= set(re.findall(r"^\s*(?:pub )?(?:record|data) ([^\s:(){}]+)", antt, re.M))
@@ -51,7 +56,7 @@ def word_known(text):
 
 
 def known(text):
-    """Whether a page may say `text` in code: a name of the tree, a wrong program (or the first letters of some), a file, or names put together."""
+    """Whether a page may say `text` in code: a name of the tree, a wrong program, a file, or names put together."""
     if word_known(text) or "NAME" in text:
         return True
     if text.endswith("*"):
@@ -59,7 +64,9 @@ def known(text):
     if "/" in text:
         return path_there(text) if text.split("/")[0] in CRATES else os.path.exists(text)
     parts = re.findall(r"[^\s().,]+", text)
-    return len(parts) > 1 and any(word_known(part) for part in parts) and all(word_known(part) or len(part) == 1 for part in parts)
+    if len(parts) < 2 or not any(word_known(part) for part in parts):
+        return False
+    return all(word_known(part) or len(part) == 1 for part in parts)
 
 
 def unknown_names(text):
@@ -71,7 +78,8 @@ def unknown_names(text):
 def promises(text):
     """Each name and file is in the tree, and each wrong program is named."""
     named = set(re.findall(r"`([a-z0-9_]+\*?)`", text))
-    silent = [edit for edit in sorted(EDITS) if not any(edit == n or (n.endswith("*") and edit.startswith(n[:-1])) for n in named)]
+    begins = tuple(name[:-1] for name in named if name.endswith("*"))
+    silent = [edit for edit in sorted(EDITS) if edit not in named and not (begins and edit.startswith(begins))]
     return unknown_names(text) + [f"the wrong program {edit} is named nowhere" for edit in silent]
 
 
@@ -91,7 +99,7 @@ def contract(text, name):
 
 
 def reading(text):
-    """Names are in the tree; every file of definitions is on the path or marked inner, and nothing on the path, and no call, rests on an inner one."""
+    """Names are in the tree; a file of definitions is on the path or inner; nothing on the path rests on an inner one."""
     inner = set(re.findall(r"`([a-z_]+/specs/\w+)`", " ".join(re.findall(r"\*Inner\*:[^.]*\.", text))))
     path = set(re.findall(r"`([a-z_]+/specs/\w+)`", text)) - inner
     faults = unknown_names(text)
@@ -115,9 +123,9 @@ def reading(text):
 
 
 def readme(text):
-    """Its lines of C are those of an example that tests/outside.sh builds and runs; its listing is that of a listing test."""
+    """Its lines of C are those of an example that is built and run; its listing is that of a listing test."""
     example = open("examples/first_steps.c").read()
-    shown = [line.strip() for line in text.splitlines() if line.startswith("    ") and ("gol_" in line or "GOL_" in line)]
+    shown = [line.strip() for line in text.splitlines() if re.match(r"    .*(gol_|GOL_)", line)]
     faults = [] if shown else ["no line of C is shown"]
     faults += [f"`{line}` is not in examples/first_steps.c" for line in shown if line not in example]
     listing = "".join("    " + line for line in open("tests/listing/paper.out"))
@@ -144,7 +152,8 @@ WRONG = [
     ("docs/PROMISES.md", "names what is not there", lambda text: text + "\n`nobody-proved-this`\n"),
     ("docs/PROMISES.md", "leaves a wrong program out", lambda text: text.replace("`link_before_fill`", "")),
     ("docs/READING.md", "leaves a file of definitions out", lambda text: text.replace("`theory/specs/Walk`", "")),
-    ("docs/READING.md", "marks inner what a promise rests on", lambda text: text.replace("*Inner*: ", "*Inner*: `change/specs/Cuts`, ", 1)),
+    ("docs/READING.md", "marks inner what a promise rests on",
+     lambda text: text.replace("*Inner*: ", "*Inner*: `change/specs/Cuts`, ", 1)),
     ("README.md", "shows a line of C that no example has", lambda text: text.replace("GOL_WRITE", "GOL_READ")),
     ("docs/DECISIONS.md", "names a file that is not there", lambda text: text + "\n`tests/nothing.sh`\n"),
 ]

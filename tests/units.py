@@ -182,7 +182,7 @@ WRONG = [
     ("plan", "base: PoolWord, long: u32, edge", "base: u32, long: u32, edge", "a bare number: base of take_place"),
     ("plan", "    pub number: u32,", "    pub word: u32,", "a bare number: word of Edge"),
     ("change/ahead", "    pub past: PoolWord,", "    pub past: u32,", "a bare number: past of Span"),
-    ("change/tidying", "owner: u32, base: PoolWord, i: u32", "owner: u32, base: u32, i: u32", "a bare number: base of target_at"),
+    ("change/tidying", "base: PoolWord, i: u32", "base: u32, i: u32", "a bare number: base of target_at"),
     ("gates", "    pub back: ByteAddr,", "    pub back: u32,", "a bare number: back of Frame"),
     ("census", "n: usize) -> PoolWord", "n: usize) -> u32", "gives a bare number: place_word"),
     ("census", "fn census(pool: &[u32],", "fn census(cells: &[u32],", "no known slice: cells"),

@@ -100,7 +100,10 @@ fi
 : > "$work/counts"
 # the crates with the most edits come first, so that no processor waits for the last of them
 most_first() {
-    (cd "$root/tests/wrong" && for crate in *; do echo "$(ls "$crate" | wc -l) $crate"; done | sort -rn | cut -d ' ' -f 2)
+    local crate
+    for crate in $(ls "$root/tests/wrong"); do
+        echo "$(ls "$root/tests/wrong/$crate" | wc -l) $crate"
+    done | sort -rn | cut -d ' ' -f 2
 }
 [ $# -gt 0 ] || set -- $(most_first)
 for crate in "$@"; do

@@ -1,5 +1,5 @@
-//! Links the proved static library, which the Rattle toolchain writes. It is for x86-64; on a machine of another kind the
-//! crate `emulated` takes its place, unless GOLEUTHAN_LIBRARY names a folder with a library for this machine.
+//! Links the proved static library, which the Rattle toolchain writes. It is for x86-64; on a machine of another kind
+//! the crate `emulated` takes its place, unless GOLEUTHAN_LIBRARY names a folder with a library for this machine.
 
 use std::path::{Path, PathBuf};
 

@@ -150,4 +150,5 @@ series-tidy-ends x (cut y z q w) = inr refl
 
 pub series-tidy-never-6 : {s : Shape} {p q : List ℕ} {h : History} {n : ℕ} {c : Answer} → Series s p h
     → Tidies p s n c q → c ≢ Refused 6
-series-tidy-never-6 x y e = ⊎-elim (λ (k, z). done-refused (sym z ∙ e)) (λ z. cut-refused (sym z ∙ e)) (series-tidy-ends x y)
+series-tidy-never-6 x y e = ⊎-elim (λ (k, z). done-refused (sym z ∙ e)) (λ z. cut-refused (sym z ∙ e))
+    (series-tidy-ends x y)

@@ -65,7 +65,8 @@ same-length : tie.Need-same-length Inv-loop μ-loop
 same-length c = omega (
   arith,
   c .before .before .before .before .before .before .before .loop .inv .1,
-  c .before .before .before .before .before .before .before .before .before .before .before .before .before .before .pre .1,
+  c .before .before .before .before .before .before .before .before .before .before .before .before .before
+      .before .pre .1,
 )
 
 returns : tie.Need-returns Inv-loop μ-loop

@@ -76,10 +76,13 @@ same-length-3 c = search needs
 
 returns-2 : tie.Need-returns-2
 returns-2 c =
-    let a = c .before .before .before .before .before .before .before .before .before .before .before .before .before .before .before .before .before .args in
+    let a = c .before .before .before .before .before .before .before .before .before .before .before .before
+    .before .before .before .before .before .args in
     check-by (a .pool .now) (shapeOf (a .d) (a .m) (a .l)) (a .buffer .now) (a .domain) (a .kind) (a .size)
     (a .address) (a .out .now) _
-    (c .before .before .before .before .before .before .before .before .before .before .before .before .before .if1 .left) (c .before .before .before .before .before .before .before .before .decide .result) (decided (c .before .before .before .before .before .before .before .before)) _ _
+    (c .before .before .before .before .before .before .before .before .before .before .before .before
+    .before .if1 .left) (c .before .before .before .before .before .before .before .before .decide .result)
+    (decided (c .before .before .before .before .before .before .before .before)) _ _
     (c .before .before .give-verdict .ensures .0)
     (c .before .before .before .before .before .before .fill-words .ensures)
     (c .before .before .give-verdict .ensures .1)

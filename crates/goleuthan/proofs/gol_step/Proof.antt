@@ -57,11 +57,28 @@ same-length-4 c = search needs
 
 returns-3 : tie.Need-returns-3
 returns-3 c =
-    let a = c .before .before .before .before .before .before .before .before .before .before .before .before .before .before .before .before .before .before .before .before .before .args in
-    let e = rw (c .before .before .before .before .before .before .before .before .before .before .read-stack .ensures, c .before .before .before .before .before .before .before .before .before .before .before .before .read-gates .ensures, c .before .before .before .before .before .before .before .before .before .before .before .before .before .byte-addr2 .ensures, c .before .before .before .before .before .before .before .before .before .before .before .before .before .before .byte-addr .ensures) at (c .before .before .before .before .before .before .before .before .before .fetch-step .ensures) in
+    let a = c .before .before .before .before .before .before .before .before .before .before .before .before
+    .before .before .before .before .before .before .before .before .before .args in
+    let e = rw (
+      c .before .before .before .before .before .before .before .before .before
+          .before .read-stack .ensures,
+      c .before .before .before .before .before .before .before .before .before
+          .before .before .before .read-gates .ensures,
+      c .before .before .before .before .before .before .before
+          .before .before .before .before .before .before .byte-addr2 .ensures,
+      c .before .before .before
+          .before .before .before .before .before .before .before .before .before .before
+          .before .byte-addr .ensures,
+    ) at (c .before .before .before .before .before .before .before
+    .before .before .fetch-step .ensures) in
     step-made (a .pool .now) (shapeOf (a .d) (a .m) (a .l)) (a .gates .now) (a .stack .now) (a .address) (a .target)
     (a .out .now) _
-    (c .before .before .before .before .before .before .before .before .before .before .before .before .before .before .before .before .if1 .left) (c .before .before .before .before .before .before .before .before .before .before .before .before .before .before .before .if2 .left) (c .before .before .before .before .before .before .before .before .before .fetch-step .result) e _ _ (c .before .before .give-step .ensures .0) (c .before .before .before .before .before .before .write-stack .ensures) (c .before .before .give-step .ensures .1)
+    (c .before .before .before .before .before .before .before .before .before .before .before .before .before
+    .before .before .before .if1 .left) (c .before .before .before .before .before .before .before .before
+    .before .before .before .before .before .before .before .if2 .left) (c .before .before .before .before
+    .before .before .before .before .before .fetch-step .result) e _ _ (c .before
+    .before .give-step .ensures .0) (c .before .before .before .before .before
+    .before .write-stack .ensures) (c .before .before .give-step .ensures .1)
 
 pub gol-step-spec : {M : Type 1} → statement M
 gol-step-spec =

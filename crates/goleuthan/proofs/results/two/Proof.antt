@@ -14,7 +14,11 @@ same-length : tie.Need-same-length
 same-length c = search needs
 
 returns : tie.Need-returns
-returns c = rw (c .before .before .give-word2 .ensures, c .before .before .before .before .before .before .give-word .ensures)
+returns c = rw (
+  c .before .before .give-word2 .ensures,
+  c .before .before .before .before .before
+      .before .give-word .ensures,
+)
     (over-two _ _ _)
 
 pub two-spec : {M : Type 1} → statement M
