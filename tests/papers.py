@@ -99,7 +99,7 @@ def contract(text, name):
 
 
 def reading(text):
-    """Names are in the tree; a file of definitions is on the path or inner; nothing on the path rests on an inner one."""
+    """Names are in the tree; a file of definitions is on the path or inner; nothing rests on an inner one."""
     inner = set(re.findall(r"`([a-z_]+/specs/\w+)`", " ".join(re.findall(r"\*Inner\*:[^.]*\.", text))))
     path = set(re.findall(r"`([a-z_]+/specs/\w+)`", text)) - inner
     faults = unknown_names(text)
