@@ -98,14 +98,14 @@ if ! (cd "$root" && rt check) > "$work/proved" 2>&1; then
     exit 1
 fi
 : > "$work/counts"
-# the crates with the most edits come first, so that no processor waits for the last of them
-most_first() {
+# the crates with the longest proofs come first, so that no processor waits for the last of them
+longest_first() {
     local crate
     for crate in $(ls "$root/tests/wrong"); do
-        echo "$(ls "$root/tests/wrong/$crate" | wc -l) $crate"
+        echo "$(find "$root/crates/$crate" -name '*.antt' -exec cat {} + | wc -l) $crate"
     done | sort -rn | cut -d ' ' -f 2
 }
-[ $# -gt 0 ] || set -- $(most_first)
+[ $# -gt 0 ] || set -- $(longest_first)
 for crate in "$@"; do
     while [ "$(jobs -rp | wc -l)" -ge "$(nproc)" ]; do wait -n; done
     wrong_programs "$crate" &
