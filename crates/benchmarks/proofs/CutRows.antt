@@ -97,7 +97,7 @@ root-word j h = elim (ℕ-discrete j 0) [
 
 pub given-right : (d a : ℕ) → d < 1 → rightOf (formOf (shape 1 1)) (words given-up) d a ≡ 0
 given-right d a bd =
-    flat-right 1 1 1 (words given-up) (λ j h. rw (root-word j h) refl) d a bd
+    flat-right (shape 1 1) (words given-up) (λ j h. rw (root-word j h) refl) d a bd
     ∙ ap (λ w. rightAt w (a / 524288 % 8)) (root-word (1024 * d + a / 4194304 % 1024) (omega arith))
     ∙ eight-right 0 (a / 524288 % 8) (omega arith) (omega arith)
 
@@ -114,7 +114,7 @@ none-aimed d a bd ba = ⊎-elim
 
 pub given-finished : Finished (formOf (shape 1 1)) (words leaf-pool)
     (aims (shape 1 1) 0 (paintOf in-leaf 0) (words leaf-pool)) (words given-up)
-given-finished = flat-finished 1 1 1 (words given-up) (λ j h. rw (root-word j h) refl) (words leaf-pool)
+given-finished = flat-finished (shape 1 1) (words given-up) (λ j h. rw (root-word j h) refl) (words leaf-pool)
     (aims (shape 1 1) 0 (paintOf in-leaf 0) (words leaf-pool))
     (λ d a bd ba. given-right d a bd ∙ sym (none-aimed d a bd ba))
     (λ j h. getD-set-other leaf-pool 0 j 0x80000000 0 (λ e. omega arith))

@@ -62,8 +62,8 @@ some-give = record {
 module _ (X Q : ℕ → ℕ) (flat : (j : ℕ) → j < 1024 → goodRights (X j) ≡ true) where
   unled : (m j : ℕ) → Kept F X Q m j → F .leads m (X j) ≡ true → ⊥
   unled m j k l =
-      let (e, h) = flat-kept 1 1 1 X flat Q k in
-      true≢false (sym l ∙ ap (λ n. F .leads n (X j)) e ∙ eight-good 1 1 1 1 (X j) (omega arith) (flat j h) .1)
+      let (e, h) = flat-kept (shape 1 1) X flat Q k in
+      true≢false (sym l ∙ ap (λ n. F .leads n (X j)) e ∙ eight-good (shape 1 1) 1 (X j) (omega arith) (flat j h) .1)
 
 -- In the fresh pool the first word of the middle table is filled.
 pub some-fill : SomeDue fills
@@ -80,7 +80,7 @@ some-fill = record {
     finished = page-done-finished in-leaf 2 leaf-page (omega arith);
     sound = fresh-settled (shape 1 1) .sound;
     next = fill
-        (λ m k. let (_, h) = flat-kept 1 1 1 (words fresh) flat (words leaf-pool) k in omega arith)
+        (λ m k. let (_, h) = flat-kept (shape 1 1) (words fresh) flat (words leaf-pool) k in omega arith)
         (record {
           gave = λ m j k l. absurd (unled (words fresh) (words leaf-pool) flat m j k l);
           kept = λ m j k l. refl;

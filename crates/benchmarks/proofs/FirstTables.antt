@@ -12,8 +12,9 @@ use Rattle.theory.proofs.RightLaws.{right-down, right-says}
 use Rattle.theory.proofs.BlockLaws.{one-word, met-by}
 use Rattle.words.specs.Rights.{rightAt, goodRights}
 use Rattle.words.proofs.RightsLaws.{eight-right}
-use Rattle.table.specs.Map.{form}
+use Rattle.table.specs.Map.{formOf}
 use Rattle.table.proofs.FormLaws.{place-leads, eight-good, exact}
+use Rattle.benchmarks.specs.Rows.{shape}
 
 pub record FirstTables (n : ℕ) (X : ℕ → ℕ) : Type 0 where
   pub lead : (j : ℕ) → j < n → X j ≡ 1024 + 1024 * j
@@ -22,14 +23,14 @@ pub record FirstTables (n : ℕ) (X : ℕ → ℕ) : Type 0 where
 
 module _ (M L : ℕ) {n : ℕ} (few : n ≤ M) (most : M ≤ 8) {X : ℕ → ℕ} (o : FirstTables n X) where
   abbrev F : Form
-  F = form 1 M L
+  F = formOf (shape M L)
 
   -- A walk stays in the root, or goes from one of the first words to its middle table.
   abbrev At : ℕ → ℕ → Type 0
   At m j = ((m ≡ 2) × (j < 1024)) ⊎ ((m ≡ 1) × (1024 ≤ j) × (j < 1024 + 1024 * n))
 
   first-leads : (j : ℕ) → j < n → (F .good 2 (X j) ≡ true) × (F .leads 2 (X j) ≡ true)
-  first-leads j h = rw (o .lead j h) (place-leads 1 M L 1 j (omega arith) (omega arith) (omega arith))
+  first-leads j h = rw (o .lead j h) (place-leads (shape M L) 1 j (omega arith) (omega arith) (omega arith))
 
   -- Only the first root words lead.
   leads-first : (m j : ℕ) → At m j → F .leads m (X j) ≡ true → (m ≡ 2) × (j < n)
@@ -38,7 +39,8 @@ module _ (M L : ℕ) {n : ℕ} (few : n ≤ M) (most : M ≤ 8) {X : ℕ → ℕ
         | yes e ↦ (x, e)
         | no e ↦ absurd (true≢false (sym l ∙ rw (x, o .roots j (omega arith) y) refl))
       ])
-      (λ (x, y, z). absurd (true≢false (sym l ∙ rw x (eight-good 1 M L 0 (X j) (omega arith) (o .middle j y z) .1))))
+      (λ (x, y, z). absurd (true≢false (sym l
+          ∙ rw x (eight-good (shape M L) 0 (X j) (omega arith) (o .middle j y z) .1))))
       at
 
   visits-at : (a : ℕ) {m j : ℕ} (d : ℕ) → d < 1 → Visits F X a 2 (entry F d a) m j → At m j
@@ -50,7 +52,7 @@ module _ (M L : ℕ) {n : ℕ} (few : n ≤ M) (most : M ≤ 8) {X : ℕ → ℕ
       inr (z, rw (e, z) (omega arith), rw (e, z) (omega arith))
 
   met : {m j : ℕ} → Reach F X (Roots F) m j → At m j
-  met r = let (d, a, bd, ba, v) = met-by F (exact 1 M L) r in visits-at a d bd v
+  met r = let (d, a, bd, ba, v) = met-by F (exact (shape M L)) r in visits-at a d bd v
 
   pub first-sound : SoundPool F X
   first-sound = record {
@@ -59,7 +61,7 @@ module _ (M L : ℕ) {n : ℕ} (few : n ≤ M) (most : M ≤ 8) {X : ℕ → ℕ
           | yes e ↦ rw x (first-leads j e .0)
           | no e ↦ rw (x, o .roots j (omega arith) y) refl
         ])
-        (λ (x, y, z). rw x (eight-good 1 M L 0 (X j) (omega arith) (o .middle j y z) .0))
+        (λ (x, y, z). rw x (eight-good (shape M L) 0 (X j) (omega arith) (o .middle j y z) .0))
         (met r);
     once = λ {m} {j} {k} r l q w e.
         let x = o .lead j (leads-first (suc m) j (met r) l .1) in
@@ -92,7 +94,7 @@ module _ (M L : ℕ) {n : ℕ} (few : n ≤ M) (most : M ≤ 8) {X : ℕ → ℕ
       let z : X (entry F d a) ≡ 1024 + 1024 * (a / 4194304 % 1024) = ap X i ∙ o .lead (a / 4194304 % 1024) h in
       right-down F X 1 (entry F d a) a (rw i (first-leads (a / 4194304 % 1024) h .1))
       ∙ ap (λ t. right F X 1 (t + a / 4096 % 1024) a) z
-      ∙ right-says F X 1 j a (eight-good 1 M L 0 (X j) (omega arith) (o .middle j (omega arith) (omega arith)) .1)
+      ∙ right-says F X 1 j a (eight-good (shape M L) 0 (X j) (omega arith) (o .middle j (omega arith) (omega arith)) .1)
 
   pub rest-right : (d a : ℕ) → d < 1 → n ≤ a / 4194304 % 1024 → rightOf F X d a ≡ 0
   rest-right d a bd h =

@@ -16,60 +16,61 @@ use Rattle.theory.proofs.BlockLaws.{met-by}
 use Rattle.theory.proofs.SettledLaws.{unsaid-settled}
 use Rattle.words.specs.Rights.{rightAt, goodRights, pack}
 use Rattle.words.proofs.RightsLaws.{eight-right, pack-digit}
-use Rattle.table.specs.Map.{addresses, form}
+use Rattle.table.specs.declared.Shape.{Shape}
+use Rattle.table.specs.Map.{addresses, formOf}
 use Rattle.table.proofs.FormLaws.{eight-good, lawful, exact}
 use Rattle.table.proofs.WantLaws.{wanting}
 
-module _ (D M L : ℕ) (Q : ℕ → ℕ) (flat : (j : ℕ) → j < 1024 * D → goodRights (Q j) ≡ true) where
-  stays : (d a : ℕ) {m j : ℕ} → d < D → Visits (form D M L) Q a 2 (entry (form D M L) d a) m j
+module _ (s : Shape) (Q : ℕ → ℕ) (flat : (j : ℕ) → j < 1024 * s .domains → goodRights (Q j) ≡ true) where
+  stays : (d a : ℕ) {m j : ℕ} → d < s .domains → Visits (formOf s) Q a 2 (entry (formOf s) d a) m j
       → (m ≡ 2) × (goodRights (Q j) ≡ true)
   stays d a bd here = (refl, flat _ (omega arith))
   stays d a bd (next {m} {j} v l) =
       let (_, g) = stays d a bd v in
-      absurd (true≢false (sym l ∙ eight-good D M L 1 (Q j) (omega arith) g .1))
+      absurd (true≢false (sym l ∙ eight-good s 1 (Q j) (omega arith) g .1))
 
-  pub flat-led : (d a h t : ℕ) → d < D → Led (form D M L) Q d a h t → ⊥
-  flat-led d a h t bd (k, v, l, e) = true≢false (sym l ∙ eight-good D M L 1 (Q k) (omega arith) (stays d a bd v .1) .1)
+  pub flat-led : (d a h t : ℕ) → d < s .domains → Led (formOf s) Q d a h t → ⊥
+  flat-led d a h t bd (k, v, l, e) = true≢false (sym l ∙ eight-good s 1 (Q k) (omega arith) (stays d a bd v .1) .1)
 
   -- Of a pool whose roots do not lead, only the roots are kept.
-  pub flat-kept : (X : ℕ → ℕ) {m j : ℕ} → Kept (form D M L) Q X m j → (m ≡ 2) × (j < 1024 * D)
+  pub flat-kept : (X : ℕ → ℕ) {m j : ℕ} → Kept (formOf s) Q X m j → (m ≡ 2) × (j < 1024 * s .domains)
   flat-kept X (top (d, i, e, q, bd, bi)) = (e, omega arith)
   flat-kept X (down {m} {j} i k e l b) =
       let (_, h) = flat-kept X k in
-      absurd (true≢false (sym l ∙ eight-good D M L 1 (Q j) (omega arith) (flat j h) .1))
+      absurd (true≢false (sym l ∙ eight-good s 1 (Q j) (omega arith) (flat j h) .1))
 
   -- The right is in the root word.
-  pub flat-right : (d a : ℕ) → d < D
-      → rightOf (form D M L) Q d a ≡ rightAt (Q (1024 * d + a / 4194304 % 1024)) (a / 524288 % 8)
-  flat-right d a bd = right-says (form D M L) Q 2 (entry (form D M L) d a) a
-      (eight-good D M L 1 (Q (entry (form D M L) d a)) (omega arith) (flat (entry (form D M L) d a) (omega arith)) .1)
+  pub flat-right : (d a : ℕ) → d < s .domains
+      → rightOf (formOf s) Q d a ≡ rightAt (Q (1024 * d + a / 4194304 % 1024)) (a / 524288 % 8)
+  flat-right d a bd = right-says (formOf s) Q 2 (entry (formOf s) d a) a
+      (eight-good s 1 (Q (entry (formOf s) d a)) (omega arith) (flat (entry (formOf s) d a) (omega arith)) .1)
 
-  met : {m j : ℕ} → Reach (form D M L) Q (Roots (form D M L)) m j → (m ≡ 2) × (goodRights (Q j) ≡ true)
-  met r = let (d, a, bd, ba, v) = met-by (form D M L) (exact D M L) r in stays d a bd v
+  met : {m j : ℕ} → Reach (formOf s) Q (Roots (formOf s)) m j → (m ≡ 2) × (goodRights (Q j) ≡ true)
+  met r = let (d, a, bd, ba, v) = met-by (formOf s) (exact s) r in stays d a bd v
 
-  pub flat-settled : Settled (form D M L) Q
-  flat-settled = unsaid-settled (form D M L) (wanting D M L) (lawful D M L)
+  pub flat-settled : Settled (formOf s) Q
+  flat-settled = unsaid-settled (formOf s) (wanting s) (lawful s)
       (record {
-        good = λ {m} {j} r. let (e, g) = met r in rw e (eight-good D M L 1 (Q j) (omega arith) g .0);
-        once = λ {m} {j} r l q n e. absurd (true≢false (sym l ∙ eight-good D M L 1 (Q j) (omega arith) (met r .1) .1));
+        good = λ {m} {j} r. let (e, g) = met r in rw e (eight-good s 1 (Q j) (omega arith) g .0);
+        once = λ {m} {j} r l q n e. absurd (true≢false (sym l ∙ eight-good s 1 (Q j) (omega arith) (met r .1) .1));
       })
       (λ d a h k w bd ba v l x. flat-led d a h _ bd (k, v, l, refl))
 
   -- Whatever the old pool has, the finished one has no table, and all but the roots is as it was.
   module _ (P : ℕ → ℕ) (R : ℕ → ℕ → ℕ)
-      (rights : (d a : ℕ) → d < D → a < addresses → rightOf (form D M L) Q d a ≡ R d a)
-      (rest : (j : ℕ) → 1024 * D ≤ j → Q j ≡ P j) where
-    root : (j : ℕ) → j < 1024 * D → Roots (form D M L) 2 j
+      (rights : (d a : ℕ) → d < s .domains → a < addresses → rightOf (formOf s) Q d a ≡ R d a)
+      (rest : (j : ℕ) → 1024 * s .domains ≤ j → Q j ≡ P j) where
+    root : (j : ℕ) → j < 1024 * s .domains → Roots (formOf s) 2 j
     root j h = (j / 1024, j % 1024, refl, omega arith, omega arith, omega arith)
 
-    pub flat-finished : Finished (form D M L) P R Q
+    pub flat-finished : Finished (formOf s) P R Q
     flat-finished = record {
       settled = flat-settled;
       rights = rights;
       keeps = λ {d = d} {a = a} {h = h} {t = t} bd ba x y. absurd (flat-led d a h t bd y);
       order = λ {d = d} {a = a} {h = h} {s = u} (bd, ba, x, un) n o. absurd (flat-led d a h u bd x);
       lowest = λ {d = d} {a = a} {h = h} {t = t} x (bd, ba, y, un) p lt free. absurd (flat-led d a h t bd y);
-      idle = λ j n. elim (decLt j (1024 * D)) [
+      idle = λ j n. elim (decLt j (1024 * s .domains)) [
         | yes h ↦ absurd (n 2 (start (root j h)))
         | no h ↦ rest j (omega arith)
       ];

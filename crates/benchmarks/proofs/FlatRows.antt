@@ -125,9 +125,9 @@ module _ (g : Region) (r : ℕ) (Q : ℕ → ℕ) (flat : (j : ℕ) → j < 1024
     (rights : (a : ℕ) → a < addresses → rightAt (Q (a / 4194304 % 1024)) (a / 524288 % 8) ≡ cond (covered g a) r 0)
     (rest : (j : ℕ) → 1024 ≤ j → Q j ≡ 0) where
   finished : Finished (formOf (shape 0 0)) (words pool) (aims (shape 0 0) 0 (paintOf g r) (words pool)) Q
-  finished = flat-finished 1 0 0 Q flat (words pool) (aims (shape 0 0) 0 (paintOf g r) (words pool))
+  finished = flat-finished (shape 0 0) Q flat (words pool) (aims (shape 0 0) 0 (paintOf g r) (words pool))
       (λ d a bd ba. let z : 1024 * d + a / 4194304 % 1024 ≡ a / 4194304 % 1024 = omega arith in
-      flat-right 1 0 0 Q flat d a bd ∙ ap (λ i. rightAt (Q i) (a / 524288 % 8)) z ∙ rights a ba
+      flat-right (shape 0 0) Q flat d a bd ∙ ap (λ i. rightAt (Q i) (a / 524288 % 8)) z ∙ rights a ba
       ∙ sym (aims-fresh (shape 0 0) (paintOf g r) d a bd bd))
       (λ j h. rest j h ∙ sym (fresh-word (shape 0 0) j ∙ ap (λ t. cond t 2147483648 0) (le-ltb j 1024 h)))
 
@@ -188,11 +188,11 @@ row-9 n h = always-change
 abbrev less : Paint
 less = paintOf (rounded 0 524284) 1
 
-no-room-there : Room 1 0 0 (aims (shape 0 0) 0 less (words pool)) → ⊥
+no-room-there : Room (shape 0 0) (aims (shape 0 0) 0 less (words pool)) → ⊥
 no-room-there room =
     let T = aims (shape 0 0) 0 less (words pool) in
     let S = changed-rights (rightOf (formOf (shape 0 0)) (words pool)) 0 (region less) 1 0 (omega arith)
-    (pool-rights 1 0 0 (words pool) 0) in
+    (pool-rights (shape 0 0) (words pool) 0) in
     let here : T 0 0 ≡ 1 = aims-fresh (shape 0 0) less 0 0 (omega arith) (omega arith) in
     let there : T 0 524284 ≡ 0 = aims-fresh (shape 0 0) less 0 524284 (omega arith) (omega arith) in
     let w : wantMiddle T 0 ≡ true = divided-wants (T 0) 2 0 S

@@ -11,11 +11,12 @@ use Rattle.theory.specs.Settled.{Settled}
 use Rattle.theory.specs.Finished.{New, Finished}
 use Rattle.theory.proofs.SettledLaws.{unsaid-settled}
 use Rattle.words.specs.Rights.{rightAt, goodRights}
-use Rattle.table.specs.Map.{addresses, Divided, form}
+use Rattle.table.specs.Map.{addresses, Divided, formOf}
 use Rattle.table.proofs.FormLaws.{lawful}
 use Rattle.table.proofs.WantLaws.{divided-unsaid, wanting}
 use Rattle.benchmarks.proofs.FirstTables.{FirstTables, first-sound, first-led, led-first, first-right}
 use Rattle.benchmarks.proofs.FirstTables.{rest-right}
+use Rattle.benchmarks.specs.Rows.{shape}
 
 pub record OneTable (X : ℕ → ℕ) : Type 0 where
   pub first : X 0 ≡ 1024
@@ -24,7 +25,7 @@ pub record OneTable (X : ℕ → ℕ) : Type 0 where
 
 module _ (L : ℕ) {X : ℕ → ℕ} (o : OneTable X) where
   abbrev F : Form
-  F = form 1 1 L
+  F = formOf (shape 1 L)
 
   -- It is the first of one.
   first : FirstTables 1 X
@@ -61,11 +62,11 @@ module _ (L : ℕ) {X : ℕ → ℕ} (o : OneTable X) where
 
   -- Settled exactly where the first block has two rights in a sub-block.
   pub table-settled : Divided 4194304 524288 (rightOf F X 0) 0 → Settled F X
-  table-settled (b, c, bb, bc, x, y, z) = unsaid-settled F (wanting 1 1 L) (lawful 1 1 L) table-sound
+  table-settled (b, c, bb, bc, x, y, z) = unsaid-settled F (wanting (shape 1 L)) (lawful (shape 1 L)) table-sound
       (λ d a h k w bd ba v l s.
       let (e, _, f) = table-led d a h _ bd (k, v, l, refl) in
       let u : d ≡ 0 = omega arith in
-      divided-unsaid 1 1 L 2 a w (rightOf F X 0) (b, c, bb, bc, x ∙ omega arith, y, z) (rw (u, e) at s))
+      divided-unsaid (shape 1 L) 2 a w (rightOf F X 0) (b, c, bb, bc, x ∙ omega arith, y, z) (rw (u, e) at s))
 
   pub settled-divided : Settled F X → Divided 4194304 524288 (rightOf F X 0) 0
   settled-divided s = s .wanted {d = 0} {a = 0} {h = 1} (omega arith) (omega arith) (omega arith)
@@ -73,15 +74,16 @@ module _ (L : ℕ) {X : ℕ → ℕ} (o : OneTable X) where
 
 -- From one such pool to another that differs in words of the table alone.
 module _ (L : ℕ) {P X : ℕ → ℕ} (p : OneTable P) (o : OneTable X) (R : ℕ → ℕ → ℕ) where
-  reached : (j : ℕ) → 1024 ≤ j → j < 2048 → Reach (form 1 1 L) X (Roots (form 1 1 L)) 1 j
+  reached : (j : ℕ) → 1024 ≤ j → j < 2048 → Reach (formOf (shape 1 L)) X (Roots (formOf (shape 1 L))) 1 j
   reached j lo hi =
-      let r : Reach (form 1 1 L) X (Roots (form 1 1 L)) 2 0 = start (0, 0, refl, refl, omega arith, omega arith) in
+      let r : Reach (formOf (shape 1 L)) X (Roots (formOf (shape 1 L))) 2 0 = start
+          (0, 0, refl, refl, omega arith, omega arith) in
       let e : X 0 + (j - 1024) ≡ j = let z = o .first in omega arith in
       rw e at (step (j - 1024) r (rw (o .first) refl) (omega arith))
 
-  pub table-finished : Settled (form 1 1 L) X
-      → ((d a : ℕ) → d < 1 → a < addresses → rightOf (form 1 1 L) X d a ≡ R d a)
-      → ((j : ℕ) → (1024 ≤ j → j < 2048 → ⊥) → X j ≡ P j) → Finished (form 1 1 L) P R X
+  pub table-finished : Settled (formOf (shape 1 L)) X
+      → ((d a : ℕ) → d < 1 → a < addresses → rightOf (formOf (shape 1 L)) X d a ≡ R d a)
+      → ((j : ℕ) → (1024 ≤ j → j < 2048 → ⊥) → X j ≡ P j) → Finished (formOf (shape 1 L)) P R X
   table-finished settled rights rest = record {
     settled = settled;
     rights = rights;
@@ -98,7 +100,7 @@ module _ (L : ℕ) {P X : ℕ → ℕ} (p : OneTable P) (o : OneTable X) (R : �
     ];
   }
     where
-      none-new : (d a h t : ℕ) → New (form 1 1 L) P X d a h t → ⊥
+      none-new : (d a h t : ℕ) → New (formOf (shape 1 L)) P X d a h t → ⊥
       none-new d a h t (bd, ba, x, un) =
           let (e, _, f) = table-led L o d a h t bd x in
           un 1024 (rw e (led-table L p d a bd f))

@@ -18,7 +18,7 @@ use Rattle.theory.proofs.Encodes.{TellsWants, Gets, spot, Placing, Encodes, Fol
 use Rattle.theory.proofs.EncodesLaws.{encodes-finished}
 use Rattle.words.specs.Rights.{rightAt, goodRights}
 use Rattle.words.proofs.RightsLaws.{eight-right, sixteen-right}
-use Rattle.table.specs.Map.{addresses, block, part, parts, index, leads, Divided, form}
+use Rattle.table.specs.Map.{addresses, block, part, parts, index, leads, Divided, formOf}
 use Rattle.table.specs.Fresh.{freshPool}
 use Rattle.table.proofs.BlockLaws.{block-above, block-together, together-block, part-in-block, part-above}
 use Rattle.table.proofs.BlockLaws.{number-below}
@@ -37,7 +37,7 @@ pub record OnePage (L low : ℕ) (R : ℕ → ℕ) (a0 c0 w : ℕ) : Type 0 wher
   -- Off the entry there is no right,
   pub quiet : (b : ℕ) → b < addresses → b / block low ≢ a0 / block low → R b ≡ 0
   -- the entry says those of its block,
-  pub said : Says (form 1 1 L) low R a0 w
+  pub said : Says (formOf (shape 1 L)) low R a0 w
   -- and in the sub-block above it there are two.
   pub together : a0 / part (suc low) ≡ c0 / part (suc low)
   pub differ : R a0 ≢ R c0
@@ -108,7 +108,7 @@ from-top a h = omega arith
 
 module _ {L low : ℕ} {R : ℕ → ℕ} {a0 c0 w : ℕ} (o : OnePage L low R a0 c0 w) where
   abbrev F : Form
-  F = form 1 1 L
+  F = formOf (shape 1 L)
 
   -- The block of height `h` around `a` is the one that has the entry.
   abbrev near : ℕ → ℕ → Bool
@@ -134,7 +134,7 @@ module _ {L low : ℕ} {R : ℕ → ℕ} {a0 c0 w : ℕ} (o : OnePage L low R a0
 
   said-whole : (h a : ℕ) → h ≡ low → a / block h ≡ a0 / block h → Divided (block h) (part h) R a → ⊥
   said-whole h a q n (b, c, bb, bc, e, f, z) =
-      divided-unsaid 1 1 L h a0 w R (b, c, bb, bc, e ∙ n, f, z) (rw (← q) at (o .said))
+      divided-unsaid (shape 1 L) h a0 w R (b, c, bb, bc, e ∙ n, f, z) (rw (← q) at (o .said))
 
   divided-want : (h d a : ℕ) → h < 2 → Divided (block (suc h)) (part (suc h)) R a → want (suc h) d a ≡ true
   divided-want h d a hi (b, c, bb, bc, e, f, z) =
@@ -181,7 +181,7 @@ module _ {L low : ℕ} {R : ℕ → ℕ} {a0 c0 w : ℕ} (o : OnePage L low R a0
     block = λ h d a b bd ba bb t. one-place h d a b;
     apart = λ h d a e b bd ba be bb hi g k x. (
       omega arith,
-      block-together 1 1 L (suc h) a b
+      block-together (shape 1 L) (suc h) a b
           (want-yes (suc h) d a (g (suc h) (omega arith) hi) .1
           ∙ sym (want-yes (suc h) e b (k (suc h) (omega arith) hi) .1)),
     );
@@ -202,7 +202,7 @@ module _ {L low : ℕ} {R : ℕ → ℕ} {a0 c0 w : ℕ} (o : OnePage L low R a0
   pointers zero d a bd ba hi g =
       let (lo, e) = want-yes 1 d a (g 1 (omega arith) (omega arith)) in
       let z : low ≡ 0 = omega arith in
-      let (x, y) = place-leads 1 1 L 0 0 hi (o .room z) (omega arith) in
+      let (x, y) = place-leads (shape 1 L) 0 0 hi (o .room z) (omega arith) in
       at-leads 0 2048 (spot F want place 1 d a) 2048
       (ap (λ n. Q (1024 + n % 1024)) e ∙ at-middle low a0 w ∙ ap (λ t. cond t 2048 w) (eq-eqb low 0 z)) x y refl
   pointers (suc zero) d a bd ba hi g =
@@ -218,7 +218,7 @@ module _ {L low : ℕ} {R : ℕ → ℕ} {a0 c0 w : ℕ} (o : OnePage L low R a0
     good = g;
     rights = l;
     each = λ b bb t. z (b / part h % parts h) (number-below h b)
-        ∙ sym (block-quiet h a b lo hi bb e (together-block 1 1 L h a b hi ba bb t));
+        ∙ sym (block-quiet h a b lo hi bb e (together-block (shape 1 L) h a b hi ba bb t));
   }
 
   says-there : (h a : ℕ) → h ≡ low → h ≤ 2 → a < addresses → a / block h ≡ a0 / block h → Says F h R a w
@@ -227,7 +227,8 @@ module _ {L low : ℕ} {R : ℕ → ℕ} {a0 c0 w : ℕ} (o : OnePage L low R a0
       record {
         good = s .good;
         rights = s .rights;
-        each = λ b bb t. s .each b bb (block-together 1 1 L h a0 b (sym e ∙ together-block 1 1 L h a b hi ba bb t));
+        each = λ b bb t. s .each b bb (block-together (shape 1 L) h a0 b (sym e
+            ∙ together-block (shape 1 L) h a b hi ba bb t));
       }
 
   -- Of a block that has not the entry, though the one above it has.
@@ -293,8 +294,8 @@ module _ {L low : ℕ} {R : ℕ → ℕ} {a0 c0 w : ℕ} (o : OnePage L low R a0
   in-order (suc (suc h)) d a e b hi = absurd (omega arith)
 
   none-below : (h d a x : ℕ) → h < 2 → Place F h x → x < place h d a → ⊥
-  none-below zero d a x hi (v, k, l, t) lt = let (_, p, b, e) = leads-place 1 1 L 0 v k l in omega arith
-  none-below (suc zero) d a x hi (v, k, l, t) lt = let (_, p, b, e) = leads-place 1 1 L 1 v k l in omega arith
+  none-below zero d a x hi (v, k, l, t) lt = let (_, p, b, e) = leads-place (shape 1 L) 0 v k l in omega arith
+  none-below (suc zero) d a x hi (v, k, l, t) lt = let (_, p, b, e) = leads-place (shape 1 L) 1 v k l in omega arith
   none-below (suc (suc h)) d a x hi q lt = omega arith
 
   fresh-low : (j : ℕ) → j < 1024 → P j ≡ 0x80000000
@@ -342,7 +343,7 @@ module _ {L low : ℕ} {R : ℕ → ℕ} {a0 c0 w : ℕ} (o : OnePage L low R a0
       (each : (j : ℕ) → (X j ≡ P j) ⊎ (X j ≡ Q j)) where
     follows : Follows F want place X Q
     follows = record {
-      keeps = λ h d a s bd ba g l. absurd (flat-led 1 1 L X flat d a h s bd l);
+      keeps = λ h d a s bd ba g l. absurd (flat-led (shape 1 L) X flat d a h s bd l);
       order = λ h d a e b bd ba be bb hi f k x. in-order h d a e b hi;
       lowest = λ h d a x bd ba hi f q lt. absurd (none-below h d a x hi q lt);
       idle = λ j un. ⊎-elim (λ e. unchanged j un ∙ sym e) (λ e. sym e) (each j);
@@ -350,7 +351,8 @@ module _ {L low : ℕ} {R : ℕ → ℕ} {a0 c0 w : ℕ} (o : OnePage L low R a0
 
     pub page-finished-from : Finished F X (λ d. R) Q
     page-finished-from =
-        encodes-finished F (lawful 1 1 L) (exact 1 1 L) want place tells placing encodes (wanting 1 1 L) follows
+        encodes-finished F (lawful (shape 1 L)) (exact (shape 1 L)) want place tells placing encodes (wanting
+            (shape 1 L)) follows
 
   pub page-finished : Finished F P (λ d. R) Q
   page-finished = page-finished-from P (λ j h. rw (fresh-low j h) refl) (λ j. inl refl)

@@ -44,7 +44,7 @@ one-page L low g r a0 c0 lo room ba bc some small near here there part no-table 
   inside = ba;
   beside = bc;
   quiet = λ b bb n. by-cases (covered g b) (λ e. absurd (n (near b e))) (λ e. ap (λ t. cond t r 0) e);
-  said = wants-says 1 1 L (painted g r) low a0 (painted-rights g r (λ x. 0) small none-rights) (omega arith) ba
+  said = wants-says (shape 1 L) (painted g r) low a0 (painted-rights g r (λ x. 0) small none-rights) (omega arith) ba
       no-table;
   together = part;
   differ = λ e. some (sym (ap (λ t. cond t r 0) here) ∙ e ∙ ap (λ t. cond t r 0) there);

@@ -41,7 +41,7 @@ use Rattle.change.proofs.TidyGoalLaws.{fits-goal}
 use Rattle.change.proofs.EndLaws.{goal-ends}
 use Rattle.change.proofs.ChangesLaws.{one-change}
 use Rattle.change.proofs.TidiesLaws.{one-tidy}
-use Rattle.benchmarks.specs.Rows.{Always, Finds}
+use Rattle.benchmarks.specs.Rows.{shape, Always, Finds}
 
 -- One outcome of a change, or of a tidying, that is as said.
 pub always-change : {p : List ℕ} {s : Shape} {d start len r n : ℕ} {a : Answer} {q : List ℕ}
@@ -81,13 +81,13 @@ pub finds : (p : List ℕ) (s : Shape) (a : ℕ) (r : Found) → lookupOf p s 0 
 finds p s a r e = record { some = (r, looks-up p s 0 a r (sym e)); each = λ t l. ap numbers (l .answer ∙ e) }
 
 -- A fresh pool has its length.
-fresh-long : (s : Shape) → length (freshPool s) ≡ poolLength (s .domains) (s .middles) (s .leaves)
+fresh-long : (s : Shape) → length (freshPool s) ≡ poolLength s
 fresh-long s = simp (length-append, length-replicate) (omega arith)
 
-pub fresh-fits : (s : Shape) → InRange (s .domains) (s .middles) (s .leaves) → Fits s (length (freshPool s))
+pub fresh-fits : (s : Shape) → InRange s → Fits s (length (freshPool s))
 fresh-fits s r = record { range = r; long = fresh-long s }
 
-pub in-range : (M L : ℕ) → M ≤ maxMiddles → L ≤ maxLeaves → InRange 1 M L
+pub in-range : (M L : ℕ) → M ≤ maxMiddles → L ≤ maxLeaves → InRange (shape M L)
 in-range M L m l = record { some-domain = omega arith; domains = omega arith; middles = m; leaves = l }
 
 -- Whether an address is covered.
@@ -119,14 +119,14 @@ pub was-cut : (s : Shape) (d : ℕ) (paint : Paint) (p : List ℕ) (n : ℕ) →
     → Finished (formOf s) (words p) (aims s d paint (words p)) (words q)
     → length q ≡ length p → n < differing p q → (x : List ℕ) × IsCut s d paint p n x
 was-cut s d paint p n low fits sound q f l h =
-    let room = finished-fits (s .domains) (s .middles) (s .leaves) f in
+    let room = finished-fits s f in
     let (Q, kept, goal) = fits-goal s d paint p low fits sound room in
     ⊎-elim (λ (y, z). absurd (too-many y z)) (λ c. c) (goal-ends s d paint p Q kept n goal)
   where
     too-many : (y : List ℕ) → IsDone s d paint p n y → ⊥
     too-many y z =
         let same : (j : ℕ) → words y j ≡ words q j =
-        one-finished (formOf s) (lawful _ _ _) (wanting _ _ _) (words p) _ (exact _ _ _) (z .finished) f in
+        one-finished (formOf s) (lawful _) (wanting _) (words p) _ (exact _) (z .finished) f in
         let e : y ≡ q = ext-getD 0 y q (z .long ∙ sym l) (λ j i. same j) in
         let k = rw e at (z .enough) in
         omega arith

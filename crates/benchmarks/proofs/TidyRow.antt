@@ -15,17 +15,17 @@ use Rattle.theory.specs.Pool.{words, SoundPool, rightOf}
 use Rattle.theory.specs.Settled.{Settled}
 use Rattle.words.specs.Rights.{rightAt}
 use Rattle.words.proofs.RightsLaws.{eight-right}
-use Rattle.table.specs.Map.{form}
+use Rattle.table.specs.Map.{formOf}
 use Rattle.table.proofs.FreshWordLaws.{fresh-word}
 use Rattle.change.specs.Answers.{in-order, unsettled}
-use Rattle.benchmarks.specs.Rows.{needless, Needless}
+use Rattle.benchmarks.specs.Rows.{shape, needless, Needless}
 use Rattle.benchmarks.proofs.RowLaws.{always-change, always-tidy}
 use Rattle.benchmarks.proofs.RootTidy.{tidied-first, tidied-root, tidies-root}
 use Rattle.benchmarks.proofs.OneTable.{OneTable, table-sound, table-right, elsewhere-right, settled-divided}
 
 module _ (L : ℕ) where
   abbrev F : Form
-  F = form 1 1 L
+  F = formOf (shape 1 L)
 
   -- Its words: as in a fresh pool of two roots, but the first.
   abbrev base : List ℕ

@@ -12,7 +12,7 @@ use Rattle.theory.specs.Finished.{Finished}
 use Rattle.words.specs.Rights.{rightAt, goodRights}
 use Rattle.words.proofs.RightsLaws.{eight-right}
 use Rattle.table.specs.Shape.{Fits}
-use Rattle.table.specs.Map.{form, formOf}
+use Rattle.table.specs.Map.{formOf}
 use Rattle.plan.specs.Aims.{aims}
 use Rattle.change.specs.Cuts.{differing}
 use Rattle.change.specs.Answers.{noPaint}
@@ -55,7 +55,7 @@ tables = record {
 }
 
 -- There is no right before ..
-needless-right : (d a : ℕ) → d < 1 → rightOf (form 1 2 0) (words two-needless) d a ≡ 0
+needless-right : (d a : ℕ) → d < 1 → rightOf (formOf (shape 2 0)) (words two-needless) d a ≡ 0
 needless-right d a bd = elim (decLt (a / 4194304 % 1024) 2) [
   | yes h ↦
       let j : ℕ = 1024 + 1024 * (a / 4194304 % 1024) + a / 4096 % 1024 in
@@ -69,15 +69,15 @@ needless-right d a bd = elim (decLt (a / 4194304 % 1024) 2) [
 bare-flat : (j : ℕ) → j < 1024 → goodRights (words bare j) ≡ true
 bare-flat j h = rw (bare-word j (omega arith)) refl
 
-bare-right : (d a : ℕ) → d < 1 → rightOf (form 1 2 0) (words bare) d a ≡ 0
+bare-right : (d a : ℕ) → d < 1 → rightOf (formOf (shape 2 0)) (words bare) d a ≡ 0
 bare-right d a bd =
-    flat-right 1 2 0 (words bare) bare-flat d a bd
+    flat-right (shape 2 0) (words bare) bare-flat d a bd
     ∙ ap (λ w. rightAt w (a / 524288 % 8)) (bare-word (1024 * d + a / 4194304 % 1024) (omega arith))
     ∙ eight-right 0 (a / 524288 % 8) (omega arith) (omega arith)
 
 finished : Finished (formOf (shape 2 0)) (words two-needless) (aims (shape 2 0) 0 noPaint (words two-needless))
     (words bare)
-finished = flat-finished 1 2 0 (words bare) bare-flat (words two-needless)
+finished = flat-finished (shape 2 0) (words bare) bare-flat (words two-needless)
     (aims (shape 2 0) 0 noPaint (words two-needless))
     (λ d a bd ba. bare-right d a bd ∙ sym (aims-none (shape 2 0) 0 (words two-needless) d a ∙ needless-right d a bd))
     (λ j h. sym (needless-other j (omega arith)))

@@ -79,7 +79,7 @@ module _ (R : ℕ → ℕ → ℕ) (none : (d b : ℕ) → d < 2 → b < address
       let y = count-all 2 in
       omega arith
 
-  fits-two : Room 2 2 2 R
+  fits-two : Room two R
   fits-two = record { middles = fit 1 (omega arith); leaves = fit 0 (omega arith) }
 
 abbrev paint : Paint

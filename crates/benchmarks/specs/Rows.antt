@@ -59,7 +59,7 @@ AnyAddress = (M L : ℕ) (p : List ℕ) → Fits (shape M L) (length p) → Alwa
 -- 2. M 1, L 1, set 0x1000 for 64 bytes to 2: done, 1,026 stores; the leaf's first entry is 0xAAAAAAAA.
 abbrev pub SetsOneLeaf : Type 0
 SetsOneLeaf = (n : ℕ) → 1026 ≤ n → Always (Sets 1 1 0x1000 64 2 n)
-    (λ a q. AnsweredDone 1026 a × (words q (firstLeaf 1 1) ≡ 0xAAAAAAAA))
+    (λ a q. AnsweredDone 1026 a × (words q (firstLeaf (shape 1 1)) ≡ 0xAAAAAAAA))
 
 -- 3. Then 0x103F gives 2 and 0x1040 gives 0, 3 loads each; 0x2000 gives 0 in 2; 0x400000 gives 0 in 1.
 abbrev pub LooksAround : Type 0
@@ -87,7 +87,8 @@ GivesUpBoth = (n m : ℕ) → 1026 ≤ n → 1 ≤ m → (b : Answer) (p : List 
 -- 6. M 1, L 0, set 0x1000 for 512 bytes to 2: 1,025 stores, middle entry 1 is 0x80000002.
 abbrev pub SetsOneMiddle : Type 0
 SetsOneMiddle = (n : ℕ) → 1025 ≤ n
-    → Always (Sets 1 0 0x1000 512 2 n) (λ a q. AnsweredDone 1025 a × (words q (firstMiddle 1 + 1) ≡ 0x80000002))
+    → Always (Sets 1 0 0x1000 512 2 n) (λ a q. AnsweredDone 1025 a
+        × (words q (firstMiddle (shape 1 1) + 1) ≡ 0x80000002))
 
 -- 7. M 0, L 0, set 0 for 524,288 bytes to 1: one store, 0x80000001.
 abbrev pub SetsOnePart : Type 0
@@ -119,7 +120,7 @@ LastWord = (r n : ℕ) → r ≤ 3
 
 -- M 1: every word of the root and of the middle place is 0x80000000, but root entry 0, which leads to that place.
 abbrev pub needless : ℕ → List ℕ
-needless L = set (replicate 2048 0x80000000 ++ replicate (64 * L) 0) 0 (firstMiddle 1)
+needless L = set (replicate 2048 0x80000000 ++ replicate (64 * L) 0) 0 (firstMiddle (shape 1 1))
 
 -- 11. M 1, root entry 0 leading to a middle table of 1,024 words 0x80000000: a change in order up to 6 is refused 7,
 -- tidying makes one store. For every L.

@@ -62,9 +62,9 @@ module _ (p : List ℕ) (s : Shape) (fits : Fits s (length p)) where
     pub stands-one : (i j : ℕ) → StandsAt p s n i → StandsAt p s n j → i ≡ j
     stands-one i j x y =
         let h = placeHeight n in
-        old-one (s .domains) (s .middles) (s .leaves) q h (place-low s n) i j (x .block) (y .block) (x .table)
+        old-one s q h (place-low s n) i j (x .block) (y .block) (x .table)
         (y .table)
-        (ap (λ w. (w - firstPlace (s .domains) (s .middles) (s .leaves) h) / size h) (x .there ∙ sym (y .there)))
+        (ap (λ w. (w - firstPlace s h) / size h) (x .there ∙ sym (y .there)))
 
   module _ (o : List ℕ) (u : ℕ → Bool) (c : CheckedPool F (words p) u) (a : Alike p s o u) where
     stands-taken : (n i : ℕ) → n < maxPlaces → StandsAt p s n i → taken o n ≡ true
@@ -95,14 +95,14 @@ module _ (p : List ℕ) (s : Shape) (fits : Fits s (length p)) where
             → Census p s true o
         go Check.refused f m = absurd m
         go (met u) f m =
-            let c = roots-check-sound F (lawful _ _ _) (words p) u f in
+            let c = roots-check-sound F (lawful _) (words p) u f in
             record { sound = λ x. c .sound; whole = λ x. refl; owners = λ x. alike-owners o u c m }
 
     pub failed-census : (o : List ℕ) → rootsTally s p (s .domains) ≡ refused → Census p s false o
     failed-census o e = record {
       sound = λ x. absurd (false≢true x);
       whole = λ q.
-          let (u, f) = sound-roots-check F (lawful _ _ _) (words p) q in
+          let (u, f) = sound-roots-check F (lawful _) (words p) q in
           let m : Matches p s refused (met u) = rw (e, f) at all in
           absurd m;
       owners = λ x. absurd (false≢true x);

@@ -30,12 +30,12 @@ module _ (p : List ℕ) (s : Shape) (fits : Fits s (length p)) (q : SoundPool (f
 
   module _ (i : ℕ) (bi : i < blocks h * s .domains) (has : old (words p) h i ≡ true) where
     abbrev at : ℕ
-    at = was (s .domains) (s .middles) (s .leaves) (words p) h i
+    at = was s (words p) h i
 
     -- The place where the table of a block stands is the block's.
     was-place : PlaceAt s (suc h) (words p (entryOf (words p) h i)) (firstNumber h + at)
     was-place =
-        let (b, e) = old-at (s .domains) (s .middles) (s .leaves) q h hi i bi has in
+        let (b, e) = old-at s q h hi i bi has in
         place-number s (fits .range) h at _ (firstNumber h + at) hi b e refl
 
     was-stands : StandsAt p s (firstNumber h + at) i
@@ -59,11 +59,11 @@ module _ (p : List ℕ) (s : Shape) (fits : Fits s (length p)) (q : SoundPool (f
         )
 
   -- The owner of a place has its table there.
-  pub owner-stands : (c : ℕ) → c < places (s .domains) (s .middles) (s .leaves) h → taken o (firstNumber h + c) ≡ true
+  pub owner-stands : (c : ℕ) → c < places s h → taken o (firstNumber h + c) ≡ true
       → (owner c < blocks h * s .domains) × (old (words p) h (owner c) ≡ true)
-      × (c ≡ was (s .domains) (s .middles) (s .leaves) (words p) h (owner c))
+      × (c ≡ was s (words p) h (owner c))
   owner-stands c b t =
-      let w = placeAt (s .domains) (s .middles) (s .leaves) h c in
+      let w = placeAt s h c in
       let x = place-number s (fits .range) h c w (firstNumber h + c) hi b refl refl in
       let e : placeHeight (firstNumber h + c) ≡ h = omega (arith, x .height) in
       ⊎-elim
@@ -72,7 +72,7 @@ module _ (p : List ℕ) (s : Shape) (fits : Fits s (length p)) (q : SoundPool (f
       let z : words p (entryOf (words p) h (owner c)) ≡ w = rw e at (y .there) ∙ x .word in (
         rw e at (y .block),
         rw e at (y .table),
-        sym (ap (λ v. (v - firstPlace (s .domains) (s .middles) (s .leaves) h) / size h) z
-            ∙ Old.place-number (s .domains) (s .middles) (s .leaves) h c),
+        sym (ap (λ v. (v - firstPlace s h) / size h) z
+            ∙ Old.place-number s h c),
       ))
       (own .stands (firstNumber h + c) (x .below))

@@ -78,20 +78,19 @@ module _ (s : Shape) where
 
   -- The table to which a good entry leads lies in the pool.
   pub led-room : (h w : ℕ) → formOf s .good (suc h) w ≡ true → leads (suc h) w ≡ true
-      → w + size h ≤ poolLength (s .domains) (s .middles) (s .leaves)
-  led-room h w g l = let (b, q, c, e) = leads-place (s .domains) (s .middles) (s .leaves) h w g l in go h b q c e
+      → w + size h ≤ poolLength s
+  led-room h w g l = let (b, q, c, e) = leads-place s h w g l in go h b q c e
     where
-      go : (h : ℕ) → h < 2 → (q : ℕ) → q < places (s .domains) (s .middles) (s .leaves) h
-          → w ≡ firstPlace (s .domains) (s .middles) (s .leaves) h + size h * q → w + size h ≤ poolLength (s .domains)
-          (s .middles) (s .leaves)
+      go : (h : ℕ) → h < 2 → (q : ℕ) → q < places s h
+          → w ≡ firstPlace s h + size h * q → w + size h ≤ poolLength s
       go zero b q c e = omega arith
       go (suc zero) b q c e = omega arith
       go (suc (suc h)) b q c e = absurd (omega arith)
 
-  module _ (r : InRange (s .domains) (s .middles) (s .leaves)) where
+  module _ (r : InRange s) where
     -- The `q`-th place for tables of the height `h` has the number `firstNumber h + q`.
-    pub place-number : (h q w n : ℕ) → h < 2 → q < places (s .domains) (s .middles) (s .leaves) h
-        → w ≡ firstPlace (s .domains) (s .middles) (s .leaves) h + size h * q → n ≡ firstNumber h + q
+    pub place-number : (h q w n : ℕ) → h < 2 → q < places s h
+        → w ≡ firstPlace s h + size h * q → n ≡ firstNumber h + q
         → PlaceAt (suc h) w n
     place-number zero q w n hi b e f =
         let x = leaf-number n (omega arith) in
@@ -116,7 +115,7 @@ module _ (s : Shape) where
     pub led-number : (h w : ℕ) → formOf s .good (suc h) w ≡ true → leads (suc h) w ≡ true → (n : ℕ)
         × PlaceAt (suc h) w n
     led-number h w g l =
-        let (b, q, c, e) = leads-place (s .domains) (s .middles) (s .leaves) h w g l in
+        let (b, q, c, e) = leads-place s h w g l in
         (firstNumber h + q, place-number h q w (firstNumber h + q) b c e refl)
 
     -- A decoded entry gives that number.
@@ -124,12 +123,12 @@ module _ (s : Shape) where
     decoded-place zero w t n lo hi e = absurd (omega arith)
     decoded-place (suc zero) w t n lo hi e =
         let (_, g, l, _) = decoded-leads s 1 w t n lo hi e in
-        let (b, q, c, f) = leads-place (s .domains) (s .middles) (s .leaves) 0 w g l in
+        let (b, q, c, f) = leads-place s 0 w g l in
         let k = leads-number _ _ _ _ w t n (sym (decode-middle s 1 w refl (ltb-true w 2147483648 l)) ∙ e) in
         place-number 0 q w n b c f (omega arith)
     decoded-place (suc (suc zero)) w t n lo hi e =
         let (_, g, l, _) = decoded-leads s 2 w t n lo hi e in
-        let (b, q, c, f) = leads-place (s .domains) (s .middles) (s .leaves) 1 w g l in
+        let (b, q, c, f) = leads-place s 1 w g l in
         let k = leads-number _ _ _ _ w t n (sym (decode-root s 2 w (λ z. omega arith) (λ z. omega arith)
         (ltb-true w 2147483648 l)) ∙ e) in
         place-number 1 q w n b c f (omega arith)

@@ -25,8 +25,8 @@ firstNumber (suc h) = 0
 
 -- The pool word where place `n` begins.
 abbrev pub placeWord : Shape → ℕ → ℕ
-placeWord s n = cond (ltb n maxMiddles) (firstMiddle (s .domains) + 1024 * n)
-    (firstLeaf (s .domains) (s .middles) + 64 * (n - maxMiddles))
+placeWord s n = cond (ltb n maxMiddles) (firstMiddle s + 1024 * n)
+    (firstLeaf s + 64 * (n - maxMiddles))
 
 -- Place `n` is in use: a word that the roots reach leads to it.
 abbrev pub InUse : List ℕ → Shape → ℕ → Type 0

@@ -31,7 +31,7 @@ pub fn place_height(n: usize) -> u32
 
 // The pool word where place `n` begins.
 pub fn place_word(shape: Shape, n: usize) -> PoolWord
-    requires { ⌜ InRange (shape .domains) (shape .middles) (shape .leaves) ⌝ }
+    requires { ⌜ InRange shape ⌝ }
     requires { ⌜ n < maxPlaces ⌝ }
     ensures { λ r. ⌜ r ≡ record { 0 = placeWord shape n } ⌝ }
 {

@@ -213,8 +213,8 @@ at-ahead {s = s} {q = q} {old = old} {Q = Q} {kept = kept} {c = c} {i = i} {k = 
     other j e l m = by-phase (kept j) (sym (p .new j l m) ∙ e)
       where
         by-phase : (b : Bool) → not b ≡ not (eqb c 2)
-            → cond b (cond (leads (zone (s .domains) (s .middles) (s .leaves) j) (words old j)) 1 3) 2 ≢ c
-        by-phase true z y = one-or-three (leads (zone (s .domains) (s .middles) (s .leaves) j) (words old j))
+            → cond b (cond (leads (zone s j) (words old j)) 1 3) 2 ≢ c
+        by-phase true z y = one-or-three (leads (zone s j) (words old j))
             (y ∙ eqb-true c 2 (not-false (eqb c 2) (sym z)))
           where
             one-or-three : (b : Bool) → _≡_ {A = ℕ} (cond b 1 3) 2 → ⊥

@@ -35,19 +35,19 @@ one-from-6 (no-room f u) (unsound g) = absurd (g (f .sound))
 one-from-6 (no-room f u) (unsettled g h) = absurd (h f)
 one-from-6 (no-room f u) (no-room g h) = (refl, refl)
 one-from-6 {s = s} (no-room f u) (done g q h) = absurd
-    (u (finished-fits (s .domains) (s .middles) (s .leaves) (h .finished)))
+    (u (finished-fits s (h .finished)))
 one-from-6 {s = s} (no-room f u) (cut g q h) = absurd
-    (u (finished-fits (s .domains) (s .middles) (s .leaves) (h .cut .finished)))
+    (u (finished-fits s (h .cut .finished)))
 one-from-6 (done f q h) (unsound g) = absurd (g (f .sound))
 one-from-6 (done f q h) (unsettled g k) = absurd (k f)
 one-from-6 {s = s} (done f q h) (no-room g k) = absurd
-    (k (finished-fits (s .domains) (s .middles) (s .leaves) (h .finished)))
+    (k (finished-fits s (h .finished)))
 one-from-6 {p = p} (done f q h) (done g x k) = let z = one-done h k in (ap (λ y. Done (differing p y)) z, z)
 one-from-6 (done f q h) (cut g x k) = absurd (done-not-cut h k)
 one-from-6 (cut f q h) (unsound g) = absurd (g (f .sound))
 one-from-6 (cut f q h) (unsettled g k) = absurd (k f)
 one-from-6 {s = s} (cut f q h) (no-room g k) = absurd
-    (k (finished-fits (s .domains) (s .middles) (s .leaves) (h .cut .finished)))
+    (k (finished-fits s (h .cut .finished)))
 one-from-6 (cut f q h) (done g x k) = absurd (done-not-cut k h)
 one-from-6 (cut f q h) (cut g x k) = (refl, one-cut h k)
 

@@ -22,7 +22,7 @@ use Rattle.theory.proofs.ReadyLaws.{finished-links, finished-ready}
 use Rattle.theory.proofs.StayLaws.{finished-stays}
 use Rattle.words.specs.Region.{covered}
 use Rattle.table.specs.declared.Shape.{Shape}
-use Rattle.table.specs.Map.{addresses, formOf, form}
+use Rattle.table.specs.Map.{addresses, formOf}
 use Rattle.table.proofs.FormLaws.{lawful, exact}
 use Rattle.table.proofs.WantLaws.{wanting}
 use Rattle.targets.specs.declared.Paint.{Paint}
@@ -40,15 +40,15 @@ module _ (s : Shape) (d : ℕ) (paint : Paint) {x : List ℕ} {k v : ℕ} (due :
   stored = rw (← due .value) (store-set x k v (due .inside))
 
   stage : Stage (formOf s) (words x) (due .goal) (words after-it)
-  stage = next-stage (formOf s) (lawful _ _ _) (words x) (due .goal) (due .sound) stored (due .next)
+  stage = next-stage (formOf s) (lawful _) (words x) (due .goal) (due .sound) stored (due .next)
 
   mixed : Mixed (formOf s) (words x) (due .goal) (words after-it)
-  mixed = stage-mixed (formOf s) (lawful _ _ _) (due .sound) (due .finished .settled .sound)
-      (finished-links (formOf s) (lawful _ _ _) (exact _ _ _) (due .sound) (due .finished)) stage
+  mixed = stage-mixed (formOf s) (lawful _) (due .sound) (due .finished .settled .sound)
+      (finished-links (formOf s) (lawful _) (exact _) (due .sound) (due .finished)) stage
 
   safe : Cut (formOf s) (words x) (due .goal) (words after-it)
-  safe = put-cut (formOf s) (lawful _ _ _) x k v (due .inside) (words x) (due .goal)
-      (finished-ready (formOf s) (lawful _ _ _) (exact _ _ _) (due .sound) (due .finished) k (due .next)) (due .value)
+  safe = put-cut (formOf s) (lawful _) x k v (due .inside) (words x) (due .goal)
+      (finished-ready (formOf s) (lawful _) (exact _) (due .sound) (due .finished) k (due .next)) (due .value)
 
   word : (j : ℕ) → (words after-it j ≡ words x j) ⊎ (words after-it j ≡ due .goal j)
   word j = elim (ℕ-discrete j k) [
@@ -73,7 +73,7 @@ module _ (s : Shape) (d : ℕ) (paint : Paint) {x : List ℕ} {k v : ℕ} (due :
   -- The change from after the store finishes where the change from before it did.
   pub due-again : Finished (formOf s) (words after-it) (aims s d paint (words after-it)) (due .goal)
   due-again = finished-same (formOf s) _ _ _ same-aims
-      (finished-stays (formOf s) (lawful _ _ _) (exact _ _ _) (due .sound) (due .finished) mixed word)
+      (finished-stays (formOf s) (lawful _) (exact _) (due .sound) (due .finished) mixed word)
 
   pub put-cuts : (old : List ℕ) (n : ℕ) → CutAt s d paint old n x → CutAt s d paint old (n + 1) (set x k v)
   put-cuts old n c = record {
@@ -92,7 +92,7 @@ module _ (s : Shape) (d : ℕ) (paint : Paint) {x : List ℕ} {k v : ℕ} (due :
   }
     where
       same : (j : ℕ) → due .goal j ≡ c .goal j
-      same = one-finished (formOf s) (lawful _ _ _) (wanting _ _ _) (words x) (aims s d paint (words x)) (exact _ _ _)
+      same = one-finished (formOf s) (lawful _) (wanting _) (words x) (aims s d paint (words x)) (exact _)
           (due .finished) (c .again)
 
       was : words x k ≡ words old k

@@ -17,13 +17,13 @@ use Rattle.change.specs.Answers.{IsDone, IsCut}
 module _ {s : Shape} {d : ℕ} {paint : Paint} {p : List ℕ} {n : ℕ} where
   pub one-done : {q x : List ℕ} → IsDone s d paint p n q → IsDone s d paint p n x → q ≡ x
   one-done {q} {x} a b = ext-getD 0 q x (a .long ∙ sym (b .long)) (λ j h.
-      one-finished (formOf s) (lawful _ _ _) (wanting _ _ _) (words p) (aims s d paint (words p)) (exact _ _ _)
+      one-finished (formOf s) (lawful _) (wanting _) (words p) (aims s d paint (words p)) (exact _)
       (a .finished) (b .finished) j)
 
   pub done-not-cut : {q x : List ℕ} → IsDone s d paint p n q → IsCut s d paint p n x → ⊥
   done-not-cut {q} {x} a b =
       let z = b .more q (a .long)
-      (one-finished (formOf s) (lawful _ _ _) (wanting _ _ _) (words p) (aims s d paint (words p)) (exact _ _ _)
+      (one-finished (formOf s) (lawful _) (wanting _) (words p) (aims s d paint (words p)) (exact _)
       (a .finished) (b .cut .finished)) in
       let y = a .enough in
       omega arith

@@ -86,8 +86,8 @@ sound-or s P = go (rootsCheck (formOf s) P (s .domains) (λ x. false)) refl
   where
     go : (r : Finding) → rootsCheck (formOf s) P (s .domains) (λ x. false) ≡ r → SoundPool (formOf s) P
         ⊎ (SoundPool (formOf s) P → ⊥)
-    go refused e = inr (roots-check-refused (formOf s) (lawful _ _ _) P e)
-    go (met u) e = inl (roots-check-sound (formOf s) (lawful _ _ _) P u e .sound)
+    go refused e = inr (roots-check-refused (formOf s) (lawful _) P e)
+    go (met u) e = inl (roots-check-sound (formOf s) (lawful _) P u e .sound)
 
 -- Two pools are the same up to word `n`, or differ at one.
 same-or : (P Q : ℕ → ℕ) (n : ℕ) → ((j : ℕ) → j < n → Q j ≡ P j) ⊎ ((j : ℕ) × (Q j ≢ P j))
@@ -110,7 +110,7 @@ settled-or s p f sP =
       | yes h ↦ all j h
       | no h ↦ g .beyond j (omega arith)
     ]) (g .finished) .settled))
-    (λ (j, z). inr (λ t. z (one-finished (formOf s) (lawful _ _ _) (wanting _ _ _) (words p) _ (exact _ _ _)
+    (λ (j, z). inr (λ t. z (one-finished (formOf s) (lawful _) (wanting _) (words p) _ (exact _)
     (tidy-finished s 0 (words p) (g .finished)) (settled-finished (formOf s) t) j)))
     (same-or (words p) Q (length p))
 
@@ -131,7 +131,7 @@ pub region-ends : (p : List ℕ) (s : Shape) (d : ℕ) (paint : Paint) (n : ℕ)
     → (a : Answer) × (q : List ℕ) × ChangesRegion p s d paint n a q
 region-ends p s d paint n f r = ⊎-elim
     (λ sP. ⊎-elim
-    (λ t. elim (fits-dec (s .domains) (s .middles) (s .leaves) (aims s d paint (words p))) [
+    (λ t. elim (fits-dec s (aims s d paint (words p))) [
       | yes room ↦
           (let (Q, kept, g) = fits-goal s d paint p r f sP room in
           ⊎-elim (λ (q, x). (_, q, done t q x)) (λ (x, y). (_, x, cut t x y)) (goal-ends s d paint p Q kept n g))

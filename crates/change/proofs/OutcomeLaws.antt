@@ -37,8 +37,8 @@ module _ (s : Shape) (d : ℕ) (paint : Paint) (old : List ℕ) where
   pub one-goal : {n : ℕ} {x : List ℕ} (Q : ℕ → ℕ) → Finished (formOf s) (words old) (aims s d paint (words old)) Q
       → (c : CutAt s d paint old n x)
       → (j : ℕ) → c .goal j ≡ Q j
-  one-goal Q f c = one-finished (formOf s) (lawful _ _ _) (wanting _ _ _) (words old) (aims s d paint (words old))
-      (exact _ _ _) (c .finished) f
+  one-goal Q f c = one-finished (formOf s) (lawful _) (wanting _) (words old) (aims s d paint (words old))
+      (exact _) (c .finished) f
 
   -- A run that stands before a word that is to change was cut.
   cut-here : (Q : ℕ → ℕ) (kept : ℕ → Bool) (n c k : ℕ) (x : List ℕ) → Goal s d paint old Q kept

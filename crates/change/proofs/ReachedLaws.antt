@@ -128,8 +128,8 @@ module _ {s : Shape} {d : ℕ} {paint : Paint} {old : List ℕ} {n m : ℕ} {x y
   -- .. or suffices.
   pub reached-done : IsCut s d paint old n x → IsDone s d paint old m y → Among old x y
   reached-done a b j = ⊎-elim inl
-      (λ z. inr (z ∙ one-finished (formOf s) (lawful _ _ _) (wanting _ _ _) (words old) (aims s d paint (words old))
-      (exact _ _ _)
+      (λ z. inr (z ∙ one-finished (formOf s) (lawful _) (wanting _) (words old) (aims s d paint (words old))
+      (exact _)
       (a .cut .finished) (b .finished) j))
       (a .cut .each j)
 

@@ -67,7 +67,7 @@ planning-ready p s d paint r q z e = rw e at z
 
 pub planning-none : (p : List ℕ) (s : Shape) (d : ℕ) (paint : Paint) (r : Planning) → PlansChange s d paint
     (words p) r → r ≡ NoRoom
-    → Room (s .domains) (s .middles) (s .leaves) (aims s d paint (words p)) → ⊥
+    → Room s (aims s d paint (words p)) → ⊥
 planning-none p s d paint r z e = rw e at z
 
 -- The request of a region that is in order.

@@ -21,7 +21,7 @@ use Rattle.theory.proofs.FinishedLaws.{finished-words, one-finished}
 use Rattle.theory.proofs.StayLaws.{next-here}
 use Rattle.table.specs.declared.Shape.{Shape}
 use Rattle.table.specs.Shape.{firstMiddle, firstLeaf}
-use Rattle.table.specs.Map.{formOf, form, leads, zone}
+use Rattle.table.specs.Map.{formOf, leads, zone}
 use Rattle.table.proofs.FormLaws.{lawful, exact}
 use Rattle.table.proofs.WantLaws.{wanting}
 use Rattle.targets.specs.declared.Paint.{Paint}
@@ -71,8 +71,8 @@ module _ {s : Shape} {d : ℕ} {paint : Paint} {old : List ℕ} {Q : ℕ → ℕ
     goal = Q;
     finished = finished-words (formOf s) _ _ same (a .cut .again);
     sound = a .cut .sound;
-    next = next-here (formOf s) (lawful _ _ _) (exact _ _ _) (a .goal .sound) (a .goal .finished) (λ z. m (sym z))
-        (rw whole (rw (← e) (phase-next (formOf s) (lawful _ _ _) (a .goal .sound) kept (a .goal .tells) k)));
+    next = next-here (formOf s) (lawful _) (exact _) (a .goal .sound) (a .goal .finished) (λ z. m (sym z))
+        (rw whole (rw (← e) (phase-next (formOf s) (lawful _) (a .goal .sound) kept (a .goal .tells) k)));
     value = refl;
     differs = λ z. m (sym z);
     inside = h;
@@ -82,7 +82,7 @@ module _ {s : Shape} {d : ℕ} {paint : Paint} {old : List ℕ} {Q : ℕ → ℕ
       whole = fun-ext (a .pool)
 
       same : (j : ℕ) → a .cut .goal j ≡ Q j
-      same = one-finished (formOf s) (lawful _ _ _) (wanting _ _ _) P (aims s d paint P) (exact _ _ _)
+      same = one-finished (formOf s) (lawful _) (wanting _) P (aims s d paint P) (exact _)
           (a .cut .finished) (a .goal .finished)
 
   -- What a plan says of the word.
@@ -98,19 +98,19 @@ module _ {s : Shape} {d : ℕ} {paint : Paint} {old : List ℕ} {Q : ℕ → ℕ
     pub at-phase : Q k ≢ words x k → phaseOf s q k (words x k) ≡ ph k
     at-phase m = rw (here-was m, p .new k (rw at-long at h) (λ e. m (e ∙ sym (here-was m)))) (go (kept k))
       where
-        zone-test : (ltb k (firstLeaf (s .domains) (s .middles)) && isLead (P k))
-            ≡ leads (zone (s .domains) (s .middles) (s .leaves) k) (P k)
-        zone-test = by-cases (ltb k (firstMiddle (s .domains)))
+        zone-test : (ltb k (firstLeaf s) && isLead (P k))
+            ≡ leads (zone s k) (P k)
+        zone-test = by-cases (ltb k (firstMiddle s))
             (λ e. rw (
               e,
-              lt-ltb k (firstLeaf (s .domains) (s .middles))
-                  (let z = ltb-true k (firstMiddle (s .domains)) e in omega arith),
+              lt-ltb k (firstLeaf s)
+                  (let z = ltb-true k (firstMiddle s) e in omega arith),
             ) refl)
-            (λ e. rw e (by-cases (ltb k (firstLeaf (s .domains) (s .middles))) (λ f. rw f refl) (λ f. rw f refl)))
+            (λ e. rw e (by-cases (ltb k (firstLeaf s)) (λ f. rw f refl) (λ f. rw f refl)))
 
         go : (b : Bool) → _≡_ {A = ℕ} (cond (not b) 2
-            (cond (ltb k (firstLeaf (s .domains) (s .middles)) && isLead (P k)) 1 3))
-            (cond b (cond (leads (zone (s .domains) (s .middles) (s .leaves) k) (P k)) 1 3) 2)
+            (cond (ltb k (firstLeaf s) && isLead (P k)) 1 3))
+            (cond b (cond (leads (zone s k) (P k)) 1 3) 2)
         go true = rw zone-test refl
         go false = refl
 

@@ -23,7 +23,7 @@ use Rattle.change.specs.Runs.{phases, At}
 -- The phases are 1, 2 and 3.
 phase-range : (s : Shape) (old : List ℕ) (kept : ℕ → Bool) (j : ℕ) → (1 ≤ phases s old kept j)
     × (phases s old kept j < 4)
-phase-range s old kept j = go (kept j) (leads (zone (s .domains) (s .middles) (s .leaves) j) (words old j))
+phase-range s old kept j = go (kept j) (leads (zone s j) (words old j))
   where
     go : (a b : Bool) → (1 ≤ cond a (cond b 1 3) 2) × (cond a (cond b 1 3) 2 < 4)
     go true true = (omega arith, omega arith)

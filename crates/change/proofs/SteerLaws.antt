@@ -45,8 +45,8 @@ pub one-list : {s : Shape} {d : ℕ} {paint : Paint} {old : List ℕ} {l m : Lis
     → StoresAre s d paint old m → l ≡ m
 one-list {s} {d} {paint} {old} a b =
     let e : a .finished-pool ≡ b .finished-pool = fun-ext
-    (one-finished (formOf s) (lawful _ _ _) (wanting _ _ _) (words old)
-    (aims s d paint (words old)) (exact _ _ _) (a .goal .finished) (b .goal .finished)) in
+    (one-finished (formOf s) (lawful _) (wanting _) (words old)
+    (aims s d paint (words old)) (exact _) (a .goal .finished) (b .goal .finished)) in
     let g : Goal s d paint old (b .finished-pool) (a .kept) = rw e at (a .goal) in
     let k : a .kept ≡ b .kept = fun-ext (one-test (formOf s) (g .tells) (b .goal .tells)) in
     let z : storesOf s old (a .finished-pool) (a .kept) ≡ storesOf s old (b .finished-pool) (b .kept) = rw (e, k) in
@@ -115,7 +115,7 @@ module _ {s : Shape} {d : ℕ} {paint : Paint} {p : List ℕ} {l : List OneStore
 -- The stores of a change that has room.
 room-stores : (s : Shape) (d : ℕ) (paint : Paint) (p : List ℕ) → paint .right < 4 → Fits s (length p)
     → SoundPool (formOf s) (words p)
-    → Room (s .domains) (s .middles) (s .leaves) (aims s d paint (words p)) → (l : List OneStore)
+    → Room s (aims s d paint (words p)) → (l : List OneStore)
     × StoresAre s d paint p l
 room-stores s d paint p r f sP room =
     let (Q, kept, g) = fits-goal s d paint p r f sP room in
@@ -139,14 +139,14 @@ module _ {p : List ℕ} {s : Shape} {d : ℕ} {paint : Paint} {n : ℕ} where
   unsettled-makes u (done g q h) = absurd (u g)
   unsettled-makes u (cut g q h) = absurd (u g)
 
-  full-makes : {a : Answer} {q : List ℕ} → (Room (s .domains) (s .middles) (s .leaves) (aims s d paint (words p)) → ⊥)
+  full-makes : {a : Answer} {q : List ℕ} → (Room s (aims s d paint (words p)) → ⊥)
       → ChangesRegion p s d paint n a q
       → Makes p [] n a q
   full-makes u (unsound g) = (refl, refl)
   full-makes u (unsettled g h) = (refl, refl)
   full-makes u (no-room g h) = (refl, refl)
-  full-makes u (done g q h) = absurd (u (finished-fits (s .domains) (s .middles) (s .leaves) (h .finished)))
-  full-makes u (cut g q h) = absurd (u (finished-fits (s .domains) (s .middles) (s .leaves) (h .cut .finished)))
+  full-makes u (done g q h) = absurd (u (finished-fits s (h .finished)))
+  full-makes u (cut g q h) = absurd (u (finished-fits s (h .cut .finished)))
 
   -- .. and else that of its change.
   room-makes : {l : List OneStore} {a : Answer} {q : List ℕ} → Settled (formOf s) (words p) → StoresAre s d paint p l
@@ -154,7 +154,7 @@ module _ {p : List ℕ} {s : Shape} {d : ℕ} {paint : Paint} {n : ℕ} where
       → Makes p l n a q
   room-makes t x (unsound g) = absurd (g (t .sound))
   room-makes t x (unsettled g h) = absurd (h t)
-  room-makes t x (no-room g h) = absurd (h (finished-fits (s .domains) (s .middles) (s .leaves) (x .goal .finished)))
+  room-makes t x (no-room g h) = absurd (h (finished-fits s (x .goal .finished)))
   room-makes t x (done g q h) = done-makes x h
   room-makes t x (cut g q h) = cut-makes x h
 
@@ -166,7 +166,7 @@ region-stores : (p : List ℕ) (s : Shape) (d : ℕ) (paint : Paint) → Fits s 
     → (l : List OneStore) × RegionMakes p s d paint l
 region-stores p s d paint f r = let (a, q, c) = region-ends p s d paint 0 f r in go c
   where
-    with-room : Settled (formOf s) (words p) → Room (s .domains) (s .middles) (s .leaves) (aims s d paint (words p))
+    with-room : Settled (formOf s) (words p) → Room s (aims s d paint (words p))
         → (l : List OneStore) × RegionMakes p s d paint l
     with-room t room = let (l, x) = room-stores s d paint p r f (t .sound) room in (l, λ n a q c. room-makes t x c)
 
@@ -174,8 +174,8 @@ region-stores p s d paint f r = let (a, q, c) = region-ends p s d paint 0 f r in
     go (unsound u) = ([], λ n a q c. unsound-makes u c)
     go (unsettled g u) = ([], λ n a q c. unsettled-makes u c)
     go (no-room g u) = ([], λ n a q c. full-makes u c)
-    go (done t q h) = with-room t (finished-fits (s .domains) (s .middles) (s .leaves) (h .finished))
-    go (cut t q h) = with-room t (finished-fits (s .domains) (s .middles) (s .leaves) (h .cut .finished))
+    go (done t q h) = with-room t (finished-fits s (h .finished))
+    go (cut t q h) = with-room t (finished-fits s (h .cut .finished))
 
 module _ {p : List ℕ} {s : Shape} {d start len r n : ℕ} where
   -- A request that is not in order up to refusal 5 makes no store ..

@@ -45,7 +45,7 @@ plain-stands P k m j plain lo hi =
 
 module _ (s : Shape) (x : List ℕ) where
   -- Root word `k`.
-  module _ (k : ℕ) (b : k < firstMiddle (s .domains)) where
+  module _ (k : ℕ) (b : k < firstMiddle s) where
     split : 1024 * (k / 1024) + k % 1024 ≡ k
     split = omega arith
 
@@ -57,12 +57,12 @@ module _ (s : Shape) (x : List ℕ) where
     root-aim t l f old goal kept n left a =
         let R = rightOf (formOf s) (words x) (k / 1024) in
         let g : Gives (words x) 2 (words x k) (k % 1024) R =
-        rw split at (root-gives (s .domains) (s .middles) (s .leaves) (words x) (k / 1024) (k % 1024) (omega arith)) in
-        root-becomes (s .domains) (s .middles) (s .leaves) (a .cut .sound) (tidy-now a) k t b l
+        rw split at (root-gives s (words x) (k / 1024) (k % 1024) (omega arith)) in
+        root-becomes s (a .cut .sound) (tidy-now a) k t b l
         (f R g ∙ unpainted-target noPaint R 2 (k % 1024) (omega arith))
 
     pub root-passed : leads 2 (words x k) ≡ false → AimedAt s k x Mixed
-    root-passed l old goal kept n left a = root-stays (s .domains) (s .middles) (s .leaves) (a .cut .sound)
+    root-passed l old goal kept n left a = root-stays s (a .cut .sound)
         (tidy-now a) k b l
 
   -- Word `i` of the middle table at `t`, which the root word `o` owns.
@@ -86,10 +86,10 @@ module _ (s : Shape) (x : List ℕ) where
     page-aim c f l g old goal kept n left a =
         let R = rightOf (formOf s) (words x) (o / 1024) in
         let u : Gives (words x) 2 (words x o) (o % 1024) R =
-        rw cut-in at (root-gives (s .domains) (s .middles) (s .leaves) (words x) (o / 1024) (o % 1024) (omega arith)) in
+        rw cut-in at (root-gives s (words x) (o / 1024) (o % 1024) (omega arith)) in
         let v = rw (w .leads) at (middle-gives (words x) R (words x o) (o % 1024) i (low f) bi u) in
         let (p, b, e) = w .place in
-        rw (w .leads) at (page-becomes (s .domains) (s .middles) (s .leaves) (a .cut .sound) (tidy-now a) o i c
+        rw (w .leads) at (page-becomes s (a .cut .sound) (tidy-now a) o i c
         (w .root) bi
         (behind a o (let z = w .root in omega arith)) (low f) (rw (w .leads) l)
         (g R v ∙ unpainted-target noPaint R 1 (o % 1024 * 1024 + i) (omega arith)))
@@ -97,21 +97,21 @@ module _ (s : Shape) (x : List ℕ) where
     pub page-passed : leads 1 (words x (t + i)) ≡ false → AimedAt s (t + i) x Mixed
     page-passed l old goal kept n left a =
         let (p, b, e) = w .place in
-        page-stays (s .domains) (s .middles) (s .leaves) (a .cut .sound) (tidy-now a) (t + i) (omega arith)
+        page-stays s (a .cut .sound) (tidy-now a) (t + i) (omega arith)
         (omega arith) l
 
   -- A table has words below the leaves; one that begins among the roots is a root, and any other has its owner.
-  pub table-inside : (o t i : ℕ) → Table s x o t → i < 1024 → t + i < firstLeaf (s .domains) (s .middles)
+  pub table-inside : (o t i : ℕ) → Table s x o t → i < 1024 → t + i < firstLeaf s
   table-inside o t i y bi = ⊎-elim (λ h. omega arith) (λ w. let (p, b, e) = w .place in omega arith) y
 
-  pub table-end : (o t : ℕ) → Table s x o t → t + 1024 ≤ firstLeaf (s .domains) (s .middles)
+  pub table-end : (o t : ℕ) → Table s x o t → t + 1024 ≤ firstLeaf s
   table-end o t y = ⊎-elim (λ h. omega arith) (λ w. let (p, b, e) = w .place in omega arith) y
 
-  pub table-root : (o t i : ℕ) → Table s x o t → i < 1024 → t < firstMiddle (s .domains)
-      → t + i < firstMiddle (s .domains)
+  pub table-root : (o t i : ℕ) → Table s x o t → i < 1024 → t < firstMiddle s
+      → t + i < firstMiddle s
   table-root o t i y bi h = ⊎-elim (λ z. omega arith) (λ w. let (p, b, e) = w .place in absurd (omega arith)) y
 
-  pub table-owned : (o t : ℕ) → Table s x o t → firstMiddle (s .domains) ≤ t → Owns s x o t
+  pub table-owned : (o t : ℕ) → Table s x o t → firstMiddle s ≤ t → Owns s x o t
   table-owned o t y h = ⊎-elim (λ z. absurd (omega arith)) (λ w. w) y
 
   -- A word that does not lead stays.
@@ -125,11 +125,11 @@ module _ (s : Shape) (x : List ℕ) where
       → (old : List ℕ) (goal : ℕ → ℕ) (kept : ℕ → Bool) (n k left : ℕ)
       → TidyAt s old goal kept n k x left → (j : ℕ) → t + i ≤ j → j < t + i + m → goal j ≡ words x j
   plain-stays o t i m y b plain old goal kept n k left a j lo hi = ⊎-elim
-      (λ h. root-stays (s .domains) (s .middles) (s .leaves) (a .cut .sound) (tidy-now a) j (omega arith)
+      (λ h. root-stays s (a .cut .sound) (tidy-now a) j (omega arith)
       (plain-stands (words x) (t + i) m j plain lo hi))
       (λ w.
       let (p, c, e) = w .place in
-      page-stays (s .domains) (s .middles) (s .leaves) (a .cut .sound) (tidy-now a) j (omega arith) (omega arith)
+      page-stays s (a .cut .sound) (tidy-now a) j (omega arith) (omega arith)
       (plain-stands (words x) (t + i) m j plain lo hi)) y
 
   pub plain-passed : (o t i m : ℕ) → Table s x o t → i + m ≤ 1024 → AllPlain (words x) (t + i) m
@@ -140,34 +140,34 @@ module _ (s : Shape) (x : List ℕ) where
       plain-stays o t i m y b plain (u .old) (u .goal) (u .kept) (u .allowance) (t + i) (u .left) a j lo (omega arith)))
 
   -- A middle place that no root word owns is passed over.
-  pub place-passed : (t i : ℕ) → MiddlePlace s t → i ≤ 1024 → ((j : ℕ) → j < firstMiddle (s .domains) → words x j ≢ t)
+  pub place-passed : (t i : ℕ) → MiddlePlace s t → i ≤ 1024 → ((j : ℕ) → j < firstMiddle s → words x j ≢ t)
       → (u : Run s Tidying) → Stands s Tidying u 1 (t + i) x → Stands s Tidying u 1 (t + 1024) x
   place-passed t i (p, b, e) h nobody u y =
       let a = as-tidying s u y in
       of-tidying s u (tidy-to a (t + 1024) (omega arith) (λ j lo hi.
-      let z : j ≡ firstMiddle (s .domains) + 1024 * p + (j - t) = omega arith in
-      rw z (place-stays (s .domains) (s .middles) (s .leaves) (a .cut .sound) (tidy-now a) p b
+      let z : j ≡ firstMiddle s + 1024 * p + (j - t) = omega arith in
+      rw z (place-stays s (a .cut .sound) (tidy-now a) p b
       (λ k bk y. nobody k bk (y ∙ sym e)) (j - t) (omega arith))))
 
   -- Past the last middle place all is finished: leaves stay.
-  pub tidy-end : (k : ℕ) → firstLeaf (s .domains) (s .middles) ≤ k → (u : Run s Tidying) → Stands s Tidying u 1 k x
+  pub tidy-end : (k : ℕ) → firstLeaf s ≤ k → (u : Run s Tidying) → Stands s Tidying u 1 k x
       → (j : ℕ) → words x j ≡ u .goal j
   tidy-end k h u y j =
       let a = as-tidying s u y in
       elim (decLt j k) [
         | yes b ↦ behind a j b
-        | no b ↦ sym (leaf-stays (s .domains) (s .middles) (s .leaves) (a .cut .sound) (tidy-now a) j (omega arith))
+        | no b ↦ sym (leaf-stays s (a .cut .sound) (tidy-now a) j (omega arith))
       ]
 
 -- Roots and middle places.
-pub place-root : (s : Shape) (t : ℕ) → Place s t → t < firstMiddle (s .domains) → t + 1024 ≤ firstMiddle (s .domains)
+pub place-root : (s : Shape) (t : ℕ) → Place s t → t < firstMiddle s → t + 1024 ≤ firstMiddle s
 place-root s t y h = ⊎-elim (λ z. z) (λ (p, b, e). absurd (omega arith)) y
 
-pub place-middle : (s : Shape) (t : ℕ) → Place s t → firstMiddle (s .domains) ≤ t → MiddlePlace s t
+pub place-middle : (s : Shape) (t : ℕ) → Place s t → firstMiddle s ≤ t → MiddlePlace s t
 place-middle s t y h = ⊎-elim (λ z. absurd (omega arith)) (λ z. z) y
 
-pub place-at : (s : Shape) (k : ℕ) → k < firstLeaf (s .domains) (s .middles) → Place s (k - k % 1024)
-place-at s k h = elim (decLt k (firstMiddle (s .domains))) [
+pub place-at : (s : Shape) (k : ℕ) → k < firstLeaf s → Place s (k - k % 1024)
+place-at s k h = elim (decLt k (firstMiddle s)) [
   | yes b ↦ inl (omega arith)
   | no b ↦ inr (k / 1024 - s .domains, omega arith, omega arith)
 ]
@@ -179,7 +179,7 @@ owners-begin {s} {p} {o} fits own = record {
   only = λ i b j bj w.
       let range = fits .range in
       let l : leads 2 (words p j) ≡ true = rw w
-      (lt-ltb (firstMiddle (s .domains) + 1024 * i) 2147483648 (omega arith)) in
+      (lt-ltb (firstMiddle s + 1024 * i) 2147483648 (omega arith)) in
       let q = middle-number s i (omega arith) in
       own .owns i j (omega arith) (record {
         block = rw (q .height) bj;
@@ -199,14 +199,14 @@ owners-now {s} {old} {o} {x} {goal} fits own a = record {
       (λ e. sym e ∙ w)
       (λ e.
       let range = fits .range in
-      let v : goal j ≡ firstMiddle (s .domains) + 1024 * i = sym e ∙ w in
-      let l : leads 2 (goal j) ≡ true = rw v (lt-ltb (firstMiddle (s .domains) + 1024 * i) 2147483648 (omega arith)) in
-      sym (still-leads (s .domains) (s .middles) (s .leaves) (a .goal .sound) (tidy-old a) j bj l) ∙ v) (between a j));
+      let v : goal j ≡ firstMiddle s + 1024 * i = sym e ∙ w in
+      let l : leads 2 (goal j) ≡ true = rw v (lt-ltb (firstMiddle s + 1024 * i) 2147483648 (omega arith)) in
+      sym (still-leads s (a .goal .sound) (tidy-old a) j bj l) ∙ v) (between a j));
 }
 
 -- The owner of a middle place, by the place's number.
 pub place-owner : (s : Shape) (o x : List ℕ) (t : ℕ) → MiddlePlace s t → MiddleOwners s o x
-    → OnlyFrom s x (getD o ((t - firstMiddle (s .domains)) / 1024) 0) t
+    → OnlyFrom s x (getD o ((t - firstMiddle s) / 1024) 0) t
 place-owner s o x t (p, b, e) own =
-    let z : (t - firstMiddle (s .domains)) / 1024 ≡ p = omega arith in
+    let z : (t - firstMiddle s) / 1024 ≡ p = omega arith in
     rw (z, e) (own .only p b)

@@ -34,29 +34,26 @@ use Rattle.plan.proofs.AimLaws.{aims-other}
 
 pub fits-goal : (s : Shape) (d : ℕ) (paint : Paint) (p : List ℕ) → paint .right < 4 → Fits s (length p)
     → SoundPool (formOf s) (words p)
-    → Room (s .domains) (s .middles) (s .leaves) (aims s d paint (words p))
+    → Room s (aims s d paint (words p))
     → (Q : ℕ → ℕ) × (kept : ℕ → Bool) × Goal s d paint p Q kept
 fits-goal s d paint p r fits sP room =
-    let D = s .domains in
-    let M = s .middles in
-    let L = s .leaves in
     let P = words p in
     let R = aims s d paint P in
-    let S : (e : ℕ) → e < D → WordRights (R e) = λ e be. changed-rights (rightOf (formOf s) P) d (region paint)
-    (paint .right) e r (pool-rights D M L P e) in
-    let (fM, middle, OM) = owners (1024 * D) M (wantMiddle R) (oldMiddle P) (wasMiddle D P)
-    (old-one D M L sP 1 (omega arith))
-    (old-below D M L sP 1 (omega arith)) (room .middles) in
-    let (fL, leaf, OL) = owners (1048576 * D) L (wantLeaf R) (oldLeaf P) (wasLeaf D M P)
-    (old-one D M L sP 0 (omega arith))
-    (old-below D M L sP 0 (omega arith)) (room .leaves) in (
-      final D M L middle leaf R P,
-      keptWord D M L fM fL,
+    let S : (e : ℕ) → e < s .domains → WordRights (R e) = λ e be. changed-rights (rightOf (formOf s) P) d (region paint)
+    (paint .right) e r (pool-rights s P e) in
+    let (fM, middle, OM) = owners (1024 * s .domains) (s .middles) (wantMiddle R) (oldMiddle P) (wasMiddle s P)
+    (old-one s sP 1 (omega arith))
+    (old-below s sP 1 (omega arith)) (room .middles) in
+    let (fL, leaf, OL) = owners (1048576 * s .domains) (s .leaves) (wantLeaf R) (oldLeaf P) (wasLeaf s P)
+    (old-one s sP 0 (omega arith))
+    (old-below s sP 0 (omega arith)) (room .leaves) in (
+      final s middle leaf R P,
+      keptWord s fM fL,
       record {
         sound = sP;
-        finished = final-finished D M L (fits .range) S sP middle leaf fM fL OM OL (λ j. refl);
-        tells = final-tells D M L (fits .range) S sP middle leaf fM fL OM OL (λ j. refl);
-        beyond = λ k h. final-past D M L middle leaf R P k (rw (fits .long) at h);
+        finished = final-finished s (fits .range) S sP middle leaf fM fL OM OL (λ j. refl);
+        tells = final-tells s (fits .range) S sP middle leaf fM fL OM OL (λ j. refl);
+        beyond = λ k h. final-past s middle leaf R P k (rw (fits .long) at h);
       },
     )
 
@@ -82,4 +79,4 @@ pub tidy-goal : (s : Shape) (d : ℕ) (p : List ℕ) → Fits s (length p) → S
     → (Q : ℕ → ℕ) × (kept : ℕ → Bool) × Goal s d noPaint p Q kept
 tidy-goal s d p fits sP =
     fits-goal s d noPaint p (omega arith) fits sP
-    (sound-fits (s .domains) (s .middles) (s .leaves) (λ e a be ba. sym (aims-none s d (words p) e a)) sP)
+    (sound-fits s (λ e a be ba. sym (aims-none s d (words p) e a)) sP)

@@ -17,8 +17,9 @@ use Rattle.theory.proofs.BlockLaws.{one-word}
 use Rattle.theory.proofs.SettledLaws.{says-at, says-same}
 use Rattle.theory.proofs.KeptLaws.{kept-reach, kept-zone}
 use Rattle.theory.proofs.ReadyLaws.{finished-links}
+use Rattle.table.specs.declared.Shape.{Shape}
 use Rattle.table.specs.Shape.{firstMiddle, firstLeaf}
-use Rattle.table.specs.Map.{addresses, index, leads, zone, form}
+use Rattle.table.specs.Map.{addresses, index, leads, zone, formOf}
 use Rattle.table.specs.Wants.{wantsOf, saidOf}
 use Rattle.table.proofs.FormLaws.{lawful, exact, leads-place}
 use Rattle.table.proofs.WantLaws.{wants-divided, divided-wants, wants-says, says-said, wanting, pool-rights}
@@ -28,37 +29,37 @@ use Rattle.targets.proofs.TargetLaws.{wanted-mixed, unwanted-said}
 use Rattle.change.specs.Tidying.{Becomes}
 use Rattle.change.proofs.TidyLaws.{led-before, visits-before, unkept-stays, unled-stays}
 
-module _ (D M L : ℕ) {P Q : ℕ → ℕ} (sP : SoundPool (form D M L) P)
-    (f : Finished (form D M L) P (rightOf (form D M L) P) Q) where
+module _ (s : Shape) {P Q : ℕ → ℕ} (sP : SoundPool (formOf s) P)
+    (f : Finished (formOf s) P (rightOf (formOf s) P) Q) where
   -- A word where the walk of `a` comes in the finished pool.
-  module _ (d a : ℕ) (bd : d < D) (ba : a < addresses) {h j : ℕ}
-      (v : Visits (form D M L) Q a 2 (entry (form D M L) d a) (suc h) j) where
+  module _ (d a : ℕ) (bd : d < s .domains) (ba : a < addresses) {h j : ℕ}
+      (v : Visits (formOf s) Q a 2 (entry (formOf s) d a) (suc h) j) where
     abbrev R : ℕ → ℕ
-    R = rightOf (form D M L) P d
+    R = rightOf (formOf s) P d
 
     hi : h < 2
-    hi = visits-down (form D M L) Q a v
+    hi = visits-down (formOf s) Q a v
 
     wanted-stays : wantsOf R (suc h) a ≡ true → Q j ≡ P j
     wanted-stays e =
-        let x = wanting D M L .same (suc h) a R (rightOf (form D M L) Q d) (λ b bb. sym (f .rights d b bd bb))
+        let x = wanting s .same (suc h) a R (rightOf (formOf s) Q d) (λ b bb. sym (f .rights d b bd bb))
         (wants-divided R (suc h) a ba e) in
         let (t, (k, u, l, _)) = f .settled .there bd ba hi x in
-        let o : k ≡ j = one-word (form D M L) Q u v refl in
+        let o : k ≡ j = one-word (formOf s) Q u v refl in
         let m : leads (suc h) (Q j) ≡ true = rw o at l in
-        let (c, w) = visits-before (form D M L) (lawful D M L) (wanting D M L) (exact D M L) sP f d a bd ba v in
-        let n = led-before (form D M L) (lawful D M L) (wanting D M L) (exact D M L) sP f d a bd ba v m w in
-        sym (finished-links (form D M L) (lawful D M L) (exact D M L) sP f (suc h) j c n m)
+        let (c, w) = visits-before (formOf s) (lawful s) (wanting s) (exact s) sP f d a bd ba v in
+        let n = led-before (formOf s) (lawful s) (wanting s) (exact s) sP f d a bd ba v m w in
+        sym (finished-links (formOf s) (lawful s) (exact s) sP f (suc h) j c n m)
 
     unwanted-rights : wantsOf R (suc h) a ≡ false → Q j ≡ saidOf R (suc h) a
     unwanted-rights e = by-cases (leads (suc h) (Q j))
         (λ l.
-        let x = wanting D M L .same (suc h) a (rightOf (form D M L) Q d) R (λ b bb. f .rights d b bd bb)
+        let x = wanting s .same (suc h) a (rightOf (formOf s) Q d) R (λ b bb. f .rights d b bd bb)
         (f .settled .wanted bd ba hi (Q j, (j, v, l, refl))) in
-        absurd (true≢false (sym (divided-wants R (suc h) a (pool-rights D M L P d) x) ∙ e)))
-        (λ l. says-said D M L R (suc h) a (pool-rights D M L P d) hi ba (Q j)
-        (says-same (form D M L) (suc h) (rightOf (form D M L) Q d) R a (Q j) (λ b bb. f .rights d b bd bb)
-        (says-at (form D M L) (lawful D M L) Q (f .settled .sound) d a (suc h) j bd v l)))
+        absurd (true≢false (sym (divided-wants R (suc h) a (pool-rights s P d) x) ∙ e)))
+        (λ l. says-said s R (suc h) a (pool-rights s P d) hi ba (Q j)
+        (says-same (formOf s) (suc h) (rightOf (formOf s) Q d) R a (Q j) (λ b bb. f .rights d b bd bb)
+        (says-at (formOf s) (lawful s) Q (f .settled .sound) d a (suc h) j bd v l)))
 
     -- The target of a word that leads tells what it becomes.
     pub target-becomes : (t : Target) → t ≡ targetOf R (suc h) a → leads (suc h) (P j) ≡ true → Becomes t (P j) (Q j)
@@ -66,69 +67,69 @@ module _ (D M L : ℕ) {P Q : ℕ → ℕ} (sP : SoundPool (form D M L) P)
         (λ w. rw (e ∙ wanted-mixed R (suc h) a w) (wanted-stays w))
         (λ w. rw (e ∙ unwanted-said R (suc h) a w) (
           unwanted-rights w,
-          λ z. true≢false (sym l ∙ ap (leads (suc h)) z ∙ wants-says D M L R (suc h) a (pool-rights D M L P d) hi ba
+          λ z. true≢false (sym l ∙ ap (leads (suc h)) z ∙ wants-says s R (suc h) a (pool-rights s P d) hi ba
               w .rights),
         ))
 
   -- A root word, for its block.
-  pub root-becomes : (k : ℕ) (t : Target) → k < firstMiddle D → leads 2 (P k) ≡ true
-      → t ≡ targetOf (rightOf (form D M L) P (k / 1024)) 2 (k % 1024 * 4194304) → Becomes t (P k) (Q k)
+  pub root-becomes : (k : ℕ) (t : Target) → k < firstMiddle s → leads 2 (P k) ≡ true
+      → t ≡ targetOf (rightOf (formOf s) P (k / 1024)) 2 (k % 1024 * 4194304) → Becomes t (P k) (Q k)
   root-becomes k t b l e =
       let a = k % 1024 * 4194304 in
-      let z : entry (form D M L) (k / 1024) a ≡ k = omega arith in
-      let v : Visits (form D M L) Q a 2 (entry (form D M L) (k / 1024) a) 2 k = rw z here in
+      let z : entry (formOf s) (k / 1024) a ≡ k = omega arith in
+      let v : Visits (formOf s) Q a 2 (entry (formOf s) (k / 1024) a) 2 k = rw z here in
       target-becomes (k / 1024) a (omega arith) (omega arith) v t e l
 
   -- A word of the middle table to which the root word `o`, which stays, leads, for its page.
-  pub page-becomes : (o i : ℕ) (t : Target) → o < firstMiddle D → i < 1024 → P o ≡ Q o → leads 2 (P o) ≡ true
+  pub page-becomes : (o i : ℕ) (t : Target) → o < firstMiddle s → i < 1024 → P o ≡ Q o → leads 2 (P o) ≡ true
       → leads 1 (P (P o + i)) ≡ true
-      → t ≡ targetOf (rightOf (form D M L) P (o / 1024)) 1 ((o % 1024 * 1024 + i) * 4096) → Becomes t (P (P o + i))
+      → t ≡ targetOf (rightOf (formOf s) P (o / 1024)) 1 ((o % 1024 * 1024 + i) * 4096) → Becomes t (P (P o + i))
       (Q (P o + i))
   page-becomes o i t b bi q r l e =
       let a = (o % 1024 * 1024 + i) * 4096 in
-      let z : entry (form D M L) (o / 1024) a ≡ o = omega arith in
+      let z : entry (formOf s) (o / 1024) a ≡ o = omega arith in
       let y : index 1 a ≡ i = omega arith in
-      let v : Visits (form D M L) Q a 2 (entry (form D M L) (o / 1024) a) 1 (Q o + index 1 a) = step a z in
-      let w : Visits (form D M L) Q a 2 (entry (form D M L) (o / 1024) a) 1 (P o + i) =
-      subst (λ u. Visits (form D M L) Q a 2 (entry (form D M L) (o / 1024) a) 1 u)
+      let v : Visits (formOf s) Q a 2 (entry (formOf s) (o / 1024) a) 1 (Q o + index 1 a) = step a z in
+      let w : Visits (formOf s) Q a 2 (entry (formOf s) (o / 1024) a) 1 (P o + i) =
+      subst (λ u. Visits (formOf s) Q a 2 (entry (formOf s) (o / 1024) a) 1 u)
       (ap (λ u. Q o + u) y ∙ ap (λ u. u + i) (sym q)) v in
       target-becomes (o / 1024) a (omega arith) (omega arith) w t e l
     where
-      step : (a : ℕ) → entry (form D M L) (o / 1024) a ≡ o → Visits (form D M L) Q a 2
-          (entry (form D M L) (o / 1024) a) 1 (Q o + index 1 a)
+      step : (a : ℕ) → entry (formOf s) (o / 1024) a ≡ o → Visits (formOf s) Q a 2
+          (entry (formOf s) (o / 1024) a) 1 (Q o + index 1 a)
       step a z = rw z (next here (rw q at r))
 
   -- What does not lead stays.
-  pub root-stays : (k : ℕ) → k < firstMiddle D → leads 2 (P k) ≡ false → Q k ≡ P k
+  pub root-stays : (k : ℕ) → k < firstMiddle s → leads 2 (P k) ≡ false → Q k ≡ P k
   root-stays k b l =
-      let z : zone D M L k ≡ 2 = rw (lt-ltb k (firstMiddle D) b) refl in
-      unled-stays (form D M L) (lawful D M L) (wanting D M L) (exact D M L) sP f k (rw z l)
+      let z : zone s k ≡ 2 = rw (lt-ltb k (firstMiddle s) b) refl in
+      unled-stays (formOf s) (lawful s) (wanting s) (exact s) sP f k (rw z l)
 
   -- A root word that still leads leads where it did.
-  pub still-leads : (k : ℕ) → k < firstMiddle D → leads 2 (Q k) ≡ true → Q k ≡ P k
+  pub still-leads : (k : ℕ) → k < firstMiddle s → leads 2 (Q k) ≡ true → Q k ≡ P k
   still-leads k b l = by-cases (leads 2 (P k))
       (λ m.
       let a = k % 1024 * 4194304 in
-      let z : entry (form D M L) (k / 1024) a ≡ k = omega arith in
+      let z : entry (formOf s) (k / 1024) a ≡ k = omega arith in
       sym (f .keeps {d = k / 1024} {a = a} {h = 1} (omega arith) (omega arith) (k, rw z here, m, refl)
       (k, rw z here, l, refl)))
       (λ m. root-stays k b m)
 
-  pub page-stays : (k : ℕ) → firstMiddle D ≤ k → k < firstLeaf D M → leads 1 (P k) ≡ false → Q k ≡ P k
+  pub page-stays : (k : ℕ) → firstMiddle s ≤ k → k < firstLeaf s → leads 1 (P k) ≡ false → Q k ≡ P k
   page-stays k b c l =
-      let z : zone D M L k ≡ 1 = rw (le-ltb k (firstMiddle D) b, lt-ltb k (firstLeaf D M) c) refl in
-      unled-stays (form D M L) (lawful D M L) (wanting D M L) (exact D M L) sP f k (rw z l)
+      let z : zone s k ≡ 1 = rw (le-ltb k (firstMiddle s) b, lt-ltb k (firstLeaf s) c) refl in
+      unled-stays (formOf s) (lawful s) (wanting s) (exact s) sP f k (rw z l)
 
-  pub leaf-stays : (k : ℕ) → firstLeaf D M ≤ k → Q k ≡ P k
+  pub leaf-stays : (k : ℕ) → firstLeaf s ≤ k → Q k ≡ P k
   leaf-stays k b =
-      let z : zone D M L k ≡ 0 = rw (le-ltb k (firstMiddle D) (omega arith), le-ltb k (firstLeaf D M) b) refl in
-      unled-stays (form D M L) (lawful D M L) (wanting D M L) (exact D M L) sP f k (rw z refl)
+      let z : zone s k ≡ 0 = rw (le-ltb k (firstMiddle s) (omega arith), le-ltb k (firstLeaf s) b) refl in
+      unled-stays (formOf s) (lawful s) (wanting s) (exact s) sP f k (rw z refl)
 
   -- A word of the highest zone is of a root.
-  zone-root : (j : ℕ) → zone D M L j ≡ 2 → j < firstMiddle D
-  zone-root j e = elim (decLt j (firstMiddle D)) [
+  zone-root : (j : ℕ) → zone s j ≡ 2 → j < firstMiddle s
+  zone-root j e = elim (decLt j (firstMiddle s)) [
     | yes b ↦ b
-    | no b ↦ absurd (lower (ltb j (firstLeaf D M)) (rw (le-ltb j (firstMiddle D) (omega arith)) at e))
+    | no b ↦ absurd (lower (ltb j (firstLeaf s)) (rw (le-ltb j (firstMiddle s) (omega arith)) at e))
   ]
     where
       lower : (b : Bool) → _≡_ {A = ℕ} (cond b 1 0) 2 → ⊥
@@ -136,25 +137,25 @@ module _ (D M L : ℕ) {P Q : ℕ → ℕ} (sP : SoundPool (form D M L) P)
       lower false z = omega arith
 
   -- A middle place to which no root word leads is in no kept table, and stays.
-  module _ (p : ℕ) (bp : p < M) (nobody : (k : ℕ) → k < firstMiddle D → P k ≢ firstMiddle D + 1024 * p) where
-    under : (j o i : ℕ) → Kept (form D M L) P Q 2 j → leads 2 (P j) ≡ true → o < 1024 → i < 1024 → P j + o
-        ≡ firstMiddle D + 1024 * p + i → ⊥
+  module _ (p : ℕ) (bp : p < s .middles) (nobody : (k : ℕ) → k < firstMiddle s → P k ≢ firstMiddle s + 1024 * p) where
+    under : (j o i : ℕ) → Kept (formOf s) P Q 2 j → leads 2 (P j) ≡ true → o < 1024 → i < 1024 → P j + o
+        ≡ firstMiddle s + 1024 * p + i → ⊥
     under j o i c l bo bi e =
-        let (_, q, _, x) = leads-place D M L 1 (P j) (sP .good (kept-reach (form D M L) c)) l in
-        nobody j (zone-root j (kept-zone (form D M L) (lawful D M L) sP c)) (omega arith)
+        let (_, q, _, x) = leads-place s 1 (P j) (sP .good (kept-reach (formOf s) c)) l in
+        nobody j (zone-root j (kept-zone (formOf s) (lawful s) sP c)) (omega arith)
 
-    unowned : {m k : ℕ} (i : ℕ) → i < 1024 → k ≡ firstMiddle D + 1024 * p + i → Kept (form D M L) P Q m k → ⊥
+    unowned : {m k : ℕ} (i : ℕ) → i < 1024 → k ≡ firstMiddle s + 1024 * p + i → Kept (formOf s) P Q m k → ⊥
     unowned i bi e (top (d, o, _, z, bd, bo)) = omega arith
     unowned i bi e (down {m} {j} o c q l bo) =
-        let y : zone D M L (P j + o) ≡ 1 = rw (
+        let y : zone s (P j + o) ≡ 1 = rw (
           e,
-          le-ltb (firstMiddle D + 1024 * p + i) (firstMiddle D) (omega arith),
-          lt-ltb (firstMiddle D + 1024 * p + i) (firstLeaf D M) (omega arith),
+          le-ltb (firstMiddle s + 1024 * p + i) (firstMiddle s) (omega arith),
+          lt-ltb (firstMiddle s + 1024 * p + i) (firstLeaf s) (omega arith),
         ) refl in
-        let n : m ≡ 1 = sym (kept-zone (form D M L) (lawful D M L) sP (down o c q l bo)) ∙ y in
+        let n : m ≡ 1 = sym (kept-zone (formOf s) (lawful s) sP (down o c q l bo)) ∙ y in
         under j o i (rw n at c) l (rw n at bo) bi e
 
-    pub place-stays : (i : ℕ) → i < 1024 → Q (firstMiddle D + 1024 * p + i) ≡ P (firstMiddle D + 1024 * p + i)
+    pub place-stays : (i : ℕ) → i < 1024 → Q (firstMiddle s + 1024 * p + i) ≡ P (firstMiddle s + 1024 * p + i)
     place-stays i bi =
-        unkept-stays (form D M L) (lawful D M L) (wanting D M L) (exact D M L) sP f (firstMiddle D + 1024 * p + i)
+        unkept-stays (formOf s) (lawful s) (wanting s) (exact s) sP f (firstMiddle s + 1024 * p + i)
         (λ m c. unowned i bi refl c)

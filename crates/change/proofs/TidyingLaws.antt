@@ -44,7 +44,7 @@ module _ {s : Shape} {old : List ℕ} {Q : ℕ → ℕ} {kept : ℕ → Bool} {n
 
   -- A word that is to change is of the first phase.
   pub first-phase : (j : ℕ) → Q j ≢ words old j → phases s old kept j ≡ 1
-  first-phase = differs-first (formOf s) (lawful _ _ _) (wanting _ _ _) (exact _ _ _) (a .goal .sound) tidy-old
+  first-phase = differs-first (formOf s) (lawful _) (wanting _) (exact _) (a .goal .sound) tidy-old
       kept (a .goal .tells)
 
   pub here-first : Q k ≢ words x k → phases s old kept k ≡ 1

@@ -74,7 +74,7 @@ pub data ChangesRegion (p : List ℕ) (s : Shape) (d : ℕ) (paint : Paint) (n :
   unsound : (SoundPool (formOf s) (words p) → ⊥) → ChangesRegion p s d paint n (Refused 6) p
   unsettled : SoundPool (formOf s) (words p) → (Settled (formOf s) (words p) → ⊥) → ChangesRegion p s d paint n
       (Refused 7) p
-  no-room : Settled (formOf s) (words p) → (Room (s .domains) (s .middles) (s .leaves) (aims s d paint (words p)) → ⊥)
+  no-room : Settled (formOf s) (words p) → (Room s (aims s d paint (words p)) → ⊥)
       → ChangesRegion p s d paint n (Refused 8) p
   done : Settled (formOf s) (words p) → (q : List ℕ) → IsDone s d paint p n q → ChangesRegion p s d paint n
       (Done (differing p q)) q

@@ -74,12 +74,12 @@ pub record Looks (s : Shape) (w : Work) (from : Cursor) (x : List ℕ) : Type 0 
 
 -- No root word but `owner` leads to the middle place at `t`.
 abbrev pub OnlyFrom : Shape → List ℕ → ℕ → ℕ → Type 0
-OnlyFrom s x owner t = (j : ℕ) → j < firstMiddle (s .domains) → words x j ≡ t → owner ≡ j
+OnlyFrom s x owner t = (j : ℕ) → j < firstMiddle s → words x j ≡ t → owner ≡ j
 
 -- No root word but its owner leads to a middle place.
 pub record MiddleOwners (s : Shape) (o x : List ℕ) : Type 0 where
   pub long : length o ≡ maxPlaces
-  pub only : (p : ℕ) → p < s .middles → OnlyFrom s x (getD o p 0) (firstMiddle (s .domains) + 1024 * p)
+  pub only : (p : ℕ) → p < s .middles → OnlyFrom s x (getD o p 0) (firstMiddle s + 1024 * p)
 
 -- What a work is told of the owners of places: a tidying those of the middle places; a change has its plan.
 abbrev pub Told : Shape → Work → List ℕ → List ℕ → Type 0

@@ -30,18 +30,18 @@ AimedAt s k x t =
 
 -- A middle place begins at word `t`.
 abbrev pub MiddlePlace : Shape → ℕ → Type 0
-MiddlePlace s t = (p : ℕ) × (p < s .middles) × (t ≡ firstMiddle (s .domains) + 1024 * p)
+MiddlePlace s t = (p : ℕ) × (p < s .middles) × (t ≡ firstMiddle s + 1024 * p)
 
 -- The root word `owner` leads to the middle table at `t`, which is a place.
 pub record Owns (s : Shape) (x : List ℕ) (owner t : ℕ) : Type 0 where
-  pub root : owner < firstMiddle (s .domains)
+  pub root : owner < firstMiddle s
   pub leads : words x owner ≡ t
   pub place : MiddlePlace s t
 
 -- A root, or a middle table that has an owner.
 abbrev pub Table : Shape → List ℕ → ℕ → ℕ → Type 0
-Table s x owner t = (t + 1024 ≤ firstMiddle (s .domains)) ⊎ Owns s x owner t
+Table s x owner t = (t + 1024 ≤ firstMiddle s) ⊎ Owns s x owner t
 
 -- A root, or a middle place.
 abbrev pub Place : Shape → ℕ → Type 0
-Place s t = (t + 1024 ≤ firstMiddle (s .domains)) ⊎ MiddlePlace s t
+Place s t = (t + 1024 ≤ firstMiddle s) ⊎ MiddlePlace s t

@@ -258,7 +258,7 @@ fn new_word(plan: Plan, k: PoolWord) -> bool
 // The phase in which word `k`, which holds `x`, is stored: words that lead are given up first, then new tables are
 // filled, then the rest is linked.
 fn phase_of(shape: Shape, plan: Plan, k: PoolWord, x: u32) -> u32
-    requires { ⌜ InRange (shape .domains) (shape .middles) (shape .leaves) ⌝ }
+    requires { ⌜ InRange shape ⌝ }
     ensures { λ r. ⌜ r ≡ phaseOf shape plan (k .0) x ⌝ }
 {
     let domains = shape.domains;

@@ -59,8 +59,8 @@ region-by-room : {p : List ℕ} {s : Shape} {d r n : ℕ} {g : Region} {c : Answ
 region-by-room t (unsound y) = absurd (y (t .sound))
 region-by-room t (unsettled y z) = absurd (z t)
 region-by-room t (no-room y z) = full z
-region-by-room {s = s} t (done y q z) = finishes (finished-fits (s .domains) (s .middles) (s .leaves) (z .finished)) _
-region-by-room {s = s} t (cut y q z) = is-cut (finished-fits (s .domains) (s .middles) (s .leaves) (z .cut .finished))
+region-by-room {s = s} t (done y q z) = finishes (finished-fits s (z .finished)) _
+region-by-room {s = s} t (cut y q z) = is-cut (finished-fits s (z .cut .finished))
 
 pub settled-by-room : {p : List ℕ} {s : Shape} {d start len r n : ℕ} {g : Region} {c : Answer} {q : List ℕ}
     → Settled (formOf s) (words p) → Asked p s d start len r g → Changes p s d start len r n c q → ByRoom s p d g r c

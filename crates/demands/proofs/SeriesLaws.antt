@@ -38,7 +38,7 @@ pub one-region : (start len : ℕ) {g h : Region} → regionOf start len ≡ Cov
 one-region start len e f = cc
 
 -- The length of a fresh pool is that of its shape.
-fresh-long : (s : Shape) → length (freshPool s) ≡ poolLength (s .domains) (s .middles) (s .leaves)
+fresh-long : (s : Shape) → length (freshPool s) ≡ poolLength s
 fresh-long s = simp (length-append, length-replicate) (omega arith)
 
 fresh-holds : (s : Shape) (p q : List ℕ) → MakesFresh s p Made q → Holds s q made

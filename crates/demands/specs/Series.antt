@@ -56,7 +56,7 @@ pub record Holds (s : Shape) (p : List ℕ) (h : History) : Type 0 where
 
 -- There is room for the rights that a change of the region `g` to the right `r` would leave.
 abbrev pub RoomFor : Shape → List ℕ → ℕ → Region → ℕ → Type 0
-RoomFor s p d g r = Room (s .domains) (s .middles) (s .leaves) (aims s d (paintOf g r) (words p))
+RoomFor s p d g r = Room s (aims s d (paintOf g r) (words p))
 
 -- The answer is refused 8, and there is no room; or there is room, and it is done or cut.
 pub data ByRoom (s : Shape) (p : List ℕ) (d : ℕ) (g : Region) (r : ℕ) : Answer → Type 0 where

@@ -12,8 +12,9 @@ use Rattle.theory.specs.Finished.{Place, Before, Finished}
 use Rattle.theory.proofs.BlockLaws.{led-low}
 use Rattle.theory.proofs.Encodes.{Gets, Placing, Encodes, Fresh, Follows}
 use Rattle.theory.proofs.EncodesLaws.{gets-above, wants-gets, encodes-finished}
+use Rattle.table.specs.declared.Shape.{Shape}
 use Rattle.table.specs.Shape.{InRange, places}
-use Rattle.table.specs.Map.{addresses, block, size, index, form}
+use Rattle.table.specs.Map.{addresses, block, size, index, formOf}
 use Rattle.table.specs.Wants.{wantsOf, WordRights}
 use Rattle.table.proofs.EntryLaws.{index-below}
 use Rattle.table.proofs.BlockLaws.{block-together, together-block}
@@ -34,18 +35,18 @@ use Rattle.places.proofs.FinalWordLaws.{place-owned, place-idle}
 use Rattle.places.proofs.FinalWordLaws.{entry-leads, entry-says}
 
 -- A place of the pool can be named by an entry.
-place-low : (D M L h p : ℕ) → InRange D M L → h < 2 → p < places D M L h → placeAt D M L h p < 2147483648
-place-low D M L zero p range hi b = omega arith
-place-low D M L (suc zero) p range hi b = omega arith
-place-low D M L (suc (suc h)) p range hi b = absurd (omega arith)
+place-low : (s : Shape) (h p : ℕ) → InRange s → h < 2 → p < places s h → placeAt s h p < 2147483648
+place-low s zero p range hi b = omega arith
+place-low s (suc zero) p range hi b = omega arith
+place-low s (suc (suc h)) p range hi b = absurd (omega arith)
 
-module _ (D M L : ℕ) (range : InRange D M L) {R : ℕ → ℕ → ℕ} (S : (d : ℕ) → d < D → WordRights (R d)) {P : ℕ → ℕ}
-    (sP : SoundPool (form D M L) P) (middle leaf : ℕ → ℕ) (freeM freeL : ℕ → Bool)
-    (OM : Owned (1024 * D) M (wantMiddle R) (oldMiddle P) freeM (wasMiddle D P) middle)
-    (OL : Owned (1048576 * D) L (wantLeaf R) (oldLeaf P) freeL (wasLeaf D M P) leaf)
-    {Q : ℕ → ℕ} (is : (j : ℕ) → Q j ≡ final D M L middle leaf R P j) where
+module _ (s : Shape) (range : InRange s) {R : ℕ → ℕ → ℕ} (S : (d : ℕ) → d < s .domains → WordRights (R d)) {P : ℕ → ℕ}
+    (sP : SoundPool (formOf s) P) (middle leaf : ℕ → ℕ) (freeM freeL : ℕ → Bool)
+    (OM : Owned (1024 * s .domains) (s .middles) (wantMiddle R) (oldMiddle P) freeM (wasMiddle s P) middle)
+    (OL : Owned (1048576 * s .domains) (s .leaves) (wantLeaf R) (oldLeaf P) freeL (wasLeaf s P) leaf)
+    {Q : ℕ → ℕ} (is : (j : ℕ) → Q j ≡ final s middle leaf R P j) where
   abbrev F : Form
-  F = form D M L
+  F = formOf s
 
   abbrev owner : ℕ → ℕ → ℕ
   owner h = either leaf middle h
@@ -54,14 +55,14 @@ module _ (D M L : ℕ) (range : InRange D M L) {R : ℕ → ℕ → ℕ} (S : (d
   wants h d a = wantsOf (R d) h a
 
   abbrev stand : ℕ → ℕ → ℕ → ℕ
-  stand = place D M L middle leaf
+  stand = place s middle leaf
 
   abbrev got : ℕ → ℕ → ℕ → Type 0
   got = Gets F wants
 
   -- Both heights in one.
-  pub owned : (h : ℕ) → h < 2 → Owned (blocks h * D) (places D M L h) (want R h) (old P h) (either freeL freeM h)
-      (was D M L P h) (owner h)
+  pub owned : (h : ℕ) → h < 2 → Owned (blocks h * s .domains) (places s h) (want R h) (old P h) (either freeL freeM h)
+      (was s P h) (owner h)
   owned zero hi = OL
   owned (suc zero) hi = OM
   owned (suc (suc h)) hi = absurd (omega arith)
@@ -70,55 +71,55 @@ module _ (D M L : ℕ) (range : InRange D M L) {R : ℕ → ℕ → ℕ} (S : (d
   pub want-got : (h d a : ℕ) → h < 2 → a < addresses → got h d a → want R h (number h d a) ≡ true
   want-got h d a hi ba g = want-number R h d a hi ba ∙ g (suc h) (omega arith) hi
 
-  pub own : (h d a : ℕ) → h < 2 → d < D → a < addresses → got h d a
-      → (seek (owner h) (number h d a) (places D M L h) < places D M L h)
-      × (owner h (seek (owner h) (number h d a) (places D M L h)) ≡ number h d a)
+  pub own : (h d a : ℕ) → h < 2 → d < s .domains → a < addresses → got h d a
+      → (seek (owner h) (number h d a) (places s h) < places s h)
+      × (owner h (seek (owner h) (number h d a) (places s h)) ≡ number h d a)
   own h d a hi bd ba g =
-      seek-owner (blocks h * D) (places D M L h) (want R h) (old P h) (either freeL freeM h) (was D M L P h)
+      seek-owner (blocks h * s .domains) (places s h) (want R h) (old P h) (either freeL freeM h) (was s P h)
       (owned h hi)
-      (number h d a) (number-below h D d a hi bd ba) (want-got h d a hi ba g)
+      (number h d a) (number-below h (s .domains) d a hi bd ba) (want-got h d a hi ba g)
 
   -- The words where walks come.
-  in-table : (h d a : ℕ) → h < 2 → d < D → a < addresses → got h d a
-      → Q (tableOf D M L middle leaf h (number h d a) + index h a) ≡ tableWord D M L middle leaf R P h (number h d a)
+  in-table : (h d a : ℕ) → h < 2 → d < s .domains → a < addresses → got h d a
+      → Q (tableOf s middle leaf h (number h d a) + index h a) ≡ tableWord s middle leaf R P h (number h d a)
       (index h a)
   in-table h d a hi bd ba g =
       let (b, o) = own h d a hi bd ba g in
-      is _ ∙ final-place D M L middle leaf R P _ h (seek (owner h) (number h d a) (places D M L h)) (index h a)
+      is _ ∙ final-place s middle leaf R P _ h (seek (owner h) (number h d a) (places s h)) (index h a)
       (hi, b, index-below h a, refl)
-      ∙ place-owned D M L middle leaf R P h _ (seek (owner h) (number h d a) (places D M L h)) (index h a)
-      (number h d a) o (number-below h D d a hi bd ba)
+      ∙ place-owned s middle leaf R P h _ (seek (owner h) (number h d a) (places s h)) (index h a)
+      (number h d a) o (number-below h (s .domains) d a hi bd ba)
 
-  entry-at : (h d a : ℕ) → h < 2 → d < D → a < addresses → got (suc h) d a
-      → Q (stand (suc h) d a + index (suc h) a) ≡ entryWord D M L middle leaf R P h (number h d a)
+  entry-at : (h d a : ℕ) → h < 2 → d < s .domains → a < addresses → got (suc h) d a
+      → Q (stand (suc h) d a + index (suc h) a) ≡ entryWord s middle leaf R P h (number h d a)
   entry-at zero d a hi bd ba g =
-      in-table 1 d a (omega arith) bd ba g ∙ ap (entryWord D M L middle leaf R P 0) (sym (page-number d a ba))
+      in-table 1 d a (omega arith) bd ba g ∙ ap (entryWord s middle leaf R P 0) (sym (page-number d a ba))
   entry-at (suc zero) d a hi bd ba g =
-      ap Q (root-number d a ba) ∙ is (number 1 d a) ∙ final-root D M L middle leaf R P (number 1 d a)
-      (number-below 1 D d a hi bd ba)
+      ap Q (root-number d a ba) ∙ is (number 1 d a) ∙ final-root s middle leaf R P (number 1 d a)
+      (number-below 1 (s .domains) d a hi bd ba)
   entry-at (suc (suc h)) d a hi bd ba g = absurd (omega arith)
 
-  final-leads : (h d a : ℕ) → d < D → a < addresses → h < 2 → got h d a
+  final-leads : (h d a : ℕ) → d < s .domains → a < addresses → h < 2 → got h d a
       → (F .good (suc h) (Q (stand (suc h) d a + index (suc h) a)) ≡ true)
       × (F .leads (suc h) (Q (stand (suc h) d a + index (suc h) a)) ≡ true)
       × (Q (stand (suc h) d a + index (suc h) a) ≡ stand h d a)
   final-leads h d a bd ba hi g =
-      let p = seek (owner h) (number h d a) (places D M L h) in
-      let e : Q (stand (suc h) d a + index (suc h) a) ≡ placeAt D M L h p =
-      entry-at h d a hi bd ba (gets-above F wants h d a g) ∙ entry-leads D M L middle leaf R P h (number h d a)
+      let p = seek (owner h) (number h d a) (places s h) in
+      let e : Q (stand (suc h) d a + index (suc h) a) ≡ placeAt s h p =
+      entry-at h d a hi bd ba (gets-above F wants h d a g) ∙ entry-leads s middle leaf R P h (number h d a)
       (want-got h d a hi ba g) in
       let b = own h d a hi bd ba g .0 in
-      let (x, y) = place-leads D M L h p hi b (place-low D M L h p range hi b) in
-      (rw e x, rw e y, e ∙ sym (place-table D M L middle leaf h d a hi))
+      let (x, y) = place-leads s h p hi b (place-low s h p range hi b) in
+      (rw e x, rw e y, e ∙ sym (place-table s middle leaf h d a hi))
 
-  final-says : (h d a : ℕ) → d < D → a < addresses → h ≤ 2 → got h d a → wants h d a ≡ false
+  final-says : (h d a : ℕ) → d < s .domains → a < addresses → h ≤ 2 → got h d a → wants h d a ≡ false
       → Says F h (R d) a (Q (stand h d a + index h a))
   final-says zero d a bd ba hi g n =
-      rw (in-table 0 d a (omega arith) bd ba g ∙ said-leaf R d a ba) (wants-says D M L (R d) 0 a (S d bd) hi ba n)
+      rw (in-table 0 d a (omega arith) bd ba g ∙ said-leaf R d a ba) (wants-says s (R d) 0 a (S d bd) hi ba n)
   final-says (suc h) d a bd ba hi g n =
-      rw (entry-at h d a hi bd ba g ∙ entry-says D M L middle leaf R P h (number h d a)
+      rw (entry-at h d a hi bd ba g ∙ entry-says s middle leaf R P h (number h d a)
       (want-number R h d a hi ba ∙ n) ∙ said-number R h d a hi ba)
-      (wants-says D M L (R d) (suc h) a (S d bd) hi ba n)
+      (wants-says s (R d) (suc h) a (S d bd) hi ba n)
 
   pub final-encodes : Encodes F wants stand R Q
   final-encodes = record { leads = final-leads; says = final-says }
@@ -127,66 +128,69 @@ module _ (D M L : ℕ) (range : InRange D M L) {R : ℕ → ℕ → ℕ} (S : (d
   same-table : (h d a b : ℕ) → h < 2 → a < addresses → b < addresses → Together F (suc h) a b → stand h d a
       ≡ stand h d b
   same-table h d a b hi ba bb t =
-      place-table D M L middle leaf h d a hi
-      ∙ ap (λ x. tableOf D M L middle leaf h (blocks h * d + x)) (together-block D M L (suc h) a b hi ba bb t)
-      ∙ sym (place-table D M L middle leaf h d b hi)
+      place-table s middle leaf h d a hi
+      ∙ ap (λ x. tableOf s middle leaf h (blocks h * d + x)) (together-block s (suc h) a b hi ba bb t)
+      ∙ sym (place-table s middle leaf h d b hi)
 
-  final-block : (h d a b : ℕ) → d < D → a < addresses → b < addresses → Together F (suc h) a b → stand h d a
+  final-block : (h d a b : ℕ) → d < s .domains → a < addresses → b < addresses → Together F (suc h) a b → stand h d a
       ≡ stand h d b
   final-block zero d a b bd ba bb t = same-table 0 d a b (omega arith) ba bb t
   final-block (suc zero) d a b bd ba bb t = same-table 1 d a b (omega arith) ba bb t
   final-block (suc (suc h)) d a b bd ba bb t = refl
 
-  final-apart : (h d a e b : ℕ) → d < D → a < addresses → e < D → b < addresses → h < 2 → got h d a → got h e b
+  final-apart : (h d a e b : ℕ) → d < s .domains → a < addresses → e < s .domains → b < addresses → h < 2
+      → got h d a → got h e b
       → stand h d a ≡ stand h e b
       → (d ≡ e) × Together F (suc h) a b
   final-apart h d a e b bd ba be bb hi g k q =
-      let x = place-one D M L h _ _ (sym (place-table D M L middle leaf h d a hi) ∙ q
-      ∙ place-table D M L middle leaf h e b hi) in
-      let y = seek-apart (blocks h * D) (places D M L h) (want R h) (old P h) (either freeL freeM h) (was D M L P h)
+      let x = place-one s h _ _ (sym (place-table s middle leaf h d a hi) ∙ q
+      ∙ place-table s middle leaf h e b hi) in
+      let y = seek-apart (blocks h * s .domains) (places s h) (want R h) (old P h) (either freeL freeM h) (was s P h)
       (owned h hi)
-      (number h d a) (number h e b) (number-below h D d a hi bd ba) (number-below h D e b hi be bb)
+      (number h d a) (number h e b) (number-below h (s .domains) d a hi bd ba) (number-below h
+          (s .domains) e b hi be bb)
       (want-got h d a hi ba g) (want-got h e b hi bb k) x in
       let (u, v) = number-same h d a e b hi ba bb y in
-      (u, block-together D M L (suc h) a b v)
+      (u, block-together s (suc h) a b v)
 
   pub final-placing : Placing F wants stand
   final-placing = record { root = λ d a bd ba. refl; block = final-block; apart = final-apart }
 
-  final-keeps : (h d a s : ℕ) → d < D → a < addresses → got h d a → Led F P d a h s → stand h d a ≡ s
-  final-keeps h d a s bd ba g o =
+  final-keeps : (h d a t : ℕ) → d < s .domains → a < addresses → got h d a → Led F P d a h t → stand h d a ≡ t
+  final-keeps h d a t bd ba g o =
       let hi : h < 2 = led-low F P d a h o in
-      let (x, y) = led-old D M L P d a ba h s o in
-      let i = number-below h D d a hi bd ba in
-      let (_, z) = seek-keeps (blocks h * D) (places D M L h) (want R h) (old P h) (either freeL freeM h)
-      (was D M L P h) (owned h hi)
+      let (x, y) = led-old s P d a ba h t o in
+      let i = number-below h (s .domains) d a hi bd ba in
+      let (_, z) = seek-keeps (blocks h * s .domains) (places s h) (want R h) (old P h) (either freeL freeM h)
+      (was s P h) (owned h hi)
       (number h d a) i (want-got h d a hi ba g) x in
-      place-table D M L middle leaf h d a hi ∙ ap (placeAt D M L h) z
-      ∙ sym (old-at D M L sP h hi (number h d a) i x .1) ∙ y
+      place-table s middle leaf h d a hi ∙ ap (placeAt s h) z
+      ∙ sym (old-at s sP h hi (number h d a) i x .1) ∙ y
 
-  final-order : (h d a e b : ℕ) → d < D → a < addresses → e < D → b < addresses → h < 2 → Fresh F wants stand P h d a
+  final-order : (h d a e b : ℕ) → d < s .domains → a < addresses → e < s .domains → b < addresses → h < 2
+      → Fresh F wants stand P h d a
       → Fresh F wants stand P h e b
       → Before d a e b → stand h d a ≤ stand h e b
   final-order h d a e b bd ba be bb hi (g, m) (k, n) o =
-      rw (place-table D M L middle leaf h d a hi, place-table D M L middle leaf h e b hi)
-      (place-order D M L h _ _
-      (seek-order (blocks h * D) (places D M L h) (want R h) (old P h) (either freeL freeM h) (was D M L P h)
+      rw (place-table s middle leaf h d a hi, place-table s middle leaf h e b hi)
+      (place-order s h _ _
+      (seek-order (blocks h * s .domains) (places s h) (want R h) (old P h) (either freeL freeM h) (was s P h)
       (owned h hi)
-      (number h d a) (number h e b) (number-order h d a e b hi ba bb o) (number-below h D e b hi be bb)
-      (want-got h d a hi ba g) (want-got h e b hi bb k) (not-led-old D M L P d a ba h hi m)
-      (not-led-old D M L P e b bb h hi n)))
+      (number h d a) (number h e b) (number-order h d a e b hi ba bb o) (number-below h (s .domains) e b hi be bb)
+      (want-got h d a hi ba g) (want-got h e b hi bb k) (not-led-old s P d a ba h hi m)
+      (not-led-old s P e b bb h hi n)))
 
   -- A place that has an owner, as a walk that comes there: by its entry `e`.
   abbrev Owner : ℕ → ℕ → ℕ → Type 0
-  Owner h p e = (d : ℕ) × (a : ℕ) × (d < D) × (a < addresses) × (number h d a ≡ owner h p) × got h d a
-      × (stand h d a ≡ placeAt D M L h p) × (index h a ≡ e)
+  Owner h p e = (d : ℕ) × (a : ℕ) × (d < s .domains) × (a < addresses) × (number h d a ≡ owner h p) × got h d a
+      × (stand h d a ≡ placeAt s h p) × (index h a ≡ e)
 
-  pub place-owner : (h p e : ℕ) → h < 2 → p < places D M L h → owner h p < blocks h * D → e < size h → Owner h p e
+  pub place-owner : (h p e : ℕ) → h < 2 → p < places s h → owner h p < blocks h * s .domains → e < size h → Owner h p e
   place-owner h p e hi bp b be =
       let O = owned h hi in
       let d = domainOf h (owner h p) in
       let a = addressOf h (owner h p) + block h * e in
-      let (bd, ba, x) = number-of h D (owner h p) (block h * e) hi b (offset-below h e hi be) in
+      let (bd, ba, x) = number-of h (s .domains) (owner h p) (block h * e) hi b (offset-below h e hi be) in
       let w : wantsOf (R d) (suc h) a ≡ true = sym (want-number R h d a hi ba) ∙ ap (want R h) x
       ∙ O .held .only p bp b in (
         d,
@@ -194,25 +198,26 @@ module _ (D M L : ℕ) (range : InRange D M L) {R : ℕ → ℕ → ℕ} (S : (d
         bd,
         ba,
         x,
-        wants-gets F wants (wanting D M L) (tells-wants D M L R S) d a bd ba h hi (wants-divided (R d) (suc h) a ba w),
-        place-table D M L middle leaf h d a hi ∙ ap (tableOf D M L middle leaf h) x
-            ∙ ap (placeAt D M L h)
-            (owner-seek (blocks h * D) (places D M L h) (want R h) (old P h) (either freeL freeM h) (was D M L P h) O
+        wants-gets F wants (wanting s) (tells-wants s R S) d a bd ba h hi (wants-divided (R d) (suc h) a ba w),
+        place-table s middle leaf h d a hi ∙ ap (tableOf s middle leaf h) x
+            ∙ ap (placeAt s h)
+            (owner-seek (blocks h * s .domains) (places s h) (want R h) (old P h) (either freeL freeM h) (was s P h) O
             p bp b),
         address-index h (owner h p) e hi be,
       )
 
-  final-lowest : (h d a x : ℕ) → d < D → a < addresses → h < 2 → Fresh F wants stand P h d a → Place F h x
+  final-lowest : (h d a x : ℕ) → d < s .domains → a < addresses → h < 2 → Fresh F wants stand P h d a → Place F h x
       → x < stand h d a
-      → (e : ℕ) × (b : ℕ) × (e < D) × (b < addresses) × got h e b × (stand h e b ≡ x)
+      → (e : ℕ) × (b : ℕ) × (e < s .domains) × (b < addresses) × got h e b × (stand h e b ≡ x)
   final-lowest h d a x bd ba hi (g, m) (w, c, l, e) lt =
-      let (_, q, bq, z) = leads-place D M L h w c l in
-      let k : placeAt D M L h q ≡ x = sym z ∙ e in
-      let y = place-less D M L h q (seek (owner h) (number h d a) (places D M L h))
-      (rw (k, ← place-table D M L middle leaf h d a hi) lt) in
-      let (u, v) = seek-lowest (blocks h * D) (places D M L h) (want R h) (old P h) (either freeL freeM h)
-      (was D M L P h) (owned h hi)
-      (number h d a) q (number-below h D d a hi bd ba) (want-got h d a hi ba g) (not-led-old D M L P d a ba h hi m) y in
+      let (_, q, bq, z) = leads-place s h w c l in
+      let k : placeAt s h q ≡ x = sym z ∙ e in
+      let y = place-less s h q (seek (owner h) (number h d a) (places s h))
+      (rw (k, ← place-table s middle leaf h d a hi) lt) in
+      let (u, v) = seek-lowest (blocks h * s .domains) (places s h) (want R h) (old P h) (either freeL freeM h)
+      (was s P h) (owned h hi)
+      (number h d a) q (number-below h (s .domains) d a hi bd ba) (want-got h d a hi ba g)
+          (not-led-old s P d a ba h hi m) y in
       let (f, b, r, s, _, t, i, _) = place-owner h q 0 hi u v (some h) in
       (f, b, r, s, t, i ∙ k)
     where
@@ -222,33 +227,33 @@ module _ (D M L : ℕ) (range : InRange D M L) {R : ℕ → ℕ → ℕ} (S : (d
 
   -- A word where no walk comes.
   abbrev Nowhere : ℕ → Type 0
-  Nowhere j = (h d a : ℕ) → d < D → a < addresses → h ≤ 2 → got h d a → j ≡ stand h d a + index h a → ⊥
+  Nowhere j = (h d a : ℕ) → d < s .domains → a < addresses → h ≤ 2 → got h d a → j ≡ stand h d a + index h a → ⊥
 
-  idle-root : (j : ℕ) → Nowhere j → j < 1024 * D → ⊥
+  idle-root : (j : ℕ) → Nowhere j → j < 1024 * s .domains → ⊥
   idle-root j f b =
-      let (bd, ba, e) = number-of 1 D j 0 (omega arith) b (omega arith) in
+      let (bd, ba, e) = number-of 1 (s .domains) j 0 (omega arith) b (omega arith) in
       f 2 (domainOf 1 j) (addressOf 1 j + 0) bd ba (omega arith) (λ i lo hi. absurd (omega arith))
       (sym (root-number (domainOf 1 j) (addressOf 1 j + 0) ba ∙ e))
 
-  idle-place : (j h p e : ℕ) → Nowhere j → InPlace D M L j h p e → Q j ≡ P j
+  idle-place : (j h p e : ℕ) → Nowhere j → InPlace s j h p e → Q j ≡ P j
   idle-place j h p e f (hi, b, c, q) =
-      is j ∙ final-place D M L middle leaf R P j h p e (hi, b, c, q) ∙ elim (decLt (owner h p) (blocks h * D)) [
+      is j ∙ final-place s middle leaf R P j h p e (hi, b, c, q) ∙ elim (decLt (owner h p) (blocks h * s .domains)) [
         | yes o ↦
             (let (d, a, bd, ba, _, g, s, i) = place-owner h p e hi b o c in
             absurd (f h d a bd ba (omega arith) g (rw (s, i) q)))
-        | no o ↦ place-idle D M L middle leaf R P h j p e (omega arith)
+        | no o ↦ place-idle s middle leaf R P h j p e (omega arith)
       ]
 
   final-idle : (j : ℕ) → Nowhere j → Q j ≡ P j
   final-idle j f = ⊎-elim
       (λ b. absurd (idle-root j f b))
-      (⊎-elim (λ (h, p, e, x). idle-place j h p e f x) (λ b. is j ∙ final-past D M L middle leaf R P j b))
-      (which-word D M L j)
+      (⊎-elim (λ (h, p, e, x). idle-place j h p e f x) (λ b. is j ∙ final-past s middle leaf R P j b))
+      (which-word s j)
 
   pub final-follows : Follows F wants stand P Q
   final-follows = record { keeps = final-keeps; order = final-order; lowest = final-lowest; idle = final-idle }
 
   pub final-finished : Finished F P R Q
   final-finished =
-      encodes-finished F (lawful D M L) (exact D M L) wants stand (tells-wants D M L R S) final-placing final-encodes
-      (wanting D M L) final-follows
+      encodes-finished F (lawful s) (exact s) wants stand (tells-wants s R S) final-placing final-encodes
+      (wanting s) final-follows

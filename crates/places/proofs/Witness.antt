@@ -6,29 +6,29 @@ use mathlib.Core.Bool.{true}
 use native.Mathlib.Omega.{arith}
 use Rattle.theory.specs.Pool.{rightOf}
 use Rattle.words.specs.Region.{rounded}
-use Rattle.table.specs.Map.{addresses, form}
+use Rattle.table.specs.Map.{addresses, formOf}
 use Rattle.table.specs.Wants.{WordRights}
 use Rattle.table.proofs.WantLaws.{divided-wants, none-rights, painted-rights, wanting}
-use Rattle.table.proofs.Witness.{painted, after, two-of-each-finished, MadeAt, two-of-each-made}
+use Rattle.table.proofs.Witness.{shape, painted, after, two-of-each-finished, MadeAt, two-of-each-made}
 use Rattle.places.specs.Count.{wantMiddle, wantLeaf, Room}
 use Rattle.places.proofs.CountLaws.{count-less}
 use Rattle.places.specs.Final.{number, want}
 use Rattle.places.proofs.NumberLaws.{want-number}
 use Rattle.places.proofs.Exists.{finished-fits}
 
-pub two-of-each-fits : Room 1 2 2 painted
-two-of-each-fits = finished-fits 1 2 2 two-of-each-finished
+pub two-of-each-fits : Room shape painted
+two-of-each-fits = finished-fits shape two-of-each-finished
 
 -- What was made is wanted.
 made-wanted : (a h t : ℕ) → h < 2 → MadeAt a h t → want painted h (number h 0 a) ≡ true
 made-wanted a h t hi (bd, ba, x, _) =
     want-number painted h 0 a hi ba
     ∙ divided-wants (painted 0) (suc h) a (painted-rights (rounded 0x3FFFFC 8) 2 (λ b. 0) (omega arith) none-rights)
-    (wanting 1 2 2 .same (suc h) a (rightOf (form 1 2 2) after 0) (painted 0)
+    (wanting shape .same (suc h) a (rightOf (formOf shape) after 0) (painted 0)
     (λ b bb. two-of-each-finished .rights 0 b bd bb)
     (two-of-each-finished .settled .wanted bd ba hi (t, x)))
 
-pub one-middle-too-few : Room 1 1 2 painted → ⊥
+pub one-middle-too-few : Room (record { domains = 1; middles = 1; leaves = 2 }) painted → ⊥
 one-middle-too-few f =
     let x = count-less (wantMiddle painted) 0 1 (omega arith)
     (made-wanted 0x3FFFFC 1 1024 (omega arith) (two-of-each-made .0)) in
@@ -37,7 +37,7 @@ one-middle-too-few f =
     let z = f .middles in
     omega arith
 
-pub one-leaf-too-few : Room 1 2 1 painted → ⊥
+pub one-leaf-too-few : Room (record { domains = 1; middles = 2; leaves = 1 }) painted → ⊥
 one-leaf-too-few f =
     let x = count-less (wantLeaf painted) 1023 1024 (omega arith)
     (made-wanted 0x3FFFFC 0 3072 (omega arith) (two-of-each-made .2)) in

@@ -4,6 +4,7 @@ use mathlib.Core.Bool.{Bool, cond, _&&_}
 use lib.Dec.{eqb}
 use Rattle.words.specs.Region.{covered}
 use Rattle.words.specs.declared.Region.{Region}
+use Rattle.table.specs.declared.Shape.{Shape}
 use Rattle.table.specs.Wants.{wantsOf}
 
 -- Of the numbers below `n`, how many pass the test `f`.
@@ -21,9 +22,9 @@ abbrev pub wantLeaf : (ℕ → ℕ → ℕ) → ℕ → Bool
 wantLeaf R i = wantsOf (R (i / 1048576)) 1 (i % 1048576 * 4096)
 
 -- The rights `R` need no more than M middle tables and L leaves, over all D domains.
-pub record Room (D M L : ℕ) (R : ℕ → ℕ → ℕ) : Type 0 where
-  pub middles : count (wantMiddle R) (1024 * D) ≤ M
-  pub leaves : count (wantLeaf R) (1048576 * D) ≤ L
+pub record Room (s : Shape) (R : ℕ → ℕ → ℕ) : Type 0 where
+  pub middles : count (wantMiddle R) (1024 * s .domains) ≤ s .middles
+  pub leaves : count (wantLeaf R) (1048576 * s .domains) ≤ s .leaves
 
 -- The rights after a change: domain `e` has the right `r` on the covered words, and all else is as in `R`.
 abbrev pub changed : (ℕ → ℕ → ℕ) → ℕ → Region → ℕ → ℕ → ℕ → ℕ

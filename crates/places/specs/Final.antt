@@ -3,6 +3,7 @@
 use Prim.Native.Nat.{ℕ, zero, suc, _+_, _*_, _-_, _/_, _%_}
 use mathlib.Core.Bool.{Bool, true, false, cond, _&&_, not}
 use lib.Dec.{ltb}
+use Rattle.table.specs.declared.Shape.{Shape}
 use Rattle.table.specs.Shape.{firstMiddle, firstLeaf, poolLength, firstPlace, places}
 use Rattle.table.specs.Map.{block, size}
 use Rattle.table.specs.Wants.{wantsOf, saidOf}
@@ -47,19 +48,19 @@ oldLeaf P i = oldMiddle P (i / 1024) && ltb (P (entryOf P 0 i)) 2147483648
 abbrev pub old : (ℕ → ℕ) → ℕ → ℕ → Bool
 old P h = either (oldLeaf P) (oldMiddle P) h
 
-module _ (D M L : ℕ) where
+module _ (s : Shape) where
   -- .. at this place.
   abbrev pub was : (ℕ → ℕ) → ℕ → ℕ → ℕ
-  was P h i = (P (entryOf P h i) - firstPlace D M L h) / size h
+  was P h i = (P (entryOf P h i) - firstPlace s h) / size h
 
   -- Where place `p` begins.
   abbrev pub placeAt : ℕ → ℕ → ℕ
-  placeAt h p = firstPlace D M L h + size h * p
+  placeAt h p = firstPlace s h + size h * p
 
   module _ (middle leaf : ℕ → ℕ) where
     -- Where the table of block `i` begins, by who owns which place.
     abbrev pub tableOf : ℕ → ℕ → ℕ
-    tableOf h i = placeAt h (seek (either leaf middle h) i (places D M L h))
+    tableOf h i = placeAt h (seek (either leaf middle h) i (places s h))
 
     -- Where the table of height `h` for the block around `a` begins, a root too.
     abbrev pub place : ℕ → ℕ → ℕ → ℕ
@@ -80,26 +81,27 @@ module _ (D M L : ℕ) where
       -- Entry `e` of place `p`, which is word `k`: of the table that stands there; else the place holds what it held
       -- before.
       abbrev pub placeWord : ℕ → ℕ → ℕ → ℕ → ℕ
-      placeWord h k p e = cond (ltb (either leaf middle h p) (blocks h * D)) (tableWord h (either leaf middle h p) e)
+      placeWord h k p e = cond (ltb (either leaf middle h p) (blocks h * s .domains)) (tableWord h
+          (either leaf middle h p) e)
           (P k)
 
       -- Word `k` of the finished pool.
       unfoldable pub final : ℕ → ℕ
       final k =
-          cond (ltb k (firstMiddle D)) (entryWord 1 k)
-          (cond (ltb k (firstLeaf D M)) (placeWord 1 k ((k - firstMiddle D) / 1024) ((k - firstMiddle D) % 1024))
-          (cond (ltb k (poolLength D M L)) (placeWord 0 k ((k - firstLeaf D M) / 64) ((k - firstLeaf D M) % 64)) (P k)))
+          cond (ltb k (firstMiddle s)) (entryWord 1 k)
+          (cond (ltb k (firstLeaf s)) (placeWord 1 k ((k - firstMiddle s) / 1024) ((k - firstMiddle s) % 1024))
+          (cond (ltb k (poolLength s)) (placeWord 0 k ((k - firstLeaf s) / 64) ((k - firstLeaf s) % 64)) (P k)))
 
   -- Word `k` is of a root, or of a table that both pools have: none such stands at a free place.
   unfoldable pub keptWord : (freeM freeL : ℕ → Bool) → ℕ → Bool
   keptWord freeM freeL k =
-      cond (ltb k (firstMiddle D)) true
-      (cond (ltb k (firstLeaf D M)) (not (freeM ((k - firstMiddle D) / 1024)))
-      (cond (ltb k (poolLength D M L)) (not (freeL ((k - firstLeaf D M) / 64))) false))
+      cond (ltb k (firstMiddle s)) true
+      (cond (ltb k (firstLeaf s)) (not (freeM ((k - firstMiddle s) / 1024)))
+      (cond (ltb k (poolLength s)) (not (freeL ((k - firstLeaf s) / 64))) false))
 
 -- The same, each by its name.
-abbrev pub wasMiddle : ℕ → (ℕ → ℕ) → ℕ → ℕ
-wasMiddle D P i = (P i - firstMiddle D) / 1024
+abbrev pub wasMiddle : Shape → (ℕ → ℕ) → ℕ → ℕ
+wasMiddle s P i = (P i - firstMiddle s) / 1024
 
-abbrev pub wasLeaf : ℕ → ℕ → (ℕ → ℕ) → ℕ → ℕ
-wasLeaf D M P i = (P (entryOf P 0 i) - firstLeaf D M) / 64
+abbrev pub wasLeaf : Shape → (ℕ → ℕ) → ℕ → ℕ
+wasLeaf s P i = (P (entryOf P 0 i) - firstLeaf s) / 64

@@ -41,7 +41,7 @@ pub pool-root : (s : Shape) (p : List ℕ) (d : ℕ) → Fits s (length p) → S
 pool-root s p d f q bd b bb = (let l = f .long in omega arith, root-readable s p f (q .sound) d b bd bb)
 
 pub pool-gives : (s : Shape) (P : ℕ → ℕ) (d : ℕ) → RootGives P d (rightOf (formOf s) P d)
-pool-gives s P d b bb = root-gives (s .domains) (s .middles) (s .leaves) P d b bb
+pool-gives s P d b bb = root-gives s P d b bb
 
 -- The entry of a page is a word of the middle table, or stands for its block's entry.
 module _ (p : List ℕ) (d n : ℕ) (bn : n < 1048576) where
@@ -125,10 +125,10 @@ module _ (s : Shape) (d : ℕ) (paint : Paint) (P : ℕ → ℕ) (small : paint 
     goal-rights : WordRights goal
     goal-rights = subst WordRights (fun-ext aims-painted)
         (changed-rights (rightOf (formOf s) P) d (region paint) (paint .right) d small
-        (pool-rights (s .domains) (s .middles) (s .leaves) P d))
+        (pool-rights s P d))
 
     rests : wantsOf goal (suc h) a ≡ false → isLead (saidOf goal (suc h) a) ≡ false
-    rests w = wants-says (s .domains) (s .middles) (s .leaves) goal (suc h) a goal-rights (omega arith)
+    rests w = wants-says s goal (suc h) a goal-rights (omega arith)
         (inside h hi bn) w .rights
 
     told-mixed : wantsOf goal (suc h) a ≡ true → Told s d paint P h n (edgeFor n (entryAt P h d n) Mixed)

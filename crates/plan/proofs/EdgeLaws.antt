@@ -40,12 +40,6 @@ module _ {s : Shape} {d : ℕ} {paint : Paint} {P middle leaf : ℕ → ℕ} {fr
   abbrev D : ℕ
   D = s .domains
 
-  abbrev M : ℕ
-  M = s .middles
-
-  abbrev L : ℕ
-  L = s .leaves
-
   abbrev T : ℕ → ℕ → ℕ
   T = aims s d paint P
 
@@ -63,10 +57,10 @@ module _ {s : Shape} {d : ℕ} {paint : Paint} {P middle leaf : ℕ → ℕ} {fr
 
     -- The old entry led where the block had a table.
     pub edge-old : isLead (e .old) ≡ old P h i
-    edge-old = ap isLead (E .old) ∙ old-leads D M L P d h n hi bn
+    edge-old = ap isLead (E .old) ∙ old-leads s P d h n hi bn
 
     -- A word of the edge's table is of the place that the block owns ..
-    pub table-place : (k : ℕ) → inEdge e (size h) k ≡ true → (p : ℕ) × InPlace D M L k h p (k - e .last)
+    pub table-place : (k : ℕ) → inEdge e (size h) k ≡ true → (p : ℕ) × InPlace s k h p (k - e .last)
         × (owner h p ≡ i)
     table-place k t =
         let bi = in-domain h n hi bn in
@@ -75,20 +69,20 @@ module _ {s : Shape} {d : ℕ} {paint : Paint} {P middle leaf : ℕ → ℕ} {fr
         let lo = leb-true (e .last) k y in
         let up = ltb-true k (e .last + size h) z in
         let w : want T h i ≡ true = sym (entry-lead c h i hi bi) ∙ ap isLead (sym (E .last)) ∙ l in
-        let p = seek (owner h) i (places D M L h) in
+        let p = seek (owner h) i (places s h) in
         let (b, o) = seek-owner _ _ _ _ _ _ (placed c h hi) i bi w in
-        let f : e .last ≡ placeAt D M L h p = E .last ∙ entry-leads D M L middle leaf T P h i w in
+        let f : e .last ≡ placeAt s h p = E .last ∙ entry-leads s middle leaf T P h i w in
         (p, (hi, b, omega arith, omega arith), o)
 
     -- .. and the other way round.
-    pub place-table : (k p j : ℕ) → InPlace D M L k h p j → owner h p ≡ i → inEdge e (size h) k ≡ true
+    pub place-table : (k p j : ℕ) → InPlace s k h p j → owner h p ≡ i → inEdge e (size h) k ≡ true
     place-table k p j (_, bp, bj, q) o =
         let bi = in-domain h n hi bn in
         let w : want T h i ≡ true = rw o at (placed c h hi .held .only p bp (rw o bi)) in
-        let z : seek (owner h) i (places D M L h) ≡ p =
-        ap (λ u. seek (owner h) u (places D M L h)) (sym o) ∙ owner-seek _ _ _ _ _ _ (placed c h hi) p bp (rw o bi) in
-        let f : e .last ≡ placeAt D M L h p = E .last ∙ entry-leads D M L middle leaf T P h i w
-        ∙ ap (placeAt D M L h) z in
+        let z : seek (owner h) i (places s h) ≡ p =
+        ap (λ u. seek (owner h) u (places s h)) (sym o) ∙ owner-seek _ _ _ _ _ _ (placed c h hi) p bp (rw o bi) in
+        let f : e .last ≡ placeAt s h p = E .last ∙ entry-leads s middle leaf T P h i w
+        ∙ ap (placeAt s h) z in
         rw (
           ap isLead (E .last) ∙ entry-lead c h i hi bi ∙ w,
           le-leb (e .last) k (omega arith),

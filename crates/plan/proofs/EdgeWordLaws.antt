@@ -47,12 +47,6 @@ module _ {s : Shape} {d : ℕ} {paint : Paint} {P middle leaf : ℕ → ℕ} {fr
   abbrev D : ℕ
   D = s .domains
 
-  abbrev M : ℕ
-  M = s .middles
-
-  abbrev L : ℕ
-  L = s .leaves
-
   abbrev F : Form
   F = formOf s
 
@@ -63,12 +57,12 @@ module _ {s : Shape} {d : ℕ} {paint : Paint} {P middle leaf : ℕ → ℕ} {fr
   T = aims s d paint P
 
   abbrev Q : ℕ → ℕ
-  Q = final D M L middle leaf T P
+  Q = final s middle leaf T P
 
   -- A word of a place that has an owner.
-  pub owned-word : (k h p j : ℕ) → InPlace D M L k h p j → either leaf middle h p < blocks h * D
-      → Q k ≡ tableWord D M L middle leaf T P h (either leaf middle h p) j
-  owned-word k h p j x b = final-place D M L middle leaf T P k h p j x ∙ place-owned D M L middle leaf T P h k p j _
+  pub owned-word : (k h p j : ℕ) → InPlace s k h p j → either leaf middle h p < blocks h * D
+      → Q k ≡ tableWord s middle leaf T P h (either leaf middle h p) j
+  owned-word k h p j x b = final-place s middle leaf T P k h p j x ∙ place-owned s middle leaf T P h k p j _
       refl b
 
   -- A leaf entry, painted, is the finished one: where it gives the old rights of its 64 bytes, or the finished ones.
@@ -83,7 +77,7 @@ module _ {s : Shape} {d : ℕ} {paint : Paint} {P middle leaf : ℕ → ℕ} {fr
   leaf-painted : (o n j w : ℕ) → o ≡ 1048576 * d + n → n < 1048576 → j < 64
       → ((b : ℕ) → b < addresses → b / 64 ≡ 64 * n + j → (rightAt w (b / 4 % 16) ≡ R d b)
       ⊎ (rightAt w (b / 4 % 16) ≡ T d b))
-      → paintedLeaf paint w (64 * n + j) ≡ tableWord D M L middle leaf T P 0 o j
+      → paintedLeaf paint w (64 * n + j) ≡ tableWord s middle leaf T P 0 o j
   leaf-painted o n j w q bn bj f =
       let x : domainOf 0 o ≡ d = omega arith in
       let y : addressOf 0 o + 64 * j ≡ (64 * n + j) * 64 = omega arith in
@@ -94,7 +88,7 @@ module _ {s : Shape} {d : ℕ} {paint : Paint} {P middle leaf : ℕ → ℕ} {fr
   -- Entry `j` of the leaf of page `n`, at place `p`: what it held gave the old rights of its 64 bytes, and the
   -- finished word gives theirs.
   module _ (n : ℕ) (bn : n < 1048576) (g : Edge) (G : EdgeIs s d paint P middle leaf 0 n g) (k p j : ℕ)
-      (ip : InPlace D M L k 0 p j)
+      (ip : InPlace s k 0 p j)
       (o : leaf p ≡ 1048576 * d + n) where
     abbrev e : ℕ
     e = domainOf 0 (leaf p)
@@ -114,16 +108,16 @@ module _ {s : Shape} {d : ℕ} {paint : Paint} {P middle leaf : ℕ → ℕ} {fr
     old-leaf : (b : ℕ) → b < addresses → b / 64 ≡ 64 * n + j → isLead (g .old) ≡ true → rightAt (P k) (b / 4 % 16)
         ≡ R d b
     old-leaf b bb y l =
-        says-at F (lawful D M L) P (c .settled .sound) e a 0 k (omega arith)
+        says-at F (lawful s) P (c .settled .sound) e a 0 k (omega arith)
         (place-visits c k 0 p j ip bound (ap (old P 0) o ∙ sym (edge-old c 0 n (omega arith) bn g G) ∙ l)) refl
-        .each b bb (block-together D M L 0 a b (together b y))
+        .each b bb (block-together s 0 a b (together b y))
         ∙ ap (λ u. R u b) own-domain
 
     finished-leaf : (b : ℕ) → b < addresses → b / 64 ≡ 64 * n + j → rightAt (Q k) (b / 4 % 16) ≡ T d b
     finished-leaf b bb y =
         ap (λ u. rightAt u (b / 4 % 16)) (owned-word k 0 p j ip bound)
-        ∙ wants-says D M L (T e) 0 a (aims-rights c e) (omega arith) (omega arith) (wants-leaf (T e) a) .each b bb
-        (block-together D M L 0 a b (together b y))
+        ∙ wants-says s (T e) 0 a (aims-rights c e) (omega arith) (omega arith) (wants-leaf (T e) a) .each b bb
+        (block-together s 0 a b (together b y))
         ∙ ap (λ u. T u b) own-domain
 
     -- A page without a leaf: its entry gave one right to each 512 bytes.
@@ -132,7 +126,7 @@ module _ {s : Shape} {d : ℕ} {paint : Paint} {P middle leaf : ℕ → ℕ} {fr
     new-leaf b bb y l =
         let z : b / 512 % 8 ≡ j / 8 = omega arith in
         sixteen-right (rightAt (g .old) (j / 8)) (b / 4 % 16) (right-small (g .old) (j / 8)) (omega arith)
-        ∙ sym (old-says D M L P d 0 n b (omega arith) bb (omega arith) (ap isLead (sym (G .old)) ∙ l)
+        ∙ sym (old-says s P d 0 n b (omega arith) bb (omega arith) (ap isLead (sym (G .old)) ∙ l)
         ∙ ap (λ u. rightAt u (b / 512 % 8)) (sym (G .old)) ∙ ap (rightAt (g .old)) z)
 
     -- So the entry that the plan paints gives the old rights, or the finished ones.
@@ -159,7 +153,7 @@ module _ {s : Shape} {d : ℕ} {paint : Paint} {P middle leaf : ℕ → ℕ} {fr
 
   -- Entry `j` of the middle table of block `n`, at place `p`, is the entry of page `1024 * n + j`.
   module _ (n : ℕ) (bn : n < 1024) (b : Edge) (B : EdgeIs s d paint P middle leaf 1 n b) (k p j : ℕ)
-      (ip : InPlace D M L k 1 p j)
+      (ip : InPlace s k 1 p j)
       (o : middle p ≡ 1024 * d + n) where
     abbrev i : ℕ
     i = 1024 * middle p + j
@@ -194,7 +188,7 @@ module _ {s : Shape} {d : ℕ} {paint : Paint} {P middle leaf : ℕ → ℕ} {fr
         stood l y by e =
             let z : y / 524288 % 8 ≡ j / 128 = omega arith in
             st y by e ∙ ap (λ u. R u y) page-domain
-            ∙ old-says D M L P d 1 n y (omega arith) by (omega arith) (ap isLead (sym (B .old)) ∙ l)
+            ∙ old-says s P d 1 n y (omega arith) by (omega arith) (ap isLead (sym (B .old)) ∙ l)
             ∙ ap (λ u. rightAt u (y / 524288 % 8)) (sym (B .old)) ∙ ap (rightAt (b .old)) z
 
     at-end : (t : ℕ) → m ≡ t → 1048576 * d + t ≡ i
@@ -206,8 +200,8 @@ module _ {s : Shape} {d : ℕ} {paint : Paint} {P middle leaf : ℕ → ℕ} {fr
         let f = E .first-page .number in
         let l = E .last-page .number in
         chosen m (q .«first_page» .number) (q .«last_page» .number)
-        (λ g. E .first-page .last ∙ ap (entryWord D M L middle leaf T P 0) (at-end (firstOf 0 paint) (g ∙ f)) ∙ sym e)
-        (λ g. E .last-page .last ∙ ap (entryWord D M L middle leaf T P 0) (at-end (lastOf 0 paint) (g ∙ l)) ∙ sym e)
+        (λ g. E .first-page .last ∙ ap (entryWord s middle leaf T P 0) (at-end (firstOf 0 paint) (g ∙ f)) ∙ sym e)
+        (λ g. E .last-page .last ∙ ap (entryWord s middle leaf T P 0) (at-end (lastOf 0 paint) (g ∙ l)) ∙ sym e)
         (λ g h. ap (λ u. eightOf (u .right)) (E .for-paint)
         ∙ sym (e ∙ plain-entry c 0 i (omega arith) page-below (paint .right)
         (between-plain s d paint P 0 i m (omega arith) page-domain page-number (rw f at g) (rw l at h))))

@@ -36,10 +36,10 @@ use Rattle.plan.proofs.DraftLaws.{ends-below}
 use Rattle.plan.proofs.KeptLaws.{kept-free}
 
 -- A pointer is below bit 31.
-place-leads : (D M L h p : ℕ) → InRange D M L → h < 2 → p < places D M L h → isLead (placeAt D M L h p) ≡ true
-place-leads D M L zero p range hi b = lt-ltb (placeAt D M L 0 p) 2147483648 (omega arith)
-place-leads D M L (suc zero) p range hi b = lt-ltb (placeAt D M L 1 p) 2147483648 (omega arith)
-place-leads D M L (suc (suc h)) p range hi b = absurd (omega arith)
+place-leads : (s : Shape) (h p : ℕ) → InRange s → h < 2 → p < places s h → isLead (placeAt s h p) ≡ true
+place-leads s zero p range hi b = lt-ltb (placeAt s 0 p) 2147483648 (omega arith)
+place-leads s (suc zero) p range hi b = lt-ltb (placeAt s 1 p) 2147483648 (omega arith)
+place-leads s (suc (suc h)) p range hi b = absurd (omega arith)
 
 -- A block's number over all domains.
 number-low : (D d h n : ℕ) → d < D → h < 2 → n < blocks h → blocks h * d + n < blocks h * D
@@ -66,7 +66,7 @@ module _ {s : Shape} {d : ℕ} {paint : Paint} {P : ℕ → ℕ} {h : ℕ} {f : 
   N = blocks h * s .domains
 
   abbrev M : ℕ
-  M = places (s .domains) (s .middles) (s .leaves) h
+  M = places s h
 
   abbrev W : ℕ → Bool
   W = want (aims s d paint P) h
@@ -75,10 +75,10 @@ module _ {s : Shape} {d : ℕ} {paint : Paint} {P : ℕ → ℕ} {h : ℕ} {f : 
   O = old P h
 
   abbrev at : ℕ → ℕ
-  at = was (s .domains) (s .middles) (s .leaves) P h
+  at = was s P h
 
   abbrev start : ℕ → ℕ
-  start p = placeAt (s .domains) (s .middles) (s .leaves) h p
+  start p = placeAt s h p
 
   abbrev Known : ℕ → Edge → Type 0
   Known = Told s d paint P h
@@ -92,7 +92,7 @@ module _ {s : Shape} {d : ℕ} {paint : Paint} {P : ℕ → ℕ} {h : ℕ} {f : 
 
   -- An edge is new where its block is fresh.
   old-is : {n : ℕ} {e : Edge} → n < blocks h → Known n e → isLead (e .old) ≡ O (nth n)
-  old-is {n} b t = ap isLead (t .old) ∙ old-leads (s .domains) (s .middles) (s .leaves) P d h n (G .height) b
+  old-is {n} b t = ap isLead (t .old) ∙ old-leads s P d h n (G .height) b
 
   new-is : {n : ℕ} {e : Edge} → n < blocks h → Known n e → isNew e ≡ fresh W O (nth n)
   new-is {n} {e} b t = ap (λ x. x && not (isLead (e .old))) (t .leads) ∙ ap (λ x. W (nth n) && not x) (old-is b t)
@@ -121,7 +121,7 @@ module _ {s : Shape} {d : ℕ} {paint : Paint} {P : ℕ → ℕ} {h : ℕ} {f : 
       kept w o =
           let x : O (nth n) ≡ true = sym (old-is b t) ∙ o in
           t .kept o (t .leads ∙ w) ∙ t .old ∙ entry-word P h d n (G .height) b x
-          ∙ old-at (s .domains) (s .middles) (s .leaves) (G .settled .sound) h (G .height) (nth n) (low n b) x .1
+          ∙ old-at s (G .settled .sound) h (G .height) (nth n) (low n b) x .1
           ∙ ap start (sym (seek-keeps N M W O free at all (nth n) (low n b) w x .1))
 
       new : W (nth n) ≡ true → isLead (g .old) ≡ false → g .last ≡ start (seek owner (nth n) M)
@@ -195,10 +195,10 @@ module _ {s : Shape} {d : ℕ} {paint : Paint} {P : ℕ → ℕ} {h : ℕ} {f : 
 
           points : g .last ≡ start (k .place)
           points = k .points ∙ ap (λ z. z + long * k .place) (G .from-is)
-              ∙ ap (λ z. firstPlace (s .domains) (s .middles) (s .leaves) h + z * k .place) (G .long-is)
+              ∙ ap (λ z. firstPlace s h + z * k .place) (G .long-is)
 
           led : isLead (g .last) ≡ true
-          led = ap isLead points ∙ place-leads (s .domains) (s .middles) (s .leaves) h (k .place) (G .range)
+          led = ap isLead points ∙ place-leads s h (k .place) (G .range)
               (G .height) below
 
       past : (g : Edge) (x : ℕ) → TakenIs f c m from long e (At g x) → Past n x g owner

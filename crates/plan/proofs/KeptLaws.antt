@@ -49,13 +49,13 @@ module _ (s : Shape) (d : ℕ) (paint : Paint) {P : ℕ → ℕ} (q : Settled (f
   n = blocks h * s .domains
 
   abbrev m : ℕ
-  m = places (s .domains) (s .middles) (s .leaves) h
+  m = places s h
 
   abbrev T : ℕ → ℕ → ℕ
   T = aims s d paint P
 
   abbrev at : ℕ → ℕ
-  at = was (s .domains) (s .middles) (s .leaves) P h
+  at = was s P h
 
   -- Once all places are marked, giving out can start: free are those that are not.
   pub kept-free : {f : List Bool} → KeptMarked s d paint P h n f
@@ -64,8 +64,8 @@ module _ (s : Shape) (d : ℕ) (paint : Paint) {P : ℕ → ℕ} (q : Settled (f
   kept-free k = (
     vacant n (k .owner),
     k .owner,
-    keep-done n m (want T h) (old P h) at (old-one (s .domains) (s .middles) (s .leaves) (q .sound) h hi)
-        (old-below (s .domains) (s .middles) (s .leaves) (q .sound) h hi) (k .keeping),
+    keep-done n m (want T h) (old P h) at (old-one s (q .sound) h hi)
+        (old-below s (q .sound) h hi) (k .keeping),
     λ p b. ap not (sym (k .marks p b)),
   )
 
@@ -73,7 +73,7 @@ module _ (s : Shape) (d : ℕ) (paint : Paint) {P : ℕ → ℕ} (q : Settled (f
 module _ (p : List ℕ) (s : Shape) (d : ℕ) (paint : Paint) (fits : Fits s (length p))
     (q : Settled (formOf s) (words p)) (o : List ℕ) (own : Owners p s o)
     (h : ℕ) (hi : h < 2) {first last : Edge} (told : EndsTold s d paint (words p) h first last) {f : List Bool}
-    (mark : Marked o h (places (s .domains) (s .middles) (s .leaves) h) d first last f) where
+    (mark : Marked o h (places s h) d first last f) where
   abbrev P : ℕ → ℕ
   P = words p
 
@@ -100,7 +100,7 @@ module _ (p : List ℕ) (s : Shape) (d : ℕ) (paint : Paint) (fits : Fits s (le
       let c = at s d paint q h hi i in
       let (_, _, t) = was-taken p s fits (q .sound) o own h hi i b x in
       let e = was-owner p s fits (q .sound) o own h hi i b x in
-      let low = old-below (s .domains) (s .middles) (s .leaves) (q .sound) h hi i b x in
+      let low = old-below s (q .sound) h hi i b x in
       (mark .each c low ∙ rw t (rw e (stays-is s d paint q h i hi b told x ∙ w)), e)
 
   stays-marked : (c : ℕ) → c < m s d paint q h hi → getD f c false ≡ ltb (stays c) (n s d paint q h hi)

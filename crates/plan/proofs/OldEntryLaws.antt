@@ -10,7 +10,8 @@ use Rattle.theory.proofs.Logic.{by-cases}
 use Rattle.theory.proofs.RightLaws.{right-down, right-says}
 use Rattle.words.specs.Rights.{rightAt, eightOf}
 use Rattle.words.proofs.RightsLaws.{right-small, eight-right}
-use Rattle.table.specs.Map.{addresses, block, part, index, form}
+use Rattle.table.specs.declared.Shape.{Shape}
+use Rattle.table.specs.Map.{addresses, block, part, index, formOf}
 use Rattle.places.specs.Final.{blocks, old}
 use Rattle.plan.specs.Plan.{isLead}
 use Rattle.plan.specs.Edges.{entryAt}
@@ -19,9 +20,9 @@ use Rattle.plan.specs.Edges.{entryAt}
 eight-rests : (r : ℕ) → isLead (eightOf r) ≡ false
 eight-rests r = le-ltb (eightOf r) 2147483648 (omega arith)
 
-module _ (D M L : ℕ) (P : ℕ → ℕ) (d : ℕ) where
+module _ (s : Shape) (P : ℕ → ℕ) (d : ℕ) where
   abbrev F : Form
-  F = form D M L
+  F = formOf s
 
   -- The entry led where the block had a table.
   pub old-leads : (h n : ℕ) → h < 2 → n < blocks h → isLead (entryAt P h d n) ≡ old P h (blocks h * d + n)

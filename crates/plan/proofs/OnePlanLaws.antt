@@ -33,16 +33,10 @@ use Rattle.plan.specs.Edges.{firstOf, lastOf, EdgeIs, PlanReady, PlansCh
 use Rattle.plan.proofs.Setting.{Setting}
 use Rattle.plan.proofs.SettingLaws.{aims-rights}
 
-module _ (s : Shape) (d : ℕ) (paint : Paint) (P : ℕ → ℕ) (range : InRange (s .domains) (s .middles) (s .leaves))
+module _ (s : Shape) (d : ℕ) (paint : Paint) (P : ℕ → ℕ) (range : InRange s)
     (settled : Settled (formOf s) P) (bd : d < s .domains) (regular : Regular paint) where
   abbrev D : ℕ
   D = s .domains
-
-  abbrev M : ℕ
-  M = s .middles
-
-  abbrev L : ℕ
-  L = s .leaves
 
   abbrev R : ℕ → ℕ → ℕ
   R = aims s d paint P
@@ -53,7 +47,7 @@ module _ (s : Shape) (d : ℕ) (paint : Paint) (P : ℕ → ℕ) (range : InRang
   -- The finished pool of a plan that is ready, and where its tables stand.
   module _ {q : Plan} (x : PlanReady s d paint P q) where
     abbrev whole : ℕ → ℕ
-    whole = final D M L (x .middle) (x .leaf) R P
+    whole = final s (x .middle) (x .leaf) R P
 
     setting : Setting s d paint P (x .middle) (x .leaf) (x .free-middle) (x .free-leaf)
     setting = record {
@@ -69,48 +63,48 @@ module _ (s : Shape) (d : ℕ) (paint : Paint) (P : ℕ → ℕ) (range : InRang
     rights e be = aims-rights setting e
 
     whole-finished : Finished (formOf s) P R whole
-    whole-finished = final-finished D M L range rights (settled .sound) (x .middle) (x .leaf)
+    whole-finished = final-finished s range rights (settled .sound) (x .middle) (x .leaf)
         (x .free-middle) (x .free-leaf) (x .middles) (x .leaves) (λ j. refl)
 
     whole-led : (h e a : ℕ) → h < 2 → e < D → a < addresses → wants (suc h) e a ≡ true
-        → Led (formOf s) whole e a h (place D M L (x .middle) (x .leaf) h e a)
+        → Led (formOf s) whole e a h (place s (x .middle) (x .leaf) h e a)
     whole-led h e a hi be ba w =
-        let tells = tells-wants D M L R rights in
-        gets-led (formOf s) (lawful D M L) (exact D M L) wants (place D M L (x .middle) (x .leaf)) tells
-        (final-placing D M L range rights (settled .sound) (x .middle) (x .leaf)
+        let tells = tells-wants s R rights in
+        gets-led (formOf s) (lawful s) (exact s) wants (place s (x .middle) (x .leaf)) tells
+        (final-placing s range rights (settled .sound) (x .middle) (x .leaf)
         (x .free-middle) (x .free-leaf) (x .middles) (x .leaves) (λ j. refl))
-        (final-encodes D M L range rights (settled .sound) (x .middle) (x .leaf)
+        (final-encodes s range rights (settled .sound) (x .middle) (x .leaf)
         (x .free-middle) (x .free-leaf) (x .middles) (x .leaves) (λ j. refl))
         h e a be ba hi
-        (wants-gets (formOf s) wants (wanting D M L) tells e a be ba h hi (wants-divided (R e) (suc h) a ba w))
+        (wants-gets (formOf s) wants (wanting s) tells e a be ba h hi (wants-divided (R e) (suc h) a ba w))
 
   module _ {q r : Plan} (x : PlanReady s d paint P q) (y : PlanReady s d paint P r) where
     same-whole : whole x ≡ whole y
     same-whole =
         let a = whole-finished x in
         let b = whole-finished y in
-        fun-ext (one-finished (formOf s) (lawful D M L) (wanting D M L) P R (exact D M L) a b)
+        fun-ext (one-finished (formOf s) (lawful s) (wanting s) P R (exact s) a b)
 
     -- A block that wants a table has it in one place, by either plan.
     same-table : (h i : ℕ) → h < 2 → i < blocks h * D → want R h i ≡ true
-        → tableOf D M L (x .middle) (x .leaf) h i ≡ tableOf D M L (y .middle) (y .leaf) h i
+        → tableOf s (x .middle) (x .leaf) h i ≡ tableOf s (y .middle) (y .leaf) h i
     same-table h i hi bi w =
         let (be, ba, n) = number-first h D i hi bi in
         let e = domainOf h i in
         let a = addressOf h i in
         let here = rw same-whole at (whole-led x h e a hi be ba w) in
         let one = one-table (formOf s) (whole y) e a h here (whole-led y h e a hi be ba w) in
-        let from = place-table D M L (x .middle) (x .leaf) h e a hi in
-        let to = place-table D M L (y .middle) (y .leaf) h e a hi in
+        let from = place-table s (x .middle) (x .leaf) h e a hi in
+        let to = place-table s (y .middle) (y .leaf) h e a hi in
         rw n at (sym from ∙ one ∙ to)
 
     same-entry : (h i : ℕ) → h < 2 → i < blocks h * D
-        → entryWord D M L (x .middle) (x .leaf) R P h i ≡ entryWord D M L (y .middle) (y .leaf) R P h i
+        → entryWord s (x .middle) (x .leaf) R P h i ≡ entryWord s (y .middle) (y .leaf) R P h i
     same-entry h i hi bi = by-cases (want R h i)
-        (λ w. entry-leads D M L (x .middle) (x .leaf) R P h i w ∙ same-table h i hi bi w
-        ∙ sym (entry-leads D M L (y .middle) (y .leaf) R P h i w))
-        (λ w. entry-says D M L (x .middle) (x .leaf) R P h i w
-        ∙ sym (entry-says D M L (y .middle) (y .leaf) R P h i w))
+        (λ w. entry-leads s (x .middle) (x .leaf) R P h i w ∙ same-table h i hi bi w
+        ∙ sym (entry-leads s (y .middle) (y .leaf) R P h i w))
+        (λ w. entry-says s (x .middle) (x .leaf) R P h i w
+        ∙ sym (entry-says s (y .middle) (y .leaf) R P h i w))
 
     same-edge : (h n : ℕ) {e f : Edge} → h < 2 → n < blocks h → EdgeIs s d paint P (x .middle) (x .leaf) h n e
         → EdgeIs s d paint P (y .middle) (y .leaf) h n f → e ≡ f
@@ -148,6 +142,6 @@ module _ (s : Shape) (d : ℕ) (paint : Paint) (P : ℕ → ℕ) (range : InRang
   -- Ready, with one plan, exactly where there is room.
   pub one-plan : (q r : Planning) → PlansChange s d paint P q → PlansChange s d paint P r → q ≡ r
   one-plan (Ready q) (Ready r) x y = ap Ready (same-plan x y)
-  one-plan (Ready q) NoRoom x y = absurd (y (finished-fits D M L (whole-finished x)))
-  one-plan NoRoom (Ready r) x y = absurd (x (finished-fits D M L (whole-finished y)))
+  one-plan (Ready q) NoRoom x y = absurd (y (finished-fits s (whole-finished x)))
+  one-plan NoRoom (Ready r) x y = absurd (x (finished-fits s (whole-finished y)))
   one-plan NoRoom NoRoom x y = refl

@@ -33,10 +33,10 @@ module _ (s : Shape) (d : ℕ) (paint : Paint) (P : ℕ → ℕ) (g : Regular pa
   told-pages = subst (λ (x : Plan). EndsTold s d paint P 0 (x .«first_page») (x .«last_page»)) (sym e)
       (drafted-ends s d paint P g 0 (omega arith))
 
-  module _ (range : InRange (s .domains) (s .middles) (s .leaves)) (settled : Settled (formOf s) P)
+  module _ (range : InRange s) (settled : Settled (formOf s) P)
       (b : d < s .domains) (f : List Bool) where
     pub giving-middles : KeptMarked s d paint P 1 (1024 * s .domains) f
-        → GivesOut s d paint P 1 f (s .middles) (firstMiddle (s .domains)) 1024 (q .«first_block») (q .«last_block»)
+        → GivesOut s d paint P 1 f (s .middles) (firstMiddle s) 1024 (q .«first_block») (q .«last_block»)
     giving-middles k = record {
       height = omega arith;
       range = range;
@@ -51,7 +51,7 @@ module _ (s : Shape) (d : ℕ) (paint : Paint) (P : ℕ → ℕ) (g : Regular pa
     }
 
     pub giving-leaves : KeptMarked s d paint P 0 (1048576 * s .domains) f
-        → GivesOut s d paint P 0 f (s .leaves) (firstLeaf (s .domains) (s .middles)) 64 (q .«first_page»)
+        → GivesOut s d paint P 0 f (s .leaves) (firstLeaf s) 64 (q .«first_page»)
         (q .«last_page»)
     giving-leaves k = record {
       height = omega arith;
@@ -104,11 +104,11 @@ plan-ready s d paint P x y = record {
 
 -- Too many tables of one height leave no room.
 pub full-middles : (s : Shape) (d : ℕ) (paint : Paint) (P : ℕ → ℕ) → EndsAre s d paint P 1 Full
-    → Room (s .domains) (s .middles) (s .leaves) (aims s d paint P) → ⊥
+    → Room s (aims s d paint P) → ⊥
 full-middles s d paint P x r = let y : count (want (aims s d paint P) 1) (1024 * s .domains) ≤ s .middles =
     r .middles in omega arith
 
 pub full-leaves : (s : Shape) (d : ℕ) (paint : Paint) (P : ℕ → ℕ) → EndsAre s d paint P 0 Full
-    → Room (s .domains) (s .middles) (s .leaves) (aims s d paint P) → ⊥
+    → Room s (aims s d paint P) → ⊥
 full-leaves s d paint P x r = let y : count (want (aims s d paint P) 0) (1048576 * s .domains) ≤ s .leaves =
     r .leaves in omega arith

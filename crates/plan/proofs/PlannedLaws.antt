@@ -44,17 +44,11 @@ module _ {s : Shape} {d : ℕ} {paint : Paint} {P middle leaf : ℕ → ℕ} {fr
   abbrev D : ℕ
   D = s .domains
 
-  abbrev M : ℕ
-  M = s .middles
-
-  abbrev L : ℕ
-  L = s .leaves
-
   abbrev T : ℕ → ℕ → ℕ
   T = aims s d paint P
 
   abbrev Q : ℕ → ℕ
-  Q = final D M L middle leaf T P
+  Q = final s middle leaf T P
 
   abbrev owner : ℕ → ℕ → ℕ
   owner h = either leaf middle h
@@ -82,15 +76,15 @@ module _ {s : Shape} {d : ℕ} {paint : Paint} {P middle leaf : ℕ → ℕ} {fr
   root-word : (k n x : ℕ) → k ≡ 1024 * d + n → n < 1024 → (x ≡ P k) ⊎ (x ≡ Q k) → rootAfter q n x ≡ Q k
   root-word k n x e bn v =
       let bk : k < 1024 * D = let z = c .domain in omega arith in
-      let is = final-root D M L middle leaf T P k bk in
+      let is = final-root s middle leaf T P k bk in
       let f = E .first-block .number in
       let l = E .last-block .number in
       let y : domainOf 1 k ≡ d = omega arith in
       let z : k % 1024 ≡ n = omega arith in
       chosen n (q .«first_block» .number) (q .«last_block» .number)
-      (λ g. E .first-block .last ∙ ap (entryWord D M L middle leaf T P 1) (sym (e ∙ ap (λ u. 1024 * d + u) (g ∙ f)))
+      (λ g. E .first-block .last ∙ ap (entryWord s middle leaf T P 1) (sym (e ∙ ap (λ u. 1024 * d + u) (g ∙ f)))
       ∙ sym is)
-      (λ g. E .last-block .last ∙ ap (entryWord D M L middle leaf T P 1) (sym (e ∙ ap (λ u. 1024 * d + u) (g ∙ l)))
+      (λ g. E .last-block .last ∙ ap (entryWord s middle leaf T P 1) (sym (e ∙ ap (λ u. 1024 * d + u) (g ∙ l)))
       ∙ sym is)
       (λ g h. ap (λ u. eightOf (u .right)) (E .for-paint)
       ∙ sym (is ∙ plain-entry c 1 k (omega arith) bk (paint .right)
@@ -100,8 +94,8 @@ module _ {s : Shape} {d : ℕ} {paint : Paint} {P middle leaf : ℕ → ℕ} {fr
       (λ t w. u (rw f t) (rw l w)))) v)
 
   -- A word of a place that no edge's block owns is what it was.
-  place-stays : (k h p j : ℕ) → InPlace D M L k h p j → owner h p < blocks h * D → RightsStay s d paint P h (owner h p)
-      → tableWord D M L middle leaf T P h (owner h p) j ≡ P k
+  place-stays : (k h p j : ℕ) → InPlace s k h p j → owner h p < blocks h * D → RightsStay s d paint P h (owner h p)
+      → tableWord s middle leaf T P h (owner h p) j ≡ P k
   place-stays k zero p j ip bo st =
       leaf-stays c k p j ip bo (sym (stays-want s d paint P 0 (leaf p) (omega arith) bo (c .settled) st)
       ∙ placed c 0 (omega arith) .held .only p (ip .1) bo) st
@@ -111,7 +105,7 @@ module _ {s : Shape} {d : ℕ} {paint : Paint} {P middle leaf : ℕ → ℕ} {fr
       (page-stays c (middle p) j (ip .2) st)
   place-stays k (suc (suc h)) p j ip bo st = let hi = ip .0 in absurd (omega arith)
 
-  module _ (k h p j : ℕ) (ip : InPlace D M L k h p j) where
+  module _ (k h p j : ℕ) (ip : InPlace s k h p j) where
     first-in : owner h p ≡ blocks h * d + firstOf h paint → inEdge (firstEdge h) (size h) k ≡ true
     first-in o = place-table c h (firstOf h paint) (ip .0) (first-below paint (c .regular) h (ip .0)) (firstEdge h)
         (first-is h (ip .0)) k p j ip o
@@ -121,7 +115,7 @@ module _ {s : Shape} {d : ℕ} {paint : Paint} {P middle leaf : ℕ → ℕ} {fr
         (last-is h (ip .0)) k p j ip o
 
     idle-word : blocks h * D ≤ owner h p → Q k ≡ P k
-    idle-word b = final-place D M L middle leaf T P k h p j ip ∙ place-idle D M L middle leaf T P h k p j b
+    idle-word b = final-place s middle leaf T P k h p j ip ∙ place-idle s middle leaf T P h k p j b
 
     other-place : inEdge (firstEdge h) (size h) k ≡ false → inEdge (lastEdge h) (size h) k ≡ false → Q k ≡ P k
     other-place f l = elim (decLt (owner h p) (blocks h * D)) [
@@ -137,7 +131,7 @@ module _ {s : Shape} {d : ℕ} {paint : Paint} {P middle leaf : ℕ → ℕ} {fr
 
   -- A root word of another domain.
   other-root : (k : ℕ) → k < 1024 * D → InTable (1024 * q .domain) 1024 k ≡ false → Q k ≡ P k
-  other-root k bk t = final-root D M L middle leaf T P k bk
+  other-root k bk t = final-root s middle leaf T P k bk
       ∙ root-stays c k bk (other-stays s d paint P 1 k (λ e. true≢false (sym (inside e) ∙ t)))
     where
       inside : k / 1024 ≡ d → InTable (1024 * q .domain) 1024 k ≡ true
@@ -155,7 +149,7 @@ module _ {s : Shape} {d : ℕ} {paint : Paint} {P middle leaf : ℕ → ℕ} {fr
       root-word k (k - 1024 * q .domain) x (omega arith) (omega arith) v
 
   -- From the old content of a word, and from the finished one, the plan gives the finished one.
-  pub planned-word : (k x : ℕ) → k < poolLength D M L → (x ≡ P k) ⊎ (x ≡ Q k) → after q k x ≡ Q k
+  pub planned-word : (k x : ℕ) → k < poolLength s → (x ≡ P k) ⊎ (x ≡ Q k) → after q k x ≡ Q k
   planned-word k x bk v = after-any q k x (Q k)
       (λ t. own-root k x t v)
       (λ t. page-word c q E (firstOf 1 paint) (first-below paint (c .regular) 1 (omega arith)) (q .«first_block»)
@@ -169,9 +163,9 @@ module _ {s : Shape} {d : ℕ} {paint : Paint} {P middle leaf : ℕ → ℕ} {fr
       (λ r fb lb fp lp. settle (⊎-elim
       (λ b. other-root k b r)
       (⊎-elim (λ (h, p, j, ip). by-height h p j ip fb lb fp lp) (λ b. absurd (omega arith)))
-      (which-word D M L k)) v)
+      (which-word s k)) v)
     where
-      by-height : (h p j : ℕ) → InPlace D M L k h p j → inEdge (q .«first_block») 1024 k ≡ false
+      by-height : (h p j : ℕ) → InPlace s k h p j → inEdge (q .«first_block») 1024 k ≡ false
           → inEdge (q .«last_block») 1024 k ≡ false
           → inEdge (q .«first_page») 64 k ≡ false → inEdge (q .«last_page») 64 k ≡ false → Q k ≡ P k
       by-height zero p j ip fb lb fp lp = other-place k 0 p j ip fp lp
@@ -181,7 +175,7 @@ module _ {s : Shape} {d : ℕ} {paint : Paint} {P middle leaf : ℕ → ℕ} {fr
   -- New words.
 
   abbrev kept : ℕ → Bool
-  kept = keptWord D M L freeM freeL
+  kept = keptWord s freeM freeL
 
   -- What the plan takes for new is not kept ..
   new-free : (h n : ℕ) → h < 2 → n < blocks h → (e : Edge) → EdgeIs s d paint P middle leaf h n e → (k : ℕ)
@@ -192,16 +186,16 @@ module _ {s : Shape} {d : ℕ} {paint : Paint} {P middle leaf : ℕ → ℕ} {fr
       let (p, ip, o) = table-place c h n hi bn e I k t in
       let bo : owner h p < blocks h * D = rw o (in-domain c h n hi bn) in
       let f = placed c h hi .held .rank p (ip .1) bo (ap (old P h) o ∙ sym (edge-old c h n hi bn e I) ∙ l) .0 in
-      sym (ap not (kept-place D M L freeM freeL k h p (k - e .last) ip ∙ ap not f))
+      sym (ap not (kept-place s freeM freeL k h p (k - e .last) ip ∙ ap not f))
 
   -- .. and what differs and is not kept it takes for new.
-  new-known : (k h p j : ℕ) → InPlace D M L k h p j → Q k ≢ P k → newIn (firstEdge h) (size h) k ≡ false
+  new-known : (k h p j : ℕ) → InPlace s k h p j → Q k ≢ P k → newIn (firstEdge h) (size h) k ≡ false
       → newIn (lastEdge h) (size h) k ≡ false
       → false ≡ not (kept k)
   new-known k h p j ip ne f l = elim (decLt (owner h p) (blocks h * D)) [
     | no b ↦ absurd (ne (idle-word k h p j ip (omega arith)))
     | yes b ↦ by-cases (old P h (owner h p))
-        (λ o. sym (ap not (kept-place D M L freeM freeL k h p j ip
+        (λ o. sym (ap not (kept-place s freeM freeL k h p j ip
         ∙ ap not (placed c h (ip .0) .held .kept p (ip .1) b o .0))))
         (λ o. ⊎-elim
         (λ z. absurd (true≢false (sym (in-new (firstEdge h) (size h) k (first-in k h p j ip z)
@@ -214,7 +208,7 @@ module _ {s : Shape} {d : ℕ} {paint : Paint} {P middle leaf : ℕ → ℕ} {fr
         (placed c h (ip .0) .held .only p (ip .1) b) o))
   ]
 
-  pub planned-new : (k : ℕ) → k < poolLength D M L → Q k ≢ P k → newWord q k ≡ not (kept k)
+  pub planned-new : (k : ℕ) → k < poolLength s → Q k ≢ P k → newWord q k ≡ not (kept k)
   planned-new k bk ne = new-any q k
       (λ t. new-free 1 (firstOf 1 paint) (omega arith) (first-below paint (c .regular) 1 (omega arith))
       (q .«first_block») (E .first-block) k t)
@@ -225,11 +219,11 @@ module _ {s : Shape} {d : ℕ} {paint : Paint} {P middle leaf : ℕ → ℕ} {fr
       (λ t. new-free 0 (lastOf 0 paint) (omega arith) (last-below paint (c .regular) 0 (omega arith)) (q .«last_page»)
       (E .last-page) k t)
       (λ fb lb fp lp. ⊎-elim
-      (λ b. sym (ap not (kept-root D M L freeM freeL k b)))
+      (λ b. sym (ap not (kept-root s freeM freeL k b)))
       (⊎-elim (λ (h, p, j, ip). by-height h p j ip fb lb fp lp) (λ b. absurd (omega arith)))
-      (which-word D M L k))
+      (which-word s k))
     where
-      by-height : (h p j : ℕ) → InPlace D M L k h p j → newIn (q .«first_block») 1024 k ≡ false
+      by-height : (h p j : ℕ) → InPlace s k h p j → newIn (q .«first_block») 1024 k ≡ false
           → newIn (q .«last_block») 1024 k ≡ false
           → newIn (q .«first_page») 64 k ≡ false → newIn (q .«last_page») 64 k ≡ false → false ≡ not (kept k)
       by-height zero p j ip fb lb fp lp = new-known k 0 p j ip ne fp lp
@@ -241,9 +235,9 @@ pub planned : (s : Shape) (d : ℕ) (paint : Paint) (p : List ℕ) → Fits s (l
     → {middle leaf : ℕ → ℕ} (freeM freeL : ℕ → Bool) → Placed s d paint (words p) 1 freeM middle
     → Placed s d paint (words p) 0 freeL leaf
     → (q : Plan) → Edges s d paint (words p) middle leaf q
-    → Planned s d paint q p (final (s .domains) (s .middles) (s .leaves) middle leaf (aims s d paint (words p))
+    → Planned s d paint q p (final s middle leaf (aims s d paint (words p))
     (words p))
-    (keptWord (s .domains) (s .middles) (s .leaves) freeM freeL)
+    (keptWord s freeM freeL)
 planned s d paint p fits st bd reg {middle} {leaf} freeM freeL OM OL q E =
     let c : Setting s d paint (words p) middle leaf freeM freeL =
     record { range = fits .range; settled = st; domain = bd; regular = reg; middles = OM; leaves = OL } in
@@ -252,12 +246,12 @@ planned s d paint p fits st bd reg {middle} {leaf} freeM freeL OM OL q E =
       for-paint = E .for-paint;
       goal = record {
         sound = st .sound;
-        finished = final-finished (s .domains) (s .middles) (s .leaves) (fits .range) (λ e be. aims-rights c e)
+        finished = final-finished s (fits .range) (λ e be. aims-rights c e)
             (st .sound) middle leaf freeM freeL OM OL
             (λ j. refl);
-        tells = final-tells (s .domains) (s .middles) (s .leaves) (fits .range) (λ e be. aims-rights c e) (st .sound)
+        tells = final-tells s (fits .range) (λ e be. aims-rights c e) (st .sound)
             middle leaf freeM freeL OM OL (λ j. refl);
-        beyond = λ k b. final-past (s .domains) (s .middles) (s .leaves) middle leaf (aims s d paint (words p))
+        beyond = λ k b. final-past s middle leaf (aims s d paint (words p))
             (words p) k (rw (fits .long) at b);
       };
       final = λ k b. planned-word c q E k (words p k) (rw (fits .long) at b) (inl refl);

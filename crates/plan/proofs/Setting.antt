@@ -11,7 +11,7 @@ use Rattle.plan.specs.Planning.{Regular}
 use Rattle.plan.specs.Edges.{Placed}
 
 pub record Setting (s : Shape) (d : ℕ) (paint : Paint) (P middle leaf : ℕ → ℕ) (freeM freeL : ℕ → Bool) : Type 0 where
-  pub range : InRange (s .domains) (s .middles) (s .leaves)
+  pub range : InRange s
   pub settled : Settled (formOf s) P
   pub domain : d < s .domains
   pub regular : Regular paint

@@ -29,32 +29,26 @@ use Rattle.plan.proofs.MeetLaws.{Plain}
 use Rattle.plan.proofs.WantedLaws.{first-address, plain-want}
 
 -- A pointer is below bit 31.
-place-low : (D M L h p : ℕ) → InRange D M L → h < 2 → p < places D M L h → isLead (placeAt D M L h p) ≡ true
-place-low D M L zero p range hi b = lt-ltb (placeAt D M L 0 p) 2147483648 (omega arith)
-place-low D M L (suc zero) p range hi b = lt-ltb (placeAt D M L 1 p) 2147483648 (omega arith)
-place-low D M L (suc (suc h)) p range hi b = absurd (omega arith)
+place-low : (s : Shape) (h p : ℕ) → InRange s → h < 2 → p < places s h → isLead (placeAt s h p) ≡ true
+place-low s zero p range hi b = lt-ltb (placeAt s 0 p) 2147483648 (omega arith)
+place-low s (suc zero) p range hi b = lt-ltb (placeAt s 1 p) 2147483648 (omega arith)
+place-low s (suc (suc h)) p range hi b = absurd (omega arith)
 
 module _ {s : Shape} {d : ℕ} {paint : Paint} {P middle leaf : ℕ → ℕ} {freeM freeL : ℕ → Bool}
     (c : Setting s d paint P middle leaf freeM freeL) where
   abbrev D : ℕ
   D = s .domains
 
-  abbrev M : ℕ
-  M = s .middles
-
-  abbrev L : ℕ
-  L = s .leaves
-
   abbrev T : ℕ → ℕ → ℕ
   T = aims s d paint P
 
   pub aims-rights : (e : ℕ) → WordRights (T e)
   aims-rights e = changed-rights (rightOf (formOf s) P) d (region paint) (paint .right) e (c .regular .right)
-      (pool-rights D M L P e)
+      (pool-rights s P e)
 
   -- Both heights in one.
   pub placed : (h : ℕ) → h < 2
-      → Owned (blocks h * D) (places D M L h) (want T h) (old P h) (either freeL freeM h) (was D M L P h)
+      → Owned (blocks h * D) (places s h) (want T h) (old P h) (either freeL freeM h) (was s P h)
       (either leaf middle h)
   placed zero hi = c .leaves
   placed (suc zero) hi = c .middles
@@ -62,21 +56,21 @@ module _ {s : Shape} {d : ℕ} {paint : Paint} {P middle leaf : ℕ → ℕ} {fr
 
   module _ (h i : ℕ) (hi : h < 2) (bi : i < blocks h * D) where
     -- The entry of a block of one right says that right.
-    pub plain-entry : (r : ℕ) → Plain s d paint P h i r → entryWord D M L middle leaf T P h i ≡ eightOf r
+    pub plain-entry : (r : ℕ) → Plain s d paint P h i r → entryWord s middle leaf T P h i ≡ eightOf r
     plain-entry r pl =
-        entry-says D M L middle leaf T P h i (plain-want s d paint P h i hi bi r pl)
+        entry-says s middle leaf T P h i (plain-want s d paint P h i hi bi r pl)
         ∙ said-near (T (domainOf h i)) (λ b. r) (suc h) (addressOf h i) (number-first h D i hi bi .1)
         (λ b bb x. pl b bb (x ∙ first-address h i hi))
         ∙ said-plain r h (addressOf h i)
 
     -- The finished entry leads where the block wants a table.
-    pub entry-lead : isLead (entryWord D M L middle leaf T P h i) ≡ want T h i
+    pub entry-lead : isLead (entryWord s middle leaf T P h i) ≡ want T h i
     entry-lead = by-cases (want T h i)
-        (λ w. ap isLead (entry-leads D M L middle leaf T P h i w) ∙ led w ∙ sym w)
-        (λ w. ap isLead (entry-says D M L middle leaf T P h i w)
-        ∙ wants-says D M L (T (domainOf h i)) (suc h) (addressOf h i) (aims-rights (domainOf h i)) (omega arith)
+        (λ w. ap isLead (entry-leads s middle leaf T P h i w) ∙ led w ∙ sym w)
+        (λ w. ap isLead (entry-says s middle leaf T P h i w)
+        ∙ wants-says s (T (domainOf h i)) (suc h) (addressOf h i) (aims-rights (domainOf h i)) (omega arith)
         (number-first h D i hi bi .1) w .rights
         ∙ sym w)
       where
-        led : want T h i ≡ true → isLead (tableOf D M L middle leaf h i) ≡ true
-        led w = place-low D M L h _ (c .range) hi (seek-owner _ _ _ _ _ _ (placed h hi) i bi w .0)
+        led : want T h i ≡ true → isLead (tableOf s middle leaf h i) ≡ true
+        led w = place-low s h _ (c .range) hi (seek-owner _ _ _ _ _ _ (placed h hi) i bi w .0)

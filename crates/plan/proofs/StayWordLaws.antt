@@ -31,12 +31,6 @@ module _ {s : Shape} {d : ℕ} {paint : Paint} {P middle leaf : ℕ → ℕ} {fr
   abbrev D : ℕ
   D = s .domains
 
-  abbrev M : ℕ
-  M = s .middles
-
-  abbrev L : ℕ
-  L = s .leaves
-
   abbrev F : Form
   F = formOf s
 
@@ -50,7 +44,7 @@ module _ {s : Shape} {d : ℕ} {paint : Paint} {P middle leaf : ℕ → ℕ} {fr
   owner h = either leaf middle h
 
   -- Entry `j` of a place whose owner had its table before: the walk of the old pool comes there.
-  pub place-visits : (k h p j : ℕ) → InPlace D M L k h p j → owner h p < blocks h * D → old P h (owner h p) ≡ true
+  pub place-visits : (k h p j : ℕ) → InPlace s k h p j → owner h p < blocks h * D → old P h (owner h p) ≡ true
       → Visits F P (addressOf h (owner h p) + block h * j) 2
       (entry F (domainOf h (owner h p)) (addressOf h (owner h p) + block h * j)) h k
   place-visits k h p j (hi, bp, bj, q) bo o =
@@ -58,11 +52,11 @@ module _ {s : Shape} {d : ℕ} {paint : Paint} {P middle leaf : ℕ → ℕ} {fr
       let e = domainOf h i in
       let a = addressOf h i + block h * j in
       let (be, ba, x) = number-of h D i (block h * j) hi bo (offset-below h j hi bj) in
-      let (r, v, l, t) = old-led D M L P e a ba h hi (rw x o) in
-      let y : P r ≡ placeAt D M L h p =
-      t ∙ ap (λ u. P (entryOf P h u)) x ∙ old-at D M L (c .settled .sound) h hi i bo o .1
-      ∙ ap (placeAt D M L h) (sym (placed c h hi .held .kept p bp bo o .1)) in
-      let z : P r + index h a ≡ k = ap (λ u. u + index h a) y ∙ ap (λ u. placeAt D M L h p + u)
+      let (r, v, l, t) = old-led s P e a ba h hi (rw x o) in
+      let y : P r ≡ placeAt s h p =
+      t ∙ ap (λ u. P (entryOf P h u)) x ∙ old-at s (c .settled .sound) h hi i bo o .1
+      ∙ ap (placeAt s h) (sym (placed c h hi .held .kept p bp bo o .1)) in
+      let z : P r + index h a ≡ k = ap (λ u. u + index h a) y ∙ ap (λ u. placeAt s h p + u)
       (address-index h i j hi bj) ∙ sym q in
       rw z at (next v l)
 
@@ -72,31 +66,31 @@ module _ {s : Shape} {d : ℕ} {paint : Paint} {P middle leaf : ℕ → ℕ} {fr
       (near : (b : ℕ) → b < addresses → b / block m ≡ a / block m → T e b ≡ R e b) where
     said-stays : saidOf (T e) m a ≡ P k
     said-stays = said-near (T e) (R e) m a ba near
-        ∙ sym (says-said D M L (R e) m a (pool-rights D M L P e) hm ba (P k)
-        (says-at F (lawful D M L) P (c .settled .sound) e a m k be v l))
+        ∙ sym (says-said s (R e) m a (pool-rights s P e) hm ba (P k)
+        (says-at F (lawful s) P (c .settled .sound) e a m k be v l))
 
     unsaid-stays : wantsOf (T e) m a ≡ false
     unsaid-stays = by-cases (wantsOf (T e) m a)
-        (λ w. absurd (wants-unsaid D M L (R e) m a (P k) ba (sym (wants-near (T e) (R e) m a ba near) ∙ w)
-        (says-at F (lawful D M L) P (c .settled .sound) e a m k be v l)))
+        (λ w. absurd (wants-unsaid s (R e) m a (P k) ba (sym (wants-near (T e) (R e) m a ba near) ∙ w)
+        (says-at F (lawful s) P (c .settled .sound) e a m k be v l)))
         (λ w. w)
 
   -- The entry of a block whose rights stay, where the old walk comes to it.
   entry-stays : (h i k : ℕ) → h < 2 → i < blocks h * D → RightsStay s d paint P h i
       → Visits F P (addressOf h i) 2 (entry F (domainOf h i) (addressOf h i)) (suc h) k
-      → entryWord D M L middle leaf T P h i ≡ P k
+      → entryWord s middle leaf T P h i ≡ P k
   entry-stays h i k hi bi st v =
       let (be, ba, x) = number-first h D i hi bi in
       by-cases (leads (suc h) (P k))
       (λ l.
-      let (o, t) = led-old D M L P (domainOf h i) (addressOf h i) ba h (P k) (k, v, l, refl) in
+      let (o, t) = led-old s P (domainOf h i) (addressOf h i) ba h (P k) (k, v, l, refl) in
       let o : old P h i ≡ true = rw x at o in
       let w : want T h i ≡ true = stays-want s d paint P h i hi bi (c .settled) st ∙ o in
-      entry-leads D M L middle leaf T P h i w
-      ∙ ap (placeAt D M L h) (seek-keeps _ _ _ _ _ _ (placed c h hi) i bi w o .1)
-      ∙ sym (old-at D M L (c .settled .sound) h hi i bi o .1) ∙ (rw x at t))
+      entry-leads s middle leaf T P h i w
+      ∙ ap (placeAt s h) (seek-keeps _ _ _ _ _ _ (placed c h hi) i bi w o .1)
+      ∙ sym (old-at s (c .settled .sound) h hi i bi o .1) ∙ (rw x at t))
       (λ l.
-      entry-says D M L middle leaf T P h i (unsaid-stays (suc h) (domainOf h i) (addressOf h i) k (omega arith) be ba
+      entry-says s middle leaf T P h i (unsaid-stays (suc h) (domainOf h i) (addressOf h i) k (omega arith) be ba
       v l near)
       ∙ said-stays (suc h) (domainOf h i) (addressOf h i) k (omega arith) be ba v l near)
     where
@@ -105,22 +99,22 @@ module _ {s : Shape} {d : ℕ} {paint : Paint} {P middle leaf : ℕ → ℕ} {fr
       near b bb y = st b bb (y ∙ first-address h i hi)
 
   -- A root word.
-  pub root-stays : (k : ℕ) → k < 1024 * D → RightsStay s d paint P 1 k → entryWord D M L middle leaf T P 1 k ≡ P k
+  pub root-stays : (k : ℕ) → k < 1024 * D → RightsStay s d paint P 1 k → entryWord s middle leaf T P 1 k ≡ P k
   root-stays k bk st =
       let (be, ba, x) = number-first 1 D k (omega arith) bk in
       entry-stays 1 k k (omega arith) bk st (rw (root-number (domainOf 1 k) (addressOf 1 k) ba ∙ x) here)
 
   -- A word of a middle table, by its page ..
-  pub middle-stays : (k p j : ℕ) → InPlace D M L k 1 p j → middle p < 1024 * D → old P 1 (middle p) ≡ true
-      → RightsStay s d paint P 0 (1024 * middle p + j) → tableWord D M L middle leaf T P 1 (middle p) j ≡ P k
+  pub middle-stays : (k p j : ℕ) → InPlace s k 1 p j → middle p < 1024 * D → old P 1 (middle p) ≡ true
+      → RightsStay s d paint P 0 (1024 * middle p + j) → tableWord s middle leaf T P 1 (middle p) j ≡ P k
   middle-stays k p j x bo o st =
       let u : domainOf 0 (1024 * middle p + j) ≡ domainOf 1 (middle p) = omega arith in
       let w : addressOf 0 (1024 * middle p + j) ≡ addressOf 1 (middle p) + 4096 * j = omega arith in
       entry-stays 0 (1024 * middle p + j) k (omega arith) (omega arith) st (rw (u, w) (place-visits k 1 p j x bo o))
 
   -- .. and of a leaf.
-  pub leaf-stays : (k p j : ℕ) → InPlace D M L k 0 p j → leaf p < 1048576 * D → old P 0 (leaf p) ≡ true
-      → RightsStay s d paint P 0 (leaf p) → tableWord D M L middle leaf T P 0 (leaf p) j ≡ P k
+  pub leaf-stays : (k p j : ℕ) → InPlace s k 0 p j → leaf p < 1048576 * D → old P 0 (leaf p) ≡ true
+      → RightsStay s d paint P 0 (leaf p) → tableWord s middle leaf T P 0 (leaf p) j ≡ P k
   leaf-stays k p j x bo o st =
       let (be, ba, _) = number-of 0 D (leaf p) (64 * j) (omega arith) bo (omega arith) in
       let w : (addressOf 0 (leaf p) + 64 * j) / 4096 ≡ leaf p % 1048576 = omega arith in

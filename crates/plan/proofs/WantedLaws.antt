@@ -28,8 +28,8 @@ first-address (suc (suc h)) i hi = absurd (omega arith)
 -- A settled pool has a table where its rights want one.
 pub old-wants : (s : Shape) {P : ℕ → ℕ} → Settled (formOf s) P → (h i : ℕ) → h < 2 → i < blocks h * s .domains
     → old P h i ≡ want (rightOf (formOf s) P) h i
-old-wants s {P} st zero i hi bi = settled-leaf _ _ _ (λ e a be ba. refl) (λ e be. pool-rights _ _ _ P e) st i bi
-old-wants s {P} st (suc zero) i hi bi = settled-middle _ _ _ (λ e a be ba. refl) (λ e be. pool-rights _ _ _ P e) st i bi
+old-wants s {P} st zero i hi bi = settled-leaf _ (λ e a be ba. refl) (λ e be. pool-rights _ P e) st i bi
+old-wants s {P} st (suc zero) i hi bi = settled-middle _ (λ e a be ba. refl) (λ e be. pool-rights _ P e) st i bi
 old-wants s st (suc (suc h)) i hi bi = absurd (omega arith)
 
 module _ (s : Shape) (d : ℕ) (paint : Paint) (P : ℕ → ℕ) (h i : ℕ) (hi : h < 2) (bi : i < blocks h * s .domains) where

@@ -56,7 +56,7 @@ module _ (s : Shape) (d : ℕ) (paint : Paint) (P middle leaf : ℕ → ℕ) whe
   pub record EdgeIs (h n : ℕ) (e : Edge) : Type 0 where
     pub number : e .number ≡ n
     pub old : e .old ≡ entryAt P h d n
-    pub last : e .last ≡ entryWord (s .domains) (s .middles) (s .leaves) middle leaf (aims s d paint P) P h
+    pub last : e .last ≡ entryWord s middle leaf (aims s d paint P) P h
         (blocks h * d + n)
 
   -- The plan is right at its edges.
@@ -71,9 +71,9 @@ module _ (s : Shape) (d : ℕ) (paint : Paint) (P middle leaf : ℕ → ℕ) whe
 -- The tables of height `h` (0 leaves, 1 middle tables) have their places: `owner` says which block stands where.
 abbrev pub Placed : Shape → ℕ → Paint → (ℕ → ℕ) → ℕ → (ℕ → Bool) → (ℕ → ℕ) → Type 0
 Placed s d paint P h free owner =
-    Owned (blocks h * s .domains) (places (s .domains) (s .middles) (s .leaves) h) (want (aims s d paint P) h)
+    Owned (blocks h * s .domains) (places s h) (want (aims s d paint P) h)
     (old P h) free
-    (was (s .domains) (s .middles) (s .leaves) P h) owner
+    (was s P h) owner
 
 -- A plan that is ready: the tables of the finished pool have their places, and the plan is right at its edges.
 pub record PlanReady (s : Shape) (d : ℕ) (paint : Paint) (P : ℕ → ℕ) (q : Plan) : Type 0 where
@@ -88,7 +88,7 @@ pub record PlanReady (s : Shape) (d : ℕ) (paint : Paint) (P : ℕ → ℕ) (q 
 -- The plan of a change: ready, or the finished rights need more tables than there are places.
 abbrev pub PlansChange : Shape → ℕ → Paint → (ℕ → ℕ) → Planning → Type 0
 PlansChange s d paint P (Ready q) = PlanReady s d paint P q
-PlansChange s d paint P NoRoom = Room (s .domains) (s .middles) (s .leaves) (aims s d paint P) → ⊥
+PlansChange s d paint P NoRoom = Room s (aims s d paint P) → ⊥
 
 -- The steps. First the edges, then the marks of kept tables, then the places of new ones.
 
@@ -157,10 +157,10 @@ module _ (s : Shape) (d : ℕ) (paint : Paint) (P : ℕ → ℕ) where
   -- Of the tables of height `h` of the blocks below `i`, the places of those that are kept are marked.
   pub record KeptMarked (h i : ℕ) (f : List Bool) : Type 0 where
     pub owner : ℕ → ℕ
-    pub keeping : Keeping (blocks h * s .domains) (places (s .domains) (s .middles) (s .leaves) h)
+    pub keeping : Keeping (blocks h * s .domains) (places s h)
         (want (aims s d paint P) h) (old P h)
-        (was (s .domains) (s .middles) (s .leaves) P h) i owner
-    pub marks : (p : ℕ) → p < places (s .domains) (s .middles) (s .leaves) h → getD f p false
+        (was s P h) i owner
+    pub marks : (p : ℕ) → p < places s h → getD f p false
         ≡ ltb (owner p) (blocks h * s .domains)
     pub long : length f ≡ 64
 
@@ -169,8 +169,8 @@ module _ (s : Shape) (d : ℕ) (paint : Paint) (P : ℕ → ℕ) where
     pub number : e .number ≡ n
     pub old : e .old ≡ entryAt P h d n
     pub last : e .last ≡ cond (want (aims s d paint P) h (blocks h * d + n))
-        (placeAt (s .domains) (s .middles) (s .leaves) h
-        (seek owner (blocks h * d + n) (places (s .domains) (s .middles) (s .leaves) h)))
+        (placeAt s h
+        (seek owner (blocks h * d + n) (places s h)))
         (saidOf (aims s d paint P (domainOf h (blocks h * d + n))) (suc h) (addressOf h (blocks h * d + n)))
 
   -- The tables of height `h` have their places, and the edges `f` and `l` of the two ends of the region lead to theirs.
@@ -184,7 +184,7 @@ module _ (s : Shape) (d : ℕ) (paint : Paint) (P : ℕ → ℕ) where
   -- They have their places, or they are too many.
   abbrev pub EndsAre : ℕ → Ends → Type 0
   EndsAre h (Both f l) = EndsPlaced h f l
-  EndsAre h Full = places (s .domains) (s .middles) (s .leaves) h < count (want (aims s d paint P) h)
+  EndsAre h Full = places s h < count (want (aims s d paint P) h)
       (blocks h * s .domains)
 
 -- `r` is the first place from `c` on that is not marked, or `m` where all below `m` are.
@@ -214,12 +214,12 @@ TakenIs f c m from long e None = (isNew e ≡ true) × ((q : ℕ) → c ≤ q �
 pub record GivesOut (s : Shape) (d : ℕ) (paint : Paint) (P : ℕ → ℕ) (h : ℕ) (f : List Bool) (m from long : ℕ)
     (first last : Edge) : Type 0 where
   pub height : h < 2
-  pub range : InRange (s .domains) (s .middles) (s .leaves)
+  pub range : InRange s
   pub settled : Settled (formOf s) P
   pub domain : d < s .domains
   pub regular : Regular paint
-  pub count-is : m ≡ places (s .domains) (s .middles) (s .leaves) h
-  pub from-is : from ≡ firstPlace (s .domains) (s .middles) (s .leaves) h
+  pub count-is : m ≡ places s h
+  pub from-is : from ≡ firstPlace s h
   pub long-is : long ≡ size h
   pub kept : KeptMarked s d paint P h (blocks h * s .domains) f
   pub told : EndsTold s d paint P h first last

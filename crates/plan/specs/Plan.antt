@@ -76,7 +76,7 @@ newWord q k =
 -- The phase in which word `k`, which holds `x`, is stored: 2 in a new table; else 1 where it leads, 3 where it does
 -- not.
 abbrev pub phaseOf : Shape → Plan → ℕ → ℕ → ℕ
-phaseOf s q k x = cond (newWord q k) 2 (cond (ltb k (firstLeaf (s .domains) (s .middles)) && isLead x) 1 3)
+phaseOf s q k x = cond (newWord q k) 2 (cond (ltb k (firstLeaf s) && isLead x) 1 3)
 
 -- The numbers of a plan are in their ranges, and the first edges come before the last.
 pub record PlanFits (q : Plan) : Type 0 where

@@ -4,7 +4,8 @@ use mathlib.Core.Path.{_≡_, sym, ap, _∙_}
 use native.Mathlib.Omega.{arith}
 use native.Mathlib.Decide.{ℕ-discrete}
 use Rattle.theory.specs.Settled.{Together}
-use Rattle.table.specs.Map.{addresses, block, part, parts, size, index, form}
+use Rattle.table.specs.declared.Shape.{Shape}
+use Rattle.table.specs.Map.{addresses, block, part, parts, size, index, formOf}
 use Rattle.table.specs.Wants.{wordAt, wordsIn}
 
 -- The number of a block: it is the number of the block above, and the index in the table of that one.
@@ -37,23 +38,23 @@ block-below h a b hi e f =
     block-index h a hi ∙ ap (λ x. x * size h + index h a) e ∙ ap (λ x. b / block (suc h) * size h + x) f
     ∙ sym (block-index h b hi)
 
-module _ (D M L : ℕ) where
+module _ (s : Shape) where
   -- Addresses of one block lie together ..
-  pub block-together : (h a b : ℕ) → a / block h ≡ b / block h → Together (form D M L) h a b
+  pub block-together : (h a b : ℕ) → a / block h ≡ b / block h → Together (formOf s) h a b
   block-together h a b e i lo hi = ap (λ x. x % size i) (block-above i h a b lo hi e)
 
   -- .. and addresses that lie together are of one block.
-  pub together-block : (h a b : ℕ) → h ≤ 2 → a < addresses → b < addresses → Together (form D M L) h a b → a / block h
+  pub together-block : (h a b : ℕ) → h ≤ 2 → a < addresses → b < addresses → Together (formOf s) h a b → a / block h
       ≡ b / block h
   together-block h a b hi ba bb t = down h hi t
     where
-      two : Together (form D M L) 2 a b → a / block 2 ≡ b / block 2
+      two : Together (formOf s) 2 a b → a / block 2 ≡ b / block 2
       two t = root-index a ba ∙ t 2 (omega arith) (omega arith) ∙ sym (root-index b bb)
 
-      one : Together (form D M L) 1 a b → a / block 1 ≡ b / block 1
+      one : Together (formOf s) 1 a b → a / block 1 ≡ b / block 1
       one t = block-below 1 a b (omega arith) (two (λ i lo up. t i (omega arith) up)) (t 1 (omega arith) (omega arith))
 
-      down : (h : ℕ) → h ≤ 2 → Together (form D M L) h a b → a / block h ≡ b / block h
+      down : (h : ℕ) → h ≤ 2 → Together (formOf s) h a b → a / block h ≡ b / block h
       down zero hi t = block-below 0 a b (omega arith) (one (λ i lo up. t i (omega arith) up))
           (t 0 (omega arith) (omega arith))
       down (suc zero) hi t = one t

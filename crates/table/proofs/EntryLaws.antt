@@ -55,11 +55,11 @@ module _ (s : Shape) (h w : ℕ) where
   pub decode-leaf : h ≡ 0 → decodeOf s h w ≡ Rights w
   decode-leaf e = rw (eq-eqb h 0 e)
 
-  pub decode-middle : h ≡ 1 → w < 2147483648 → decodeOf s h w ≡ leadsTo (firstLeaf (s .domains) (s .middles)) 64
+  pub decode-middle : h ≡ 1 → w < 2147483648 → decodeOf s h w ≡ leadsTo (firstLeaf s) 64
       (s .leaves) 8 w
   decode-middle e l = rw (e, lt-ltb w 2147483648 l)
 
-  pub decode-root : h ≢ 0 → h ≢ 1 → w < 2147483648 → decodeOf s h w ≡ leadsTo (firstMiddle (s .domains)) 1024
+  pub decode-root : h ≢ 0 → h ≢ 1 → w < 2147483648 → decodeOf s h w ≡ leadsTo (firstMiddle s) 1024
       (s .middles) 0 w
   decode-root a b l = rw (ne-eqb h 0 a, lt-ltb w 2147483648 l, ne-eqb h 1 b)
 
@@ -128,15 +128,15 @@ module _ (from long n nth w : ℕ) where
 module _ (s : Shape) where
   pub decoded-bad : (h w : ℕ) → 0 < h → h ≤ 2 → decodeOf s h w ≡ Bad → formOf s .good h w ≡ false
   decoded-bad zero w lo hi e = absurd (omega arith)
-  decoded-bad (suc zero) w lo hi e = upper-bad (firstLeaf (s .domains) (s .middles)) 64 (s .leaves) 8 w e
-  decoded-bad (suc (suc zero)) w lo hi e = upper-bad (firstMiddle (s .domains)) 1024 (s .middles) 0 w e
+  decoded-bad (suc zero) w lo hi e = upper-bad (firstLeaf s) 64 (s .leaves) 8 w e
+  decoded-bad (suc (suc zero)) w lo hi e = upper-bad (firstMiddle s) 1024 (s .middles) 0 w e
   decoded-bad (suc (suc (suc h))) w lo hi e = absurd (omega arith)
 
   pub decoded-rights : (h w r : ℕ) → 0 < h → h ≤ 2 → decodeOf s h w ≡ Rights r
       → (r ≡ w) × (formOf s .good h w ≡ true) × (formOf s .leads h w ≡ false)
   decoded-rights zero w r lo hi e = absurd (omega arith)
-  decoded-rights (suc zero) w r lo hi e = upper-rights (firstLeaf (s .domains) (s .middles)) 64 (s .leaves) 8 w r e
-  decoded-rights (suc (suc zero)) w r lo hi e = upper-rights (firstMiddle (s .domains)) 1024 (s .middles) 0 w r e
+  decoded-rights (suc zero) w r lo hi e = upper-rights (firstLeaf s) 64 (s .leaves) 8 w r e
+  decoded-rights (suc (suc zero)) w r lo hi e = upper-rights (firstMiddle s) 1024 (s .middles) 0 w r e
   decoded-rights (suc (suc (suc h))) w r lo hi e = absurd (omega arith)
 
   -- Every word below 2^32 is good rights in a leaf, so that this holds of every height.
@@ -157,12 +157,12 @@ module _ (s : Shape) where
   -- An entry that leads is a good one, and the table to which it leads lies in the pool.
   pub decoded-leads : (h w : ℕ) (t : PoolWord) (n : ℕ) → 0 < h → h ≤ 2 → decodeOf s h w ≡ Leads t n
       → (t .0 ≡ w) × (formOf s .good h w ≡ true) × (formOf s .leads h w ≡ true)
-      × (w + size (h - 1) ≤ poolLength (s .domains) (s .middles) (s .leaves))
+      × (w + size (h - 1) ≤ poolLength s)
   decoded-leads zero w t n lo hi e = absurd (omega arith)
   decoded-leads (suc zero) w t n lo hi e =
-      let (u, m, g, l, x, y, z) = upper-leads (firstLeaf (s .domains) (s .middles)) 64 (s .leaves) 8 w t n e in
+      let (u, m, g, l, x, y, z) = upper-leads (firstLeaf s) 64 (s .leaves) 8 w t n e in
       (u, g, l, omega arith)
   decoded-leads (suc (suc zero)) w t n lo hi e =
-      let (u, m, g, l, x, y, z) = upper-leads (firstMiddle (s .domains)) 1024 (s .middles) 0 w t n e in
+      let (u, m, g, l, x, y, z) = upper-leads (firstMiddle s) 1024 (s .middles) 0 w t n e in
       (u, g, l, omega arith)
   decoded-leads (suc (suc (suc h))) w t n lo hi e = absurd (omega arith)

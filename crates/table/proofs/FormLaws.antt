@@ -13,8 +13,9 @@ use Rattle.theory.specs.Lawful.{Lawful, Exact}
 use Rattle.theory.proofs.Logic.{by-cases, and-both}
 use Rattle.words.specs.Rights.{rightAt, goodRights}
 use Rattle.words.proofs.RightsLaws.{good-low, digits-equal, good-digits-equal}
+use Rattle.table.specs.declared.Shape.{Shape}
 use Rattle.table.specs.Shape.{firstMiddle, firstLeaf, firstPlace, places}
-use Rattle.table.specs.Map.{addresses, block, part, parts, size, index, leads, isPlace, good, zone, form}
+use Rattle.table.specs.Map.{addresses, block, part, parts, size, index, leads, isPlace, good, zone, formOf}
 use Rattle.table.specs.Wants.{wordAt, wordsIn}
 use Rattle.table.proofs.BlockLaws.{block-together, first-word, word-below, word-block, word-number, entryAt}
 use Rattle.table.proofs.BlockLaws.{entry-below}
@@ -46,37 +47,37 @@ nth-place from long n p b h =
     (lt-ltb (from + long * p) (from + long * n) (omega arith)))
     (eq-eqb _ 0 (ap (λ x. x % long) (add-sub-cancel-left from (long * p)) ∙ mul-mod-right long p))
 
-module _ (D M L : ℕ) where
+module _ (s : Shape) where
   -- A good entry that leads is the first word of a place one height below ..
-  pub leads-place : (h w : ℕ) → good D M L (suc h) w ≡ true → leads (suc h) w ≡ true
-      → (h < 2) × (p : ℕ) × (p < places D M L h) × (w ≡ firstPlace D M L h + size h * p)
+  pub leads-place : (h w : ℕ) → good s (suc h) w ≡ true → leads (suc h) w ≡ true
+      → (h < 2) × (p : ℕ) × (p < places s h) × (w ≡ firstPlace s h + size h * p)
   leads-place zero w g l =
-      let (p, b, e) = place-nth (firstLeaf D M) 64 L w (omega arith) (rw l at g) in
+      let (p, b, e) = place-nth (firstLeaf s) 64 (s .leaves) w (omega arith) (rw l at g) in
       (omega arith, p, b, e)
   leads-place (suc zero) w g l =
-      let (p, b, e) = place-nth (firstMiddle D) 1024 M w (omega arith) (rw l at g) in
+      let (p, b, e) = place-nth (firstMiddle s) 1024 (s .middles) w (omega arith) (rw l at g) in
       (omega arith, p, b, e)
   leads-place (suc (suc h)) w g l = absurd (false≢true g)
 
   -- .. and each such word below 2^31 is one.
-  pub place-leads : (h p : ℕ) → h < 2 → p < places D M L h → firstPlace D M L h + size h * p < 2147483648
-      → (good D M L (suc h) (firstPlace D M L h + size h * p) ≡ true)
-      × (leads (suc h) (firstPlace D M L h + size h * p) ≡ true)
+  pub place-leads : (h p : ℕ) → h < 2 → p < places s h → firstPlace s h + size h * p < 2147483648
+      → (good s (suc h) (firstPlace s h + size h * p) ≡ true)
+      × (leads (suc h) (firstPlace s h + size h * p) ≡ true)
   place-leads zero p hi b low =
-      let l = lt-ltb (firstLeaf D M + 64 * p) 2147483648 low in
-      (rw l (nth-place (firstLeaf D M) 64 L p (omega arith) b), l)
+      let l = lt-ltb (firstLeaf s + 64 * p) 2147483648 low in
+      (rw l (nth-place (firstLeaf s) 64 (s .leaves) p (omega arith) b), l)
   place-leads (suc zero) p hi b low =
-      let l = lt-ltb (firstMiddle D + 1024 * p) 2147483648 low in
-      (rw l (nth-place (firstMiddle D) 1024 M p (omega arith) b), l)
+      let l = lt-ltb (firstMiddle s + 1024 * p) 2147483648 low in
+      (rw l (nth-place (firstMiddle s) 1024 (s .middles) p (omega arith) b), l)
   place-leads (suc (suc h)) p hi b low = absurd (omega arith)
 
   -- A good entry of a root or middle table that does not lead is eight rights, and the other way round.
-  pub good-eight : (h w : ℕ) → good D M L (suc h) w ≡ true → leads (suc h) w ≡ false → goodRights w ≡ true
+  pub good-eight : (h w : ℕ) → good s (suc h) w ≡ true → leads (suc h) w ≡ false → goodRights w ≡ true
   good-eight zero w g l = rw l at g
   good-eight (suc zero) w g l = rw l at g
   good-eight (suc (suc h)) w g l = absurd (false≢true g)
 
-  pub eight-good : (h w : ℕ) → h < 2 → goodRights w ≡ true → (good D M L (suc h) w ≡ true) × (leads (suc h) w ≡ false)
+  pub eight-good : (h w : ℕ) → h < 2 → goodRights w ≡ true → (good s (suc h) w ≡ true) × (leads (suc h) w ≡ false)
   eight-good h w hi g = (is h hi, high)
     where
       high : ltb w 2147483648 ≡ false
@@ -84,24 +85,24 @@ module _ (D M L : ℕ) where
           (λ l. absurd (false≢true (sym (good-low w (ltb-true w 2147483648 l)) ∙ g)))
           (λ l. l)
 
-      is : (h : ℕ) → h < 2 → good D M L (suc h) w ≡ true
+      is : (h : ℕ) → h < 2 → good s (suc h) w ≡ true
       is zero hi = rw high g
       is (suc zero) hi = rw high g
       is (suc (suc h)) hi = absurd (omega arith)
 
   -- Tables stand apart.
 
-  zone-root : (i : ℕ) → i < firstMiddle D → zone D M L i ≡ 2
-  zone-root i h = rw (lt-ltb i (firstMiddle D) h)
+  zone-root : (i : ℕ) → i < firstMiddle s → zone s i ≡ 2
+  zone-root i h = rw (lt-ltb i (firstMiddle s) h)
 
-  zone-middle : (i : ℕ) → firstMiddle D ≤ i → i < firstLeaf D M → zone D M L i ≡ 1
-  zone-middle i h k = rw (le-ltb i (firstMiddle D) h, lt-ltb i (firstLeaf D M) k)
+  zone-middle : (i : ℕ) → firstMiddle s ≤ i → i < firstLeaf s → zone s i ≡ 1
+  zone-middle i h k = rw (le-ltb i (firstMiddle s) h, lt-ltb i (firstLeaf s) k)
 
-  zone-leaf : (i : ℕ) → firstLeaf D M ≤ i → zone D M L i ≡ 0
-  zone-leaf i h = rw (le-ltb i (firstMiddle D) (omega arith), le-ltb i (firstLeaf D M) h)
+  zone-leaf : (i : ℕ) → firstLeaf s ≤ i → zone s i ≡ 0
+  zone-leaf i h = rw (le-ltb i (firstMiddle s) (omega arith), le-ltb i (firstLeaf s) h)
 
-  zone-place : (h p i : ℕ) → h < 2 → p < places D M L h → i < size h
-      → zone D M L (firstPlace D M L h + size h * p + i) ≡ h
+  zone-place : (h p i : ℕ) → h < 2 → p < places s h → i < size h
+      → zone s (firstPlace s h + size h * p + i) ≡ h
   zone-place zero p i hi b c = zone-leaf _ (omega arith)
   zone-place (suc zero) p i hi b c = zone-middle _ (omega arith) (omega arith)
   zone-place (suc (suc h)) p i hi b c = absurd (omega arith)
@@ -111,7 +112,7 @@ module _ (D M L : ℕ) where
   places-apart zero f p i q j b c e = omega arith
   places-apart (suc h) f p i q j b c e = omega arith
 
-  pub lawful : Lawful (form D M L)
+  pub lawful : Lawful (formOf s)
   lawful = record {
     index-below = index-below;
     root-zone = λ d i b c. zone-root (1024 * d + i) (omega arith);
@@ -121,21 +122,21 @@ module _ (D M L : ℕ) where
         rw e (zone-place h p i hi b c);
     target-apart = λ h w i x j g l k m b c e.
         let (_, p, _, f) = leads-place h w g l in
-        let (_, q, _, s) = leads-place h x k m in
-        f ∙ places-apart h (firstPlace D M L h) p i q j b c (ap (λ y. y + i) (sym f) ∙ e ∙ ap (λ y. y + j) s) ∙ sym s;
+        let (_, q, _, g') = leads-place h x k m in
+        f ∙ places-apart h (firstPlace s h) p i q j b c (ap (λ y. y + i) (sym f) ∙ e ∙ ap (λ y. y + j) g') ∙ sym g';
   }
 
   -- Rights and places settle the words.
 
   -- An entry that says a block has in part `i` the right of each word of sub-block `i`.
-  pub says-word : (h a i j w : ℕ) (R : ℕ → ℕ) → a < addresses → i < parts h → j < wordsIn h → Says (form D M L) h R a w
+  pub says-word : (h a i j w : ℕ) (R : ℕ → ℕ) → a < addresses → i < parts h → j < wordsIn h → Says (formOf s) h R a w
       → rightAt w i ≡ R (wordAt h a i j)
-  says-word h a i j w R ba bi bj s =
+  says-word h a i j w R ba bi bj t =
       ap (rightAt w) (sym (word-number h a i j bi bj))
-      ∙ s .each (wordAt h a i j) (word-below h a i j ba bi bj)
-      (block-together D M L h a _ (sym (word-block h a i j bi bj)))
+      ∙ t .each (wordAt h a i j) (word-below h a i j ba bi bj)
+      (block-together s h a _ (sym (word-block h a i j bi bj)))
 
-  rights-settle : (h w x : ℕ) → good D M L h w ≡ true → leads h w ≡ false → good D M L h x ≡ true → leads h x ≡ false
+  rights-settle : (h w x : ℕ) → good s h w ≡ true → leads h w ≡ false → good s h x ≡ true → leads h x ≡ false
       → ((i : ℕ) → i < parts h → rightAt w i ≡ rightAt x i) → w ≡ x
   rights-settle zero w x g l k m e = digits-equal w x (ltb-true w addresses g) (ltb-true x addresses k) e
   rights-settle (suc h) w x g l k m e =
@@ -146,26 +147,26 @@ module _ (D M L : ℕ) where
       rights-low : (y : ℕ) → goodRights y ≡ true → y < addresses
       rights-low y r = let z = eqb-true (y / 2147483648) 1 (and-both _ _ r .0) in omega arith
 
-  at-entry : (h a i : ℕ) → a < addresses → i < size h → (b : ℕ) × (b < addresses) × Together (form D M L) (suc h) a b
+  at-entry : (h a i : ℕ) → a < addresses → i < size h → (b : ℕ) × (b < addresses) × Together (formOf s) (suc h) a b
       × (index h b ≡ i)
   at-entry h a i ba bi = elim (decLt h 2) [
     | yes hi ↦ (
       entryAt h a i,
       entry-below h a i hi ba bi,
-      block-together D M L (suc h) a _ (sym (entry-block h a i hi bi)),
+      block-together s (suc h) a _ (sym (entry-block h a i hi bi)),
       entry-index h a i hi bi,
     )
     | no hi ↦ above-all h (omega arith) bi
   ]
     where
       -- Above a root there is nothing to lie together in.
-      above-all : (h : ℕ) → 2 ≤ h → i < size h → (b : ℕ) × (b < addresses) × Together (form D M L) (suc h) a b
+      above-all : (h : ℕ) → 2 ≤ h → i < size h → (b : ℕ) × (b < addresses) × Together (formOf s) (suc h) a b
           × (index h b ≡ i)
       above-all zero lo bi = absurd (omega arith)
       above-all (suc zero) lo bi = absurd (omega arith)
       above-all (suc (suc h)) lo bi = (4194304 * i, omega arith, λ j up hi. absurd (omega arith), omega arith)
 
-  pub exact : Exact (form D M L)
+  pub exact : Exact (formOf s)
   exact = record {
     some = omega arith;
     last = λ w. refl;

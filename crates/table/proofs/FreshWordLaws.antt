@@ -15,7 +15,7 @@ use Rattle.theory.proofs.RightLaws.{right-says}
 use Rattle.theory.proofs.BlockLaws.{met-by}
 use Rattle.words.proofs.RightsLaws.{eight-right}
 use Rattle.table.specs.declared.Shape.{Shape}
-use Rattle.table.specs.Map.{part, parts, form, formOf}
+use Rattle.table.specs.Map.{part, parts, formOf}
 use Rattle.table.specs.Fresh.{freshPool}
 use Rattle.table.proofs.BlockLaws.{number-below}
 use Rattle.table.proofs.FormLaws.{exact}
@@ -44,30 +44,30 @@ pub fresh-word : (s : Shape) (j : ℕ) → words (freshPool s) j ≡ cond (ltb j
 fresh-word s j = padded-word (1024 * s .domains) (1024 * s .middles + 64 * s .leaves) 2147483648 j
 
 -- Any pool whose root words all say none.
-module _ (D M L : ℕ) (P : ℕ → ℕ) (none : (j : ℕ) → j < 1024 * D → P j ≡ 2147483648) where
-  entry-none : (d a : ℕ) → d < D → P (entry (form D M L) d a) ≡ 2147483648
+module _ (s : Shape) (P : ℕ → ℕ) (none : (j : ℕ) → j < 1024 * s .domains → P j ≡ 2147483648) where
+  entry-none : (d a : ℕ) → d < s .domains → P (entry (formOf s) d a) ≡ 2147483648
   entry-none d a bd = none _ (omega arith)
 
-  stays : (d a : ℕ) {m j : ℕ} → d < D → Visits (form D M L) P a 2 (entry (form D M L) d a) m j → (m ≡ 2)
+  stays : (d a : ℕ) {m j : ℕ} → d < s .domains → Visits (formOf s) P a 2 (entry (formOf s) d a) m j → (m ≡ 2)
       × (P j ≡ 2147483648)
   stays d a bd here = (refl, entry-none d a bd)
   stays d a bd (next {m} {j} v l) =
       let (_, e) = stays d a bd v in
       absurd (true≢false (sym l ∙ ap (λ w. ltb w 2147483648) e))
 
-  pub none-led : (d a h t : ℕ) → d < D → Led (form D M L) P d a h t → ⊥
+  pub none-led : (d a h t : ℕ) → d < s .domains → Led (formOf s) P d a h t → ⊥
   none-led d a h t bd (k, v, l, e) = true≢false (sym l ∙ ap (λ w. ltb w 2147483648) (stays d a bd v .1))
 
-  pub none-right : (d a : ℕ) → d < D → rightOf (form D M L) P d a ≡ 0
+  pub none-right : (d a : ℕ) → d < s .domains → rightOf (formOf s) P d a ≡ 0
   none-right d a bd =
       let e = entry-none d a bd in
-      right-says (form D M L) P 2 (entry (form D M L) d a) a (ap (λ w. ltb w 2147483648) e)
-      ∙ ap (λ w. form D M L .says 2 w a) e ∙ eight-right 0 (a / part 2 % parts 2) (omega arith) (number-below 2 a)
+      right-says (formOf s) P 2 (entry (formOf s) d a) a (ap (λ w. ltb w 2147483648) e)
+      ∙ ap (λ w. formOf s .says 2 w a) e ∙ eight-right 0 (a / part 2 % parts 2) (omega arith) (number-below 2 a)
 
-  met-none : {m j : ℕ} → Reach (form D M L) P (Roots (form D M L)) m j → (m ≡ 2) × (P j ≡ 2147483648)
-  met-none r = let (d, a, bd, ba, v) = met-by (form D M L) (exact D M L) r in stays d a bd v
+  met-none : {m j : ℕ} → Reach (formOf s) P (Roots (formOf s)) m j → (m ≡ 2) × (P j ≡ 2147483648)
+  met-none r = let (d, a, bd, ba, v) = met-by (formOf s) (exact s) r in stays d a bd v
 
-  pub none-settled : Settled (form D M L) P
+  pub none-settled : Settled (formOf s) P
   none-settled = record {
     sound = record {
       good = λ r. let (m, e) = met-none r in rw (m, e) refl;
@@ -83,10 +83,10 @@ module _ (s : Shape) where
   fresh-roots j h = fresh-word s j ∙ ap (λ t. cond t 2147483648 0) (lt-ltb j (1024 * s .domains) h)
 
   pub fresh-led : (d a h t : ℕ) → d < s .domains → Led (formOf s) (words (freshPool s)) d a h t → ⊥
-  fresh-led = none-led (s .domains) (s .middles) (s .leaves) (words (freshPool s)) fresh-roots
+  fresh-led = none-led s (words (freshPool s)) fresh-roots
 
   pub fresh-right : (d a : ℕ) → d < s .domains → rightOf (formOf s) (words (freshPool s)) d a ≡ 0
-  fresh-right = none-right (s .domains) (s .middles) (s .leaves) (words (freshPool s)) fresh-roots
+  fresh-right = none-right s (words (freshPool s)) fresh-roots
 
   pub fresh-settled : Settled (formOf s) (words (freshPool s))
-  fresh-settled = none-settled (s .domains) (s .middles) (s .leaves) (words (freshPool s)) fresh-roots
+  fresh-settled = none-settled s (words (freshPool s)) fresh-roots

@@ -123,8 +123,8 @@ pub sound-lookup : (p : List ℕ) (s : Shape) (d a : ℕ) → SoundPool (formOf 
     → d < s .domains
     → (w : ℕ) × (n : ℕ) × (lookupOf p s d a ≡ Right (rightOf (formOf s) (words p) d a) w n)
 sound-lookup p s d a q f h =
-    let (m, k, z) = sound-decides (formOf s) (words p) a (lawful _ _ _) q 2 (entry (formOf s) d a)
-    (entry-reach (formOf s) (lawful _ _ _) d a h) in (
+    let (m, k, z) = sound-decides (formOf s) (words p) a (lawful _) q 2 (entry (formOf s) d a)
+    (entry-reach (formOf s) (lawful _) d a h) in (
       words p k,
       3 - m,
       lookup-walks p s d a (fits-test s (length p) f) h ∙ ap (foundAt (formOf s) (words p) a) z

@@ -18,7 +18,8 @@ use Rattle.words.specs.Rights.{rightAt, pack}
 use Rattle.words.specs.Region.{covered}
 use Rattle.words.specs.declared.Region.{Region}
 use Rattle.words.proofs.RightsLaws.{right-small, pack-digit, pack-range, pack-good, pack-same}
-use Rattle.table.specs.Map.{addresses, block, part, parts, size, index, leads, Divided, form}
+use Rattle.table.specs.declared.Shape.{Shape}
+use Rattle.table.specs.Map.{addresses, block, part, parts, size, index, leads, Divided, formOf}
 use Rattle.table.specs.Wants.{any, wordAt, wordsIn, mixed, wantsOf, above, saidOf, WordRights}
 use Rattle.table.proofs.BlockLaws.{block-above, block-together, together-block, part-in-block, number-below}
 use Rattle.table.proofs.BlockLaws.{part-above}
@@ -68,11 +69,11 @@ divided-up h a R hi (b, c, bb, bc, e, f, d) =
     (b, c, bb, bc, block-above (suc h) h b a (omega arith) hi e, part-above h b c hi f, d)
 
 -- Two rights in one sub-block cannot be said.
-pub divided-unsaid : (D M L h a w : ℕ) (R : ℕ → ℕ) → Divided (block h) (part h) R a → Says (form D M L) h R a w → ⊥
-divided-unsaid D M L h a w R (b, c, bb, bc, e, f, d) s =
-    d (sym (s .each b bb (block-together D M L h a b (sym e)))
+pub divided-unsaid : (s : Shape) (h a w : ℕ) (R : ℕ → ℕ) → Divided (block h) (part h) R a → Says (formOf s) h R a w → ⊥
+divided-unsaid s h a w R (b, c, bb, bc, e, f, d) t =
+    d (sym (t .each b bb (block-together s h a b (sym e)))
     ∙ ap (λ x. rightAt w (x % parts h)) f
-    ∙ s .each c bc (block-together D M L h a c (sym e ∙ part-in-block h b c f)))
+    ∙ t .each c bc (block-together s h a c (sym e ∙ part-in-block h b c f)))
 
 -- The test over the words of a block.
 
@@ -138,10 +139,10 @@ pub wants-block : (R : ℕ → ℕ) (h a b : ℕ) → a / block h ≡ b / block 
 wants-block R h a b e = any-same _ _ (parts h) (λ i bi. ap (λ n.
     any (λ j. not (eqb (R (n * block h + part h * i + 4 * j)) (R (n * block h + part h * i + 4 * 0)))) (wordsIn h)) e)
 
-pub wants-together : (D M L : ℕ) (R : ℕ → ℕ) (h a b : ℕ) → h ≤ 2 → a < addresses → b < addresses
-    → Together (form D M L) h a b
+pub wants-together : (s : Shape) (R : ℕ → ℕ) (h a b : ℕ) → h ≤ 2 → a < addresses → b < addresses
+    → Together (formOf s) h a b
     → wantsOf R h a ≡ wantsOf R h b
-wants-together D M L R h a b hi ba bb t = wants-block R h a b (together-block D M L h a b hi ba bb t)
+wants-together s R h a b hi ba bb t = wants-block R h a b (together-block s h a b hi ba bb t)
 
 pub said-block : (R : ℕ → ℕ) (h a b : ℕ) → a / block h ≡ b / block h → saidOf R h a ≡ saidOf R h b
 said-block R h a b e = ap (λ x. pack (above h) (parts h) (λ i. R (x * block h + part h * i + 4 * 0))) e
@@ -157,33 +158,33 @@ module _ (R T : ℕ → ℕ) (same : (b : ℕ) → b < addresses → R b ≡ T b
   said-same = pack-same (above h) (parts h) _ _ (λ i bi. same _ (word-below h a i 0 ba bi (first-word h)))
 
 -- The entry of a block that wants none says it, and nothing else does.
-module _ (D M L : ℕ) (R : ℕ → ℕ) (h a : ℕ) where
-  pub wants-unsaid : (w : ℕ) → a < addresses → wantsOf R h a ≡ true → Says (form D M L) h R a w → ⊥
-  wants-unsaid w ba e = divided-unsaid D M L h a w R (wants-divided R h a ba e)
+module _ (s : Shape) (R : ℕ → ℕ) (h a : ℕ) where
+  pub wants-unsaid : (w : ℕ) → a < addresses → wantsOf R h a ≡ true → Says (formOf s) h R a w → ⊥
+  wants-unsaid w ba e = divided-unsaid s h a w R (wants-divided R h a ba e)
 
   module _ (S : WordRights R) (hi : h ≤ 2) (ba : a < addresses) where
     said-small : (i : ℕ) → i < parts h → R (wordAt h a i 0) < 4
     said-small i bi = S .small _ (word-below h a i 0 ba bi (first-word h))
 
-    pub wants-says : wantsOf R h a ≡ false → Says (form D M L) h R a (saidOf R h a)
+    pub wants-says : wantsOf R h a ≡ false → Says (formOf s) h R a (saidOf R h a)
     wants-says e = record {
       good = good-said h hi said-small .0;
       rights = good-said h hi said-small .1;
       each = λ b bb t.
           pack-digit (above h) (parts h) (b / part h % parts h) (λ i. R (wordAt h a i 0)) said-small (number-below h b)
-          ∙ sym (wants-first R h a S e b (together-block D M L h a b hi ba bb t));
+          ∙ sym (wants-first R h a S e b (together-block s h a b hi ba bb t));
     }
       where
         good-said : (h : ℕ) → h ≤ 2 → ((i : ℕ) → i < parts h → R (wordAt h a i 0) < 4)
-            → (form D M L .good h (saidOf R h a) ≡ true) × (leads h (saidOf R h a) ≡ false)
+            → (formOf s .good h (saidOf R h a) ≡ true) × (leads h (saidOf R h a) ≡ false)
         good-said zero hi b = (lt-ltb (saidOf R 0 a) addresses (pack-range 0 16 (λ i. R (wordAt 0 a i 0)) b .1), refl)
-        good-said (suc h) hi b = eight-good D M L h (saidOf R (suc h) a) (omega arith)
+        good-said (suc h) hi b = eight-good s h (saidOf R (suc h) a) (omega arith)
             (pack-good (λ i. R (wordAt (suc h) a i 0)) b)
 
-    pub says-said : (w : ℕ) → Says (form D M L) h R a w → w ≡ saidOf R h a
-    says-said w s = by-cases (wantsOf R h a)
-        (λ e. absurd (wants-unsaid w ba e s))
-        (λ e. exact D M L .says-exact h a w (saidOf R h a) R ba s (wants-says e))
+    pub says-said : (w : ℕ) → Says (formOf s) h R a w → w ≡ saidOf R h a
+    says-said w t = by-cases (wantsOf R h a)
+        (λ e. absurd (wants-unsaid w ba e t))
+        (λ e. exact s .says-exact h a w (saidOf R h a) R ba t (wants-says e))
 
 -- Rights of words: one right painted over a region, and the rights of a pool.
 
@@ -205,53 +206,53 @@ painted-rights g r R h S = record {
     same : (a : ℕ) → a / 4 ≡ a / 4 * 4 / 4
     same a = omega arith
 
-module _ (D M L : ℕ) (P : ℕ → ℕ) where
-  right-low : (h k a : ℕ) → right (form D M L) P h k a < 4
-  right-low zero k a = rw (right-last (form D M L) P k a) (right-small (P k) _)
+module _ (s : Shape) (P : ℕ → ℕ) where
+  right-low : (h k a : ℕ) → right (formOf s) P h k a < 4
+  right-low zero k a = rw (right-last (formOf s) P k a) (right-small (P k) _)
   right-low (suc h) k a = by-cases (leads (suc h) (P k))
-      (λ l. rw (right-down (form D M L) P h k a l) (right-low h _ a))
-      (λ l. rw (right-says (form D M L) P (suc h) k a l) (right-small (P k) _))
+      (λ l. rw (right-down (formOf s) P h k a l) (right-low h _ a))
+      (λ l. rw (right-says (formOf s) P (suc h) k a l) (right-small (P k) _))
 
-  says-byte : (h w a : ℕ) → form D M L .says h w a ≡ form D M L .says h w (a / 4 * 4)
+  says-byte : (h w a : ℕ) → formOf s .says h w a ≡ formOf s .says h w (a / 4 * 4)
   says-byte h w a = ap (λ x. rightAt w (x % parts h)) (byte-part h a)
 
   index-byte : (h a : ℕ) → index h a ≡ index h (a / 4 * 4)
   index-byte h a = ap (λ x. x % size h) (byte-block h a)
 
-  right-byte : (h k a : ℕ) → right (form D M L) P h k a ≡ right (form D M L) P h k (a / 4 * 4)
-  right-byte zero k a = right-last (form D M L) P k a ∙ says-byte 0 (P k) a
-      ∙ sym (right-last (form D M L) P k (a / 4 * 4))
+  right-byte : (h k a : ℕ) → right (formOf s) P h k a ≡ right (formOf s) P h k (a / 4 * 4)
+  right-byte zero k a = right-last (formOf s) P k a ∙ says-byte 0 (P k) a
+      ∙ sym (right-last (formOf s) P k (a / 4 * 4))
   right-byte (suc h) k a = by-cases (leads (suc h) (P k))
-      (λ l. right-down (form D M L) P h k a l ∙ right-byte h _ a
-      ∙ ap (λ i. right (form D M L) P h (P k + i) (a / 4 * 4)) (index-byte h a)
-      ∙ sym (right-down (form D M L) P h k (a / 4 * 4) l))
-      (λ l. right-says (form D M L) P (suc h) k a l ∙ says-byte (suc h) (P k) a
-      ∙ sym (right-says (form D M L) P (suc h) k (a / 4 * 4) l))
+      (λ l. right-down (formOf s) P h k a l ∙ right-byte h _ a
+      ∙ ap (λ i. right (formOf s) P h (P k + i) (a / 4 * 4)) (index-byte h a)
+      ∙ sym (right-down (formOf s) P h k (a / 4 * 4) l))
+      (λ l. right-says (formOf s) P (suc h) k a l ∙ says-byte (suc h) (P k) a
+      ∙ sym (right-says (formOf s) P (suc h) k (a / 4 * 4) l))
 
-  pub pool-rights : (d : ℕ) → WordRights (rightOf (form D M L) P d)
+  pub pool-rights : (d : ℕ) → WordRights (rightOf (formOf s) P d)
   pool-rights d = record {
-    small = λ a ba. right-low 2 (entry (form D M L) d a) a;
-    word = λ a. right-byte 2 (entry (form D M L) d a) a ∙ ap (λ i. right (form D M L) P 2 (1024 * d + i) (a / 4 * 4))
+    small = λ a ba. right-low 2 (entry (formOf s) d a) a;
+    word = λ a. right-byte 2 (entry (formOf s) d a) a ∙ ap (λ i. right (formOf s) P 2 (1024 * d + i) (a / 4 * 4))
         (index-byte 2 a);
   }
 
 -- The paper's form wants a table exactly where no entry can say the rights.
-pub wanting : (D M L : ℕ) → Wanting (form D M L)
-wanting D M L = record {
+pub wanting : (s : Shape) → Wanting (formOf s)
+wanting s = record {
   same = λ h a R T e (b, c, bb, bc, x, y, d). (b, c, bb, bc, x, y, λ z. d (e b bb ∙ z ∙ sym (e c bc)));
   up = λ h a R ba hi w. divided-up (suc h) a R hi w;
-  unsaid = λ h a w R ba. divided-unsaid D M L h a w R;
+  unsaid = λ h a w R ba. divided-unsaid s h a w R;
   decided = λ P d a h bd ba hi.
-      let R = rightOf (form D M L) P d in
+      let R = rightOf (formOf s) P d in
       by-cases (wantsOf R h a)
       (λ e. inl (wants-divided R h a ba e))
-      (λ e. inr (saidOf R h a, wants-says D M L R h a (pool-rights D M L P d) hi ba e));
+      (λ e. inr (saidOf R h a, wants-says s R h a (pool-rights s P d) hi ba e));
 }
 
 -- The test tells the blocks that want a table, for any rights of words.
-pub tells-wants : (D M L : ℕ) (R : ℕ → ℕ → ℕ) → ((d : ℕ) → d < D → WordRights (R d)) → TellsWants (form D M L)
+pub tells-wants : (s : Shape) (R : ℕ → ℕ → ℕ) → ((d : ℕ) → d < s .domains → WordRights (R d)) → TellsWants (formOf s)
     (λ h d a. wantsOf (R d) h a) R
-tells-wants D M L R S = record {
+tells-wants s R S = record {
   last = λ d a bd ba. wants-leaf (R d) a;
   is = λ h d a bd ba hi x. divided-wants (R d) (suc h) a (S d bd) x;
   are = λ h d a bd ba hi e. wants-divided (R d) (suc h) a ba e;

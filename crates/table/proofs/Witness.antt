@@ -20,7 +20,7 @@ use Rattle.words.specs.Rights.{rightAt, pack}
 use Rattle.words.specs.Region.{rounded, covered}
 use Rattle.words.proofs.RightsLaws.{eight-right, sixteen-right}
 use Rattle.table.specs.declared.Shape.{Shape}
-use Rattle.table.specs.Map.{addresses, block, part, parts, leads, Divided, form}
+use Rattle.table.specs.Map.{addresses, block, part, parts, leads, Divided, formOf}
 use Rattle.table.specs.Fresh.{freshPool}
 use Rattle.table.proofs.BlockLaws.{block-together, together-block, part-in-block, number-below}
 use Rattle.table.proofs.FormLaws.{leads-place, lawful, exact}
@@ -28,8 +28,11 @@ use Rattle.table.proofs.WantLaws.{wants-leaf, wants-says, none-rights, 
 use Rattle.table.proofs.FreshWordLaws.{fresh-word, fresh-led, fresh-right}
 
 -- One root, two middle places and two leaf places.
+abbrev pub shape : Shape
+shape = record { domains = 1; middles = 2; leaves = 2 }
+
 abbrev F : Form
-F = form 1 2 2
+F = formOf shape
 
 -- The new right on the covered words, and the fresh pool's right, none, on all others.
 abbrev pub painted : ℕ → ℕ → ℕ
@@ -174,14 +177,14 @@ placing = record {
   root = λ d a bd ba. refl;
   block = one-place;
   apart = λ h d a e b bd ba be bb hi g k x.
-      (omega arith, block-together 1 2 2 (suc h) a b (place-apart h d a e b hi g k x));
+      (omega arith, block-together shape (suc h) a b (place-apart h d a e b hi g k x));
 }
   where
     one-place : (h d a b : ℕ) → d < 1 → a < addresses → b < addresses → Together F (suc h) a b → place h d a
         ≡ place h d b
     one-place zero d a b bd ba bb t = ap (λ x. 3072 + 64 * (x - 1023))
-        (together-block 1 2 2 1 a b (omega arith) ba bb t)
-    one-place (suc zero) d a b bd ba bb t = ap (λ x. 1024 + 1024 * x) (together-block 1 2 2 2 a b (omega arith) ba bb t)
+        (together-block shape 1 a b (omega arith) ba bb t)
+    one-place (suc zero) d a b bd ba bb t = ap (λ x. 1024 + 1024 * x) (together-block shape 2 a b (omega arith) ba bb t)
     one-place (suc (suc h)) d a b bd ba bb t = refl
 
 -- The pool holds the rights.
@@ -233,7 +236,7 @@ says-none h d a w hi ba g l z e = record {
   good = g;
   rights = l;
   each = λ b bb t. z (b / part h % parts h) (number-below h b)
-      ∙ sym (quiet h a b e (together-block 1 2 2 h a b hi ba bb t) d);
+      ∙ sym (quiet h a b e (together-block shape h a b hi ba bb t) d);
 }
 
 -- The two leaf entries with a right.
@@ -243,7 +246,7 @@ says-two : (d a n w k : ℕ) → a < addresses → a / 64 ≡ n → after k ≡ 
 says-two d a n w k ba x e p =
     let r = painted-rights (rounded 0x3FFFFC 8) 2 (λ x. 0) (omega arith) none-rights in
     rw (e ∙ sym p ∙ ap (λ y. pack 0 16 (λ i. painted d (y * 64 + 4 * i + 4 * 0))) (sym x))
-    (wants-says 1 2 2 (painted d) 0 a r (omega arith) ba (wants-leaf (painted d) a))
+    (wants-says shape (painted d) 0 a r (omega arith) ba (wants-leaf (painted d) a))
 
 entries : (h d a : ℕ) → d < 1 → a < addresses → h ≤ 2 → Gets F want h d a → want h d a ≡ false
     → Says F h (painted d) a (after (spot F want place h d a))
@@ -298,11 +301,11 @@ module _ (P : ℕ → ℕ) (fresh : (j : ℕ) → P j ≡ cond (ltb j 1024) 0x80
   first-place : (h d a x : ℕ) → h < 2 → Gets F want h d a → Place F h x → x < place h d a → place h 0 0x3FFFFC ≡ x
   first-place zero d a x hi g (w, k, l, t) lt =
       let r = pages d a g in
-      let (_, p, b, e) = leads-place 1 2 2 0 w k l in
+      let (_, p, b, e) = leads-place shape 0 w k l in
       omega arith
   first-place (suc zero) d a x hi g (w, k, l, t) lt =
       let r = blocks d a g in
-      let (_, p, b, e) = leads-place 1 2 2 1 w k l in
+      let (_, p, b, e) = leads-place shape 1 w k l in
       omega arith
   first-place (suc (suc h)) d a x hi g q lt = absurd (omega arith)
 
@@ -342,23 +345,19 @@ module _ (P : ℕ → ℕ) (fresh : (j : ℕ) → P j ≡ cond (ltb j 1024) 0x80
     idle = unchanged;
   }
 
--- The same as a shape.
-abbrev pub shape : Shape
-shape = record { domains = 1; middles = 2; leaves = 2 }
-
 -- What is asked for: the new right on the covered words, and the old one on all others.
 pub painted-fresh : (d a : ℕ) → d < 1 → painted d a ≡ cond (covered (rounded 0x3FFFFC 8) a) 2
-    (rightOf (form 1 2 2) (words (freshPool shape)) d a)
+    (rightOf (formOf shape) (words (freshPool shape)) d a)
 painted-fresh d a bd = ap (λ x. cond (covered (rounded 0x3FFFFC 8) a) 2 x) (sym (fresh-right shape d a bd))
 
-pub two-of-each-finished : Finished (form 1 2 2) (words (freshPool shape)) painted after
+pub two-of-each-finished : Finished (formOf shape) (words (freshPool shape)) painted after
 two-of-each-finished =
-    encodes-finished F (lawful 1 2 2) (exact 1 2 2) want place tells placing encodes (wanting 1 2 2)
+    encodes-finished F (lawful shape) (exact shape) want place tells placing encodes (wanting shape)
     (follows (words (freshPool shape)) (fresh-word shape) (fresh-led shape))
 
 -- The tables are new, and where they should be.
 abbrev pub MadeAt : ℕ → ℕ → ℕ → Type 0
-MadeAt a h t = New (form 1 2 2) (words (freshPool shape)) after 0 a h t
+MadeAt a h t = New (formOf shape) (words (freshPool shape)) after 0 a h t
 
 pub two-of-each-made : MadeAt 0x3FFFFC 1 1024 × MadeAt 0x400000 1 2048 × MadeAt 0x3FFFFC 0 3072 × MadeAt 0x400000 0 3136
 two-of-each-made = (
@@ -373,6 +372,6 @@ two-of-each-made = (
         let g = covered-gets h 0 a e in (
           omega arith,
           ba,
-          gets-led F (lawful 1 2 2) (exact 1 2 2) want place tells placing encodes h 0 a (omega arith) ba hi g,
+          gets-led F (lawful shape) (exact shape) want place tells placing encodes h 0 a (omega arith) ba hi g,
           λ s l. fresh-led shape 0 a h s (omega arith) l,
         )

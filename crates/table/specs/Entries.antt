@@ -21,6 +21,6 @@ decodeOf s h w =
     cond (eqb h 0) (Rights w)
     (cond (ltb w 2147483648)
     (cond (eqb h 1)
-    (leadsTo (firstLeaf (s .domains) (s .middles)) 64 (s .leaves) maxMiddles w)
-    (leadsTo (firstMiddle (s .domains)) 1024 (s .middles) 0 w))
+    (leadsTo (firstLeaf s) 64 (s .leaves) maxMiddles w)
+    (leadsTo (firstMiddle s) 1024 (s .middles) 0 w))
     (cond (goodRights w) (Rights w) Bad))

@@ -55,24 +55,24 @@ abbrev pub Divided : ℕ → ℕ → (ℕ → ℕ) → ℕ → Type 0
 Divided n s R a =
     (b : ℕ) × (c : ℕ) × (b < addresses) × (c < addresses) × (b / n ≡ a / n) × (b / s ≡ c / s) × (R b ≢ R c)
 
-module _ (D M L : ℕ) where
+module _ (s : Shape) where
   -- A word is good: any word in a leaf; in a middle table eight rights or the first word of a leaf place; in a root
   -- eight rights or the first word of a middle place.
   abbrev pub good : ℕ → ℕ → Bool
   good zero w = ltb w 4294967296
-  good (suc zero) w = cond (ltb w 2147483648) (isPlace (firstLeaf D M) 64 L w) (goodRights w)
-  good (suc (suc zero)) w = cond (ltb w 2147483648) (isPlace (firstMiddle D) 1024 M w) (goodRights w)
+  good (suc zero) w = cond (ltb w 2147483648) (isPlace (firstLeaf s) 64 (s .leaves) w) (goodRights w)
+  good (suc (suc zero)) w = cond (ltb w 2147483648) (isPlace (firstMiddle s) 1024 (s .middles) w) (goodRights w)
   good (suc (suc (suc h))) w = false
 
   -- The height whose tables may have a pool word.
   abbrev pub zone : ℕ → ℕ
-  zone i = cond (ltb i (firstMiddle D)) 2 (cond (ltb i (firstLeaf D M)) 1 0)
+  zone i = cond (ltb i (firstMiddle s)) 2 (cond (ltb i (firstLeaf s)) 1 0)
 
-  -- The paper's form, with D domains, M middle places and L leaf places.
-  abbrev pub form : Form
-  form = record {
+  -- The paper's form, in a pool of this shape.
+  abbrev pub formOf : Form
+  formOf = record {
     top = 2;
-    domains = D;
+    domains = s .domains;
     span = addresses;
     root = λ d. 1024 * d;
     size = size;
@@ -84,7 +84,3 @@ module _ (D M L : ℕ) where
     Wants = λ h R a. Divided (block h) (part h) R a;
     zone = zone;
   }
-
--- The form of a shape.
-abbrev pub formOf : Shape → Form
-formOf s = form (s .domains) (s .middles) (s .leaves)

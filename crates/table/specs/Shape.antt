@@ -20,40 +20,40 @@ abbrev pub maxLeaves : ℕ
 maxLeaves = 64
 
 -- The pool word where the middle places begin: after D roots of 1,024 words.
-abbrev pub firstMiddle : ℕ → ℕ
-firstMiddle D = 1024 * D
+abbrev pub firstMiddle : Shape → ℕ
+firstMiddle s = 1024 * s .domains
 
 -- The pool word where the leaf places begin: after M middle places of 1,024 words.
-abbrev pub firstLeaf : ℕ → ℕ → ℕ
-firstLeaf D M = 1024 * D + 1024 * M
+abbrev pub firstLeaf : Shape → ℕ
+firstLeaf s = 1024 * s .domains + 1024 * s .middles
 
 -- Where the places for tables of a height begin, and how many they are.
-abbrev pub firstPlace : (D M L : ℕ) → ℕ → ℕ
-firstPlace D M L zero = firstLeaf D M
-firstPlace D M L (suc h) = firstMiddle D
+abbrev pub firstPlace : Shape → ℕ → ℕ
+firstPlace s zero = firstLeaf s
+firstPlace s (suc h) = firstMiddle s
 
-abbrev pub places : (D M L : ℕ) → ℕ → ℕ
-places D M L zero = L
-places D M L (suc h) = M
+abbrev pub places : Shape → ℕ → ℕ
+places s zero = s .leaves
+places s (suc h) = s .middles
 
 -- The length of the pool: L leaf places of 64 words come last.
-abbrev pub poolLength : ℕ → ℕ → ℕ → ℕ
-poolLength D M L = 1024 * D + 1024 * M + 64 * L
+abbrev pub poolLength : Shape → ℕ
+poolLength s = 1024 * s .domains + 1024 * s .middles + 64 * s .leaves
 
 -- D, M and L are in their ranges.
-pub record InRange (D M L : ℕ) : Type 0 where
-  pub some-domain : 1 ≤ D
-  pub domains : D ≤ maxDomains
-  pub middles : M ≤ maxMiddles
-  pub leaves : L ≤ maxLeaves
+pub record InRange (s : Shape) : Type 0 where
+  pub some-domain : 1 ≤ s .domains
+  pub domains : s .domains ≤ maxDomains
+  pub middles : s .middles ≤ maxMiddles
+  pub leaves : s .leaves ≤ maxLeaves
 
 -- The shape is in range, and a pool of `n` words has its length.
 pub record Fits (s : Shape) (n : ℕ) : Type 0 where
-  pub range : InRange (s .domains) (s .middles) (s .leaves)
-  pub long : n ≡ poolLength (s .domains) (s .middles) (s .leaves)
+  pub range : InRange s
+  pub long : n ≡ poolLength s
 
 -- The same, as a test.
 abbrev pub fitsOf : Shape → ℕ → Bool
 fitsOf s n =
     leb 1 (s .domains) && leb (s .domains) maxDomains && leb (s .middles) maxMiddles && leb (s .leaves) maxLeaves
-    && eqb n (poolLength (s .domains) (s .middles) (s .leaves))
+    && eqb n (poolLength s)

@@ -135,7 +135,7 @@ fn leads_to(first: PoolWord, long: u32, count: u32, nth: usize, w: u32) -> Entry
 
 // What the word `w` says as an entry of a height.
 pub fn decode(shape: Shape, height: u32, w: u32) -> Entry
-    requires { ⌜ InRange (shape .domains) (shape .middles) (shape .leaves) ⌝ }
+    requires { ⌜ InRange shape ⌝ }
     ensures { λ r. ⌜ r ≡ decodeOf shape height w ⌝ }
 {
     let domains = shape.domains;

@@ -14,25 +14,25 @@ use Rattle.words.specs.Rights.{rightAt, goodRights, eightOf}
 use Rattle.words.proofs.RightsLaws.{right-small, eight-right, eight-good}
 use Rattle.table.specs.declared.Shape.{Shape}
 use Rattle.table.specs.Shape.{Fits, firstPlace, places}
-use Rattle.table.specs.Map.{block, part, parts, size, index, leads, form, formOf}
+use Rattle.table.specs.Map.{block, part, parts, size, index, leads, formOf}
 use Rattle.table.proofs.FormLaws.{leads-place, good-eight}
 use Rattle.table.proofs.FormLaws as FormLaws
 use Rattle.targets.specs.Targets.{given, Gives, GivesLeaf, Readable}
 use Rattle.targets.proofs.GivenLaws.{given-leads, given-rights, gives-down, gives-leaf}
 
-module _ (D M L : ℕ) (P : ℕ → ℕ) where
+module _ (s : Shape) (P : ℕ → ℕ) where
   -- From a word on, the right is what the word gives.
-  pub right-given : (h k a : ℕ) → right (form D M L) P h k a ≡ given P h (P k) a
-  right-given zero k a = right-says (form D M L) P 0 k a refl ∙ sym (given-rights P 0 (P k) a refl)
+  pub right-given : (h k a : ℕ) → right (formOf s) P h k a ≡ given P h (P k) a
+  right-given zero k a = right-says (formOf s) P 0 k a refl ∙ sym (given-rights P 0 (P k) a refl)
   right-given (suc h) k a = by-cases (leads (suc h) (P k))
-      (λ l. right-down (form D M L) P h k a l ∙ right-given h (P k + index h a) a ∙ sym (given-leads P h (P k) a l))
-      (λ l. right-says (form D M L) P (suc h) k a l ∙ sym (given-rights P (suc h) (P k) a l))
+      (λ l. right-down (formOf s) P h k a l ∙ right-given h (P k + index h a) a ∙ sym (given-leads P h (P k) a l))
+      (λ l. right-says (formOf s) P (suc h) k a l ∙ sym (given-rights P (suc h) (P k) a l))
 
   -- A root word gives its block the rights of its domain.
-  pub root-gives : (d b : ℕ) → b < 1024 → Gives P 2 (P (1024 * d + b)) b (rightOf (form D M L) P d)
+  pub root-gives : (d b : ℕ) → b < 1024 → Gives P 2 (P (1024 * d + b)) b (rightOf (formOf s) P d)
   root-gives d b l a e =
       let i : index 2 a ≡ b = omega arith in
-      ap (λ x. right (form D M L) P 2 (1024 * d + x) a) i ∙ right-given 2 (1024 * d + b) a
+      ap (λ x. right (formOf s) P 2 (1024 * d + x) a) i ∙ right-given 2 (1024 * d + b) a
 
 module _ (P : ℕ → ℕ) (R : ℕ → ℕ) (e n : ℕ) where
   -- A block's entry that leads: the word of the middle table gives its page the same rights ..
@@ -44,7 +44,8 @@ module _ (P : ℕ → ℕ) (R : ℕ → ℕ) (e n : ℕ) where
       → Gives P 1 (eightOf (rightAt e (page / 128 % 8))) page R
   virtual-gives page l q g a p =
       let o = rightAt e (page / 128 % 8) in
-      let b : leads 1 (eightOf o) ≡ false = FormLaws.eight-good 1 0 0 0 (eightOf o) (omega arith)
+      let any-shape : Shape = record { domains = 1; middles = 0; leaves = 0 } in
+      let b : leads 1 (eightOf o) ≡ false = FormLaws.eight-good any-shape 0 (eightOf o) (omega arith)
       (eight-good o (right-small e _)) .1 in
       let x : a / 524288 % 8 ≡ page / 128 % 8 = omega arith in
       g a (omega arith) ∙ given-rights P 2 e a l ∙ ap (rightAt e) x
@@ -67,11 +68,11 @@ module _ (s : Shape) (p : List ℕ) (f : Fits s (length p)) (q : SoundPool (form
   -- The table to which a reached word leads lies in the pool.
   table-inside : (h k : ℕ) → reached (suc h) k → leads (suc h) (words p k) ≡ true → words p k + size h ≤ length p
   table-inside h k r l =
-      let (hi, n, b, e) = leads-place (s .domains) (s .middles) (s .leaves) h (words p k) (q .good r) l in
+      let (hi, n, b, e) = leads-place s h (words p k) (q .good r) l in
       inside h hi n b e
     where
-      inside : (h : ℕ) → h < 2 → (n : ℕ) → n < places (s .domains) (s .middles) (s .leaves) h
-          → words p k ≡ firstPlace (s .domains) (s .middles) (s .leaves) h + size h * n → words p k + size h ≤ length p
+      inside : (h : ℕ) → h < 2 → (n : ℕ) → n < places s h
+          → words p k ≡ firstPlace s h + size h * n → words p k + size h ≤ length p
       inside zero hi n b e = omega (arith, f .long)
       inside (suc zero) hi n b e = omega (arith, f .long)
       inside (suc (suc h)) hi n b e = absurd (omega arith)
@@ -79,7 +80,7 @@ module _ (s : Shape) (p : List ℕ) (f : Fits s (length p)) (q : SoundPool (form
   pub reached-readable : (h k : ℕ) → reached h k → Readable p h (words p k)
   reached-readable zero k r = tt
   reached-readable (suc h) k r = record {
-    rights = λ l. good-eight (s .domains) (s .middles) (s .leaves) h (words p k) (q .good r) l;
+    rights = λ l. good-eight s h (words p k) (q .good r) l;
     table = λ l. table-inside h k r l;
     entries = λ l i b. reached-readable h (words p k + i) (step i r l b);
   }

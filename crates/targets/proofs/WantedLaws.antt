@@ -60,10 +60,10 @@ entry-gives s P zero i hi o =
     let n : i / 1024 % 1024 * 1024 + i % 1024 ≡ i % 1048576 = omega arith in
     rw n at (middle-gives P (rightOf (formOf s) P (i / 1048576)) (P (i / 1024)) (i / 1024 % 1024) (i % 1024) l
     (omega arith)
-    (rw e at (root-gives (s .domains) (s .middles) (s .leaves) P (i / 1048576) (i / 1024 % 1024) (omega arith))))
+    (rw e at (root-gives s P (i / 1048576) (i / 1024 % 1024) (omega arith))))
 entry-gives s P (suc zero) i hi o =
     let e : 1024 * (i / 1024) + i % 1024 ≡ i = omega arith in
-    rw e at (root-gives (s .domains) (s .middles) (s .leaves) P (i / 1024) (i % 1024) (omega arith))
+    rw e at (root-gives s P (i / 1024) (i % 1024) (omega arith))
 entry-gives s P (suc (suc h)) i hi o = absurd (omega arith)
 
 -- The tables at the places from `n` on are wanted.
@@ -148,7 +148,7 @@ module _ (p : List ℕ) (s : Shape) (fits : Fits s (length p)) (q : SoundPool (f
         let f = w (l .place) (omega (arith, l .middle, l .above)) (l .below)
         (ap not (ne-eqb (getD o (l .place) 0) none (λ e. let g = l .inside in omega arith))) in
         rw (x .height) (rw (l .inside) at (leaf-wants-table R (getD o (l .place) 0)
-        (λ d. pool-rights (s .domains) (s .middles) (s .leaves) (words p) d) (rw (y .height) at f)))
+        (λ d. pool-rights s (words p) d) (rw (y .height) at f)))
 
     -- Where all are, every block that has a table wants it, and the pool is settled ..
     old-wanted : WantedFrom p s o 0 → (h i : ℕ) → h < 2 → i < blocks h * s .domains → old (words p) h i ≡ true
@@ -159,14 +159,14 @@ module _ (p : List ℕ) (s : Shape) (fits : Fits s (length p)) (q : SoundPool (f
 
     pub wanted-settled : WantedFrom p s o 0 → Settled (formOf s) (words p)
     wanted-settled w =
-        Exists.wanted-settled (s .domains) (s .middles) (s .leaves) q
+        Exists.wanted-settled s q
         (λ i b x. old-wanted w 1 i (omega arith) b x) (λ i b x. old-wanted w 0 i (omega arith) b x)
 
     -- .. and only there.
     pub settled-wanted : Settled (formOf s) (words p) → WantedFrom p s o 0
     settled-wanted z m a b t = ⊎-elim
         (λ e. absurd (true≢false (sym t ∙ ap not (eq-eqb (getD o m 0) none e))))
-        (λ x. sym (Exists.settled-table (s .domains) (s .middles) (s .leaves) (λ d a bd ba. refl)
-        (λ d bd. pool-rights (s .domains) (s .middles) (s .leaves) (words p) d) z (placeHeight m) (getD o m 0)
+        (λ x. sym (Exists.settled-table s (λ d a bd ba. refl)
+        (λ d bd. pool-rights s (words p) d) z (placeHeight m) (getD o m 0)
         (place-low s m) (x .block)) ∙ x .table)
         (own .stands m b)

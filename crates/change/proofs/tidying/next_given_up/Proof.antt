@@ -23,7 +23,7 @@ abbrev μ-loop : tie.MeasureT-loop
 
 -- The word is of the pool.
 inside : (c : tie.In-loop Inv-loop μ-loop) → let a = c .before .before .before .args in
-    a .base .0 + c .before .loop .i < firstLeaf (a .shape .domains) (a .shape .middles)
+    a .base .0 + c .before .loop .i < firstLeaf (a .shape)
 inside c = table-inside _ _ _ _ _ (c .before .before .before .pre .1 .0) (c .loop-test .taken)
 
 loop-holds : tie.Need-loop-holds Inv-loop μ-loop

@@ -26,7 +26,7 @@ next-given-up-requires : tie.Need-next-given-up-requires
 next-given-up-requires c κs =
     let s = c .before .before .before .before in
     let p = s .pre in
-    let b : s .args .base .0 < firstMiddle (s .args .shape .domains) =
+    let b : s .args .base .0 < firstMiddle (s .args .shape) =
     omega (arith, c .before .pool-index .ensures, c .if1 .taken) in
     (p .0, (inl (place-root (s .args .shape) _ (p .1 .1 .0) b), p .1 .1 .1))
 
@@ -37,7 +37,7 @@ returns c = c .next-given-up .ensures
 middle : (c : tie.Else1) → let a = c .before .before .before .before .args in MiddlePlace (a .shape) (a .base .0)
 middle c =
     let s = c .before .before .before .before in
-    let b : firstMiddle (s .args .shape .domains) ≤ s .args .base .0 =
+    let b : firstMiddle (s .args .shape) ≤ s .args .base .0 =
     omega (arith, c .before .pool-index .ensures, c .if1 .left) in
     place-middle (s .args .shape) _ (s .pre .1 .1 .0) b
 

@@ -56,10 +56,10 @@ cast-block-target c = search needs
 
 -- The table is a root,
 root : (c : tie.Then2) → let a = c .before .before .before .before .before .before .before .args in
-    a .base .0 + a .i < firstMiddle (a .shape .domains)
+    a .base .0 + a .i < firstMiddle (a .shape)
 root c =
     let s = c .before .before .before .before .before .before .before in
-    let b : s .args .base .0 < firstMiddle (s .args .shape .domains) =
+    let b : s .args .base .0 < firstMiddle (s .args .shape) =
     omega (arith, c .before .pool-index2 .ensures, c .if2 .taken) in
     table-root _ _ _ _ _ (s .pre .1 .0) (s .pre .1 .1) b
 
@@ -68,7 +68,7 @@ owned : (c : tie.Else2) → let a = c .before .before .before .before .before .b
     Owns (a .shape) (a .pool .now) (a .owner) (a .base .0)
 owned c =
     let s = c .before .before .before .before .before .before .before in
-    let b : firstMiddle (s .args .shape .domains) ≤ s .args .base .0 =
+    let b : firstMiddle (s .args .shape) ≤ s .args .base .0 =
     omega (arith, c .before .pool-index2 .ensures, c .if2 .left) in
     table-owned _ _ _ _ (s .pre .1 .0) b
 
