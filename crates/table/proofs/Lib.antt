@@ -1,3 +1,4 @@
+pub mod HeightLaws
 pub mod ShapeLaws
 pub mod EntryLaws
 pub mod BlockLaws

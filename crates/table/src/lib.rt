@@ -15,6 +15,22 @@ ghost use Rattle.table.specs.Access.{passesOf};
 use words::ByteAddr;
 use words::PoolWord;
 
+mod geometry; // geometry.rt: blocks, parts, sizes and places by the height
+
+pub use geometry::BIT_31;
+pub use geometry::LEAF_WORDS;
+pub use geometry::ROOT;
+pub use geometry::TABLE_WORDS;
+pub use geometry::block_words;
+pub use geometry::first_place;
+pub use geometry::leads;
+pub use geometry::part_words;
+pub use geometry::parts_of;
+pub use geometry::places_of;
+pub use geometry::root_word;
+pub use geometry::same_entry;
+pub use geometry::size_of;
+
 // The most roots, middle places and leaf places that a pool may have.
 pub const MAX_DOMAINS: u32 = 4;
 

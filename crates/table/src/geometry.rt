@@ -1,0 +1,122 @@
+// The geometry of the table, told once, by the height of an entry (0 in a leaf, 1 in a middle table, 2 in a root): how
+// many memory words it stands for, how many rights it has and how many entries its table; which words lead; and where
+// tables stand in the pool.
+ghost use mathlib.Core.Path.{_≡_};
+ghost use Prim.Native.Nat.{_+_, _*_, _/_, _<_, _≤_};
+ghost use Rattle.table.specs.Shape.{InRange, firstPlace, places};
+ghost use Rattle.table.specs.Map.{block, parts, size, leads};
+ghost use Rattle.table.specs.Wants.{wordsIn, sameOf};
+use crate::Shape;
+use words::PoolWord;
+
+// The height of an entry of a root.
+pub const ROOT: u32 = 2;
+
+// The words of a root or a middle table, and of a leaf.
+pub const TABLE_WORDS: u32 = 1024;
+
+pub const LEAF_WORDS: u32 = 64;
+
+// Bit 31, which is clear in an entry above the leaves exactly where it leads.
+pub const BIT_31: u32 = 0x8000_0000;
+
+// How many entries a table has.
+pub fn size_of(height: u32) -> u32
+    ensures { λ r. ⌜ r ≡ size height ⌝ }
+{
+    if height == 0 {
+        return LEAF_WORDS;
+    }
+    TABLE_WORDS
+}
+
+// How many rights an entry has.
+pub fn parts_of(height: u32) -> u32
+    ensures { λ r. ⌜ r ≡ parts height ⌝ }
+{
+    if height == 0 {
+        return 16;
+    }
+    8
+}
+
+// How many memory words the block of an entry has.
+pub fn block_words(height: u32) -> u32
+    ensures { λ r. ⌜ r ≡ block height / 4 ⌝ }
+{
+    if height == 0 {
+        return 16;
+    }
+    if height == 1 {
+        return 1024;
+    }
+    1048576
+}
+
+// How many memory words one of its rights covers.
+pub fn part_words(height: u32) -> u32
+    ensures { λ r. ⌜ r ≡ wordsIn height ⌝ }
+{
+    if height == 0 {
+        return 1;
+    }
+    if height == 1 {
+        return 128;
+    }
+    131072
+}
+
+// Whether the word `w` leads to a table: no word of a leaf does.
+pub fn leads(height: u32, w: u32) -> bool
+    ensures { λ r. ⌜ r ≡ leads height w ⌝ }
+{
+    if height == 0 {
+        return false;
+    }
+    w < BIT_31
+}
+
+// The entry that says one right for its whole block.
+pub fn same_entry(height: u32, right: u32) -> u32
+    requires { ⌜ right < 4 ⌝ }
+    ensures { λ r. ⌜ r ≡ sameOf height right ⌝ }
+{
+    if height == 0 {
+        return words::sixteen_of(right);
+    }
+    words::eight_of(right)
+}
+
+// How many places there are for tables of a height: leaves, or middle tables.
+pub fn places_of(shape: Shape, height: u32) -> u32
+    ensures { λ r. ⌜ r ≡ places shape height ⌝ }
+{
+    let middles = shape.middles;
+    let leaves = shape.leaves;
+    if height == 0 {
+        return leaves;
+    }
+    middles
+}
+
+// The pool word where these places begin.
+pub fn first_place(shape: Shape, height: u32) -> PoolWord
+    requires { ⌜ InRange shape ⌝ }
+    ensures { λ r. ⌜ r ≡ record { 0 = firstPlace shape height } ⌝ }
+{
+    let domains = shape.domains;
+    let middles = shape.middles;
+    if height == 0 {
+        return words::pool_word(TABLE_WORDS * domains + TABLE_WORDS * middles);
+    }
+    words::pool_word(TABLE_WORDS * domains)
+}
+
+// The root word of a block of a domain.
+pub fn root_word(domain: u32, block: u32) -> PoolWord
+    requires { ⌜ (domain < 4194303) × (block < 1024) ⌝ }
+    ensures { λ r. ⌜ r ≡ record { 0 = 1024 * domain + block } ⌝ }
+{
+    let root = words::pool_word(TABLE_WORDS * domain);
+    words::word_after(root, block as usize)
+}
