@@ -14,7 +14,7 @@
 #include <stdlib.h>
 #include <string.h>
 
-enum { D = 2, M = 3, L = 3, POOL = GOL_POOL_WORDS(D, M, L), RADIO = 0, LOGGER = 1 };
+enum { D = 2, M = 3, L = 3, POOL = GOL_POOL_WORDS(D, M, L), SHAPE = GOL_SHAPE_WORDS, RADIO = 0, LOGGER = 1 };
 
 static const uint32_t CODE = 0x00000000, CODE_LENGTH = 0x80000;
 static const uint32_t RING = 0x203FFF80, SHORT_RING = 0x80, LONG_RING = 0x80840;
@@ -22,6 +22,8 @@ static const uint32_t SETTINGS = 0x20400000, SETTINGS_LENGTH = 0x400000, WRITABL
 static const uint32_t ENOUGH = 0xFFFFFFFF;
 
 static const char *const RIGHTS[] = {"none", "read", "read and write", "execute and read"};
+
+static const uint32_t shape[SHAPE] = {GOL_EIGHTS, D, M, L, 0};
 
 /* The pool stands in memory that keeps its words without power. */
 static uint32_t pool[POOL];
@@ -35,7 +37,7 @@ static void must(int holds, const char *what) {
 
 static void grant(uint32_t domain, uint32_t start, uint32_t length, uint32_t right) {
     uint32_t stores = 0;
-    uint32_t number = gol_change(pool, POOL, D, M, L, domain, start, length, right, ENOUGH, &stores, 1);
+    uint32_t number = gol_change(pool, POOL, shape, SHAPE, domain, start, length, right, ENOUGH, &stores, 1);
     printf("  domain %u: %s on %u bytes from 0x%08X: number %u, %u stores\n", domain, RIGHTS[right], length, start,
            number, stores);
     must(number == GOL_DONE, "the change is done");
@@ -43,12 +45,12 @@ static void grant(uint32_t domain, uint32_t start, uint32_t length, uint32_t rig
 
 /* Lets the ring grow, in a given pool and with a given allowance. */
 static uint32_t grow(uint32_t *words, uint32_t allowance, uint32_t *stores) {
-    return gol_change(words, POOL, D, M, L, RADIO, RING, LONG_RING, GOL_WRITE, allowance, stores, 1);
+    return gol_change(words, POOL, shape, SHAPE, RADIO, RING, LONG_RING, GOL_WRITE, allowance, stores, 1);
 }
 
 static uint32_t right_in(const uint32_t *words, uint32_t domain, uint32_t address) {
     uint32_t right = 0;
-    must(gol_lookup(words, POOL, D, M, L, domain, address, &right, 1) == GOL_DONE, "the lookup is not refused");
+    must(gol_lookup(words, POOL, shape, SHAPE, domain, address, &right, 1) == GOL_DONE, "the lookup is not refused");
     return right;
 }
 
@@ -87,7 +89,7 @@ static uint32_t try_every_cut(void) {
 
 static void show(const char *where, uint32_t address) {
     uint32_t found[3];
-    must(gol_lookup(pool, POOL, D, M, L, RADIO, address, found, 3) == GOL_DONE, "the lookup is not refused");
+    must(gol_lookup(pool, POOL, shape, SHAPE, RADIO, address, found, 3) == GOL_DONE, "the lookup is not refused");
     printf("  0x%08X, %s: %s (loads: %u)\n", address, where, RIGHTS[found[0]], found[2]);
 }
 
@@ -102,7 +104,7 @@ static void show_all(void) {
 
 static void list(void) {
     uint32_t runs[4 * 16], total = 0;
-    must(gol_list(pool, POOL, D, M, L, 0, runs, sizeof runs / sizeof *runs, &total, 1) == GOL_DONE, "a listing");
+    must(gol_list(pool, POOL, shape, SHAPE, 0, runs, sizeof runs / sizeof *runs, &total, 1) == GOL_DONE, "a listing");
     must(total <= 16, "the runs fit");
     for (uint32_t i = 0; i < total; i++)
         printf("  domain %u, 0x%08X to 0x%08X: %s\n", runs[4 * i], runs[4 * i + 1], runs[4 * i + 2],
@@ -111,7 +113,7 @@ static void list(void) {
 
 static void set_rights(void) {
     printf("The supervisor makes a fresh table of %u words and sets rights:\n", (unsigned)POOL);
-    must(gol_fresh(pool, POOL, D, M, L) == GOL_DONE, "a fresh pool");
+    must(gol_fresh(pool, POOL, shape, SHAPE) == GOL_DONE, "a fresh pool");
     grant(RADIO, CODE, CODE_LENGTH, GOL_EXECUTE);
     grant(LOGGER, CODE, CODE_LENGTH, GOL_EXECUTE);
     grant(RADIO, RING, SHORT_RING, GOL_WRITE);
@@ -136,7 +138,7 @@ static void lose_power(uint32_t allowance) {
 static void recover(void) {
     uint32_t stores = 0;
     printf("The supervisor tidies the table and makes the change again:\n");
-    must(gol_tidy(pool, POOL, D, M, L, ENOUGH, &stores, 1) == GOL_DONE, "a tidying");
+    must(gol_tidy(pool, POOL, shape, SHAPE, ENOUGH, &stores, 1) == GOL_DONE, "a tidying");
     printf("  tidied: %u stores\n", stores);
     show_all();
     grant(RADIO, RING, LONG_RING, GOL_WRITE);

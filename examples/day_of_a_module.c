@@ -11,12 +11,13 @@
 #include <stdio.h>
 #include <stdlib.h>
 
-enum { D = 2, M = 3, L = 2, POOL = GOL_POOL_WORDS(D, M, L), SUPERVISOR = 0, COUNTER = 1 };
+enum { D = 2, M = 3, L = 2, POOL = GOL_POOL_WORDS(D, M, L), SHAPE = GOL_SHAPE_WORDS, SUPERVISOR = 0, COUNTER = 1 };
 
 static const uint32_t SERVICES = 0x00000000, ENTRY = 0x00000400, INSIDE = 0x00000404, EXIT = 0x0000047C;
 static const uint32_t PROGRAM = 0x00001000, CALL = 0x00001040, AFTER_CALL = 0x00001044, PAGE = 0x1000;
 static const uint32_t COUNTS = 0x20000000, COUNTS_LENGTH = 256, CLOCK = 0x20001000, CLOCK_LENGTH = 8;
 
+static const uint32_t shape[SHAPE] = {GOL_EIGHTS, D, M, L, 0};
 static uint32_t pool[POOL], buffer[GOL_BUFFER_WORDS], gates[GOL_GATES_WORDS], stack[GOL_STACK_WORDS];
 
 static void must(int holds, const char *what) {
@@ -28,13 +29,13 @@ static void must(int holds, const char *what) {
 
 /* A change whose number of stores nobody asks for: no room for results is lent. */
 static void grant(uint32_t domain, uint32_t start, uint32_t length, uint32_t right) {
-    uint32_t number = gol_change(pool, POOL, D, M, L, domain, start, length, right, 0xFFFFFFFF, NULL, 0);
+    uint32_t number = gol_change(pool, POOL, shape, SHAPE, domain, start, length, right, 0xFFFFFFFF, NULL, 0);
     must(number == GOL_DONE, "the change is done");
 }
 
 /* Lays out the box: fresh tables, the rights, and the two gates. All states begin with zeros. */
 static void lay_out(void) {
-    must(gol_fresh(pool, POOL, D, M, L) == GOL_DONE, "a fresh pool");
+    must(gol_fresh(pool, POOL, shape, SHAPE) == GOL_DONE, "a fresh pool");
     grant(SUPERVISOR, SERVICES, PAGE, GOL_EXECUTE);
     grant(COUNTER, PROGRAM, PAGE, GOL_EXECUTE);
     grant(COUNTER, COUNTS, COUNTS_LENGTH, GOL_WRITE);
@@ -48,7 +49,7 @@ static void lay_out(void) {
 static void step(const char *what, uint32_t address, uint32_t target) {
     uint32_t pass = 0;
     uint32_t number =
-        gol_step(pool, POOL, D, M, L, gates, GOL_GATES_WORDS, stack, GOL_STACK_WORDS, address, target, &pass, 1);
+        gol_step(pool, POOL, shape, SHAPE, gates, GOL_GATES_WORDS, stack, GOL_STACK_WORDS, address, target, &pass, 1);
     printf("  0x%08X, %s: ", address, what);
     if (number != GOL_DONE)
         printf("refused %u", number);
@@ -61,7 +62,7 @@ static void step(const char *what, uint32_t address, uint32_t target) {
 static void attempt(const char *what, uint32_t kind, uint32_t size, uint32_t address) {
     uint32_t out[2];
     uint32_t number =
-        gol_check(pool, POOL, D, M, L, buffer, GOL_BUFFER_WORDS, COUNTER, kind, size, address, out, 2);
+        gol_check(pool, POOL, shape, SHAPE, buffer, GOL_BUFFER_WORDS, COUNTER, kind, size, address, out, 2);
     must(number == GOL_DONE, "the check is not refused");
     printf("  %s of %u at 0x%08X, %s: %s (loads: %u)\n", kind == GOL_LOAD ? "load" : "store", size, address, what,
            out[0] ? "pass" : "deny", out[1]);
@@ -100,7 +101,7 @@ static void afternoon(void) {
 
 static void evening(void) {
     printf("Evening. The supervisor makes the pool fresh, and nobody has a right:\n");
-    must(gol_fresh(pool, POOL, D, M, L) == GOL_DONE, "a fresh pool");
+    must(gol_fresh(pool, POOL, shape, SHAPE) == GOL_DONE, "a fresh pool");
     attempt("a count, by a stale slot", GOL_STORE, 4, COUNTS + 8);
     printf("It empties the buffer:\n");
     must(gol_flush_all(buffer, GOL_BUFFER_WORDS) == GOL_DONE, "a flush");

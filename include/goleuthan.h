@@ -15,8 +15,14 @@
  * during the call. No call asks for more; BUFFERS and STORES below say what checks and recovery rest on besides.
  *
  * THE POOL holds D roots of 1,024 words, then M middle places of 1,024 words, then L leaf places of 64 words, with D 1
- * to 4, M 0 to 8 and L 0 to 64. `words` is exactly 1024*D + 1024*M + 64*L, which is GOL_POOL_WORDS(d, m, l). The pool
- * does not hold D, M and L: give each call the same three that it was made fresh with.
+ * to 4, M 0 to 8 and L 0 to 64. `words` is exactly 1024*D + 1024*M + 64*L, which is GOL_POOL_WORDS(d, m, l).
+ *
+ * ITS SHAPE is five words of the caller's, lent to each call that takes a pool, and only read: form, D, M, L, V. The
+ * form is GOL_EIGHTS, which is 0: eight rights an entry. There is no other yet, and V is 0 in it. As in
+ *
+ *   static const uint32_t shape[GOL_SHAPE_WORDS] = {GOL_EIGHTS, 4, 8, 64, 0};
+ *
+ * The pool does not hold its shape: give each call the one that it was made fresh with.
  *
  * RESULTS go into the lent words `out`, in the order given at each call, as many of them as `out_len` has room for.
  * Words of `out` past the results stay as they were. An `out_len` of 0 asks for no result; `out` may be NULL then.
@@ -25,17 +31,18 @@
  * return, in their order: where several fit, the first is returned. On every refusal, that is on every number but 0 and
  * 100, the pool and all lent states are as they came, and the result words of `out` are 0, as many of them as fit.
  *
- *   1   D, M or L out of range, or a pool of another length     10  address or target not a multiple of the access size
- *   2   a domain is D or more                                   11  gate address not a multiple of 4
- *   3   right above 3                                           12  a new gate and 64 present
- *   4   length 0                                                13  no gate there to remove
- *   5   rounded start plus rounded length above 2^32            14  a switch gate to its own domain
- *   6   pool not sound, or a bad entry met on the walk          15  switch gate, stack full
- *   7   pool sound, not settled: tidy it first                  16  return gate, stack empty
- *   8   not enough middle or leaf places for these rights       17  return gate, target differs
- *   9   no such access kind or size                             18  gate count above 64, depth above 16, next above 63
+ *   1   a form or a V other than 0, D, M or L out of range, or a pool of another length
+ *   2   a domain is D or more                                   10  address or target not a multiple of the access size
+ *   3   right above 3                                           11  gate address not a multiple of 4
+ *   4   length 0                                                12  a new gate and 64 present
+ *   5   rounded start plus rounded length above 2^32            13  no gate there to remove
+ *   6   pool not sound, or a bad entry met on the walk          14  a switch gate to its own domain
+ *   7   pool sound, not settled: tidy it first                  15  switch gate, stack full
+ *   8   not enough middle or leaf places for these rights       16  return gate, stack empty
+ *   9   no such access kind or size                             17  return gate, target differs
+ *   18  gate count above 64, depth above 16, next above 63
  *   100 the allowance of stores ran out before the end: a cut (see RECOVERY)
- *   101 a lent state of the wrong length; this is looked at before all else
+ *   101 a lent shape or state of the wrong length; the lengths of all of them are looked at before all else
  *
  * STATES. A lookaside buffer, a gate set and a call stack are words of the caller too, of these lengths and layouts.
  * Words of any value may come in; what they mean is decided by the rules below and by the numbers above.
@@ -56,7 +63,7 @@
  *   current domain is an empty stack.
  *
  * BUFFERS AND THEIR POOL. A slot that matches answers without a look at the pool. So that it says what the pool says:
- *   - a buffer serves one pool of one shape: the same pool, D, M and L at every check. To serve another, empty it;
+ *   - a buffer serves one pool of one shape: the same pool and shape at every check. To serve another, empty it;
  *   - gol_fresh makes every buffer of the pool stale, and so does a reset: empty them all;
  *   - gol_change, done or cut, may make each slot of its domain stale whose block meets its region: flush that region
  *     (gol_flush_region) in every buffer of the pool before the next check. A refusal and gol_tidy need no flush;
@@ -101,6 +108,10 @@ extern "C" {
 /* The length of a pool in words. */
 #define GOL_POOL_WORDS(d, m, l) (1024u * (d) + 1024u * (m) + 64u * (l))
 
+/* The length of a shape in words, and the paper's form. */
+#define GOL_SHAPE_WORDS 5u
+#define GOL_EIGHTS 0u
+
 /* The numbers of this face's own. */
 #define GOL_DONE 0u
 #define GOL_CUT 100u
@@ -126,9 +137,9 @@ extern "C" {
 /*
  * Makes the pool fresh: no domain has a right anywhere. Every root word becomes 0x80000000, every other word 0.
  * Afterwards empty every lookaside buffer of this pool.
- * Returns 0, or 1.
+ * Returns 0, 101, or 1.
  */
-uint32_t gol_fresh(uint32_t *pool, size_t words, uint32_t d, uint32_t m, uint32_t l);
+uint32_t gol_fresh(uint32_t *pool, size_t words, const uint32_t *shape, size_t shape_len);
 
 /*
  * Gives `domain` the right `right` on the bytes from `start`, `length` of them. The start is rounded down to a
@@ -136,26 +147,28 @@ uint32_t gol_fresh(uint32_t *pool, size_t words, uint32_t d, uint32_t m, uint32_
  * At most `allowance` words of the pool are written, each once; the allowance does not alter which, nor in which order.
  * Afterwards, done or cut, flush the same region for the domain in every lookaside buffer of this pool.
  * out[0]: the number of words written; 0 where it was cut or refused.
- * Returns 0, 1 to 8 in this order, or 100 where more stores were wanted than allowed (exactly `allowance` were made).
+ * Returns 0, 101, 1 to 8 in this order, or 100 where more stores were wanted than allowed (exactly `allowance` were
+ * made).
  */
-uint32_t gol_change(uint32_t *pool, size_t words, uint32_t d, uint32_t m, uint32_t l, uint32_t domain, uint32_t start,
-                    uint32_t length, uint32_t right, uint32_t allowance, uint32_t *out, size_t out_len);
+uint32_t gol_change(uint32_t *pool, size_t words, const uint32_t *shape, size_t shape_len, uint32_t domain,
+                    uint32_t start, uint32_t length, uint32_t right, uint32_t allowance, uint32_t *out,
+                    size_t out_len);
 
 /*
  * Makes a sound pool settled: gives up tables that the rights no longer need. No word's right changes, after any store.
  * No flush is needed.
  * out[0]: the number of words written; 0 where it was cut or refused.
- * Returns 0, 1, 6, or 100 as gol_change does.
+ * Returns 0, 101, 1, 6, or 100 as gol_change does.
  */
-uint32_t gol_tidy(uint32_t *pool, size_t words, uint32_t d, uint32_t m, uint32_t l, uint32_t allowance, uint32_t *out,
-                  size_t out_len);
+uint32_t gol_tidy(uint32_t *pool, size_t words, const uint32_t *shape, size_t shape_len, uint32_t allowance,
+                  uint32_t *out, size_t out_len);
 
 /*
  * The right that `domain` has on the word at `address`, whose low two bits do not matter.
  * out[0]: the right. out[1]: the entry that decides. out[2]: the loads made: 1 root, 2 middle table, 3 leaf.
- * Returns 0, 1, 2, or 6 where the walk meets a bad entry.
+ * Returns 0, 101, 1, 2, or 6 where the walk meets a bad entry.
  */
-uint32_t gol_lookup(const uint32_t *pool, size_t words, uint32_t d, uint32_t m, uint32_t l, uint32_t domain,
+uint32_t gol_lookup(const uint32_t *pool, size_t words, const uint32_t *shape, size_t shape_len, uint32_t domain,
                     uint32_t address, uint32_t *out, size_t out_len);
 
 /*
@@ -165,10 +178,10 @@ uint32_t gol_lookup(const uint32_t *pool, size_t words, uint32_t d, uint32_t m, 
  * that fitted.
  * out[0]: how many runs there are in all, whatever `from` and `runs_len` are; 0xFFFFFFFF stands for that number and any
  * greater one. On a refusal `runs` is as it came.
- * Returns 0, 1, or 6.
+ * Returns 0, 101, 1, or 6.
  */
-uint32_t gol_list(const uint32_t *pool, size_t words, uint32_t d, uint32_t m, uint32_t l, uint32_t from, uint32_t *runs,
-                  size_t runs_len, uint32_t *out, size_t out_len);
+uint32_t gol_list(const uint32_t *pool, size_t words, const uint32_t *shape, size_t shape_len, uint32_t from,
+                  uint32_t *runs, size_t runs_len, uint32_t *out, size_t out_len);
 
 /*
  * Checks an access of `domain` through a lookaside buffer: the lowest slot that matches answers with 0 loads; else the
@@ -178,7 +191,7 @@ uint32_t gol_list(const uint32_t *pool, size_t words, uint32_t d, uint32_t m, ui
  * out[0]: the verdict: 1 pass, 0 deny. out[1]: the loads made, 0 where a slot answered, else 1 to 3.
  * Returns 0, 101, 1, 18, 2, 9, 10, or 6 where no slot matches and the walk meets a bad entry. A deny returns 0.
  */
-uint32_t gol_check(const uint32_t *pool, size_t words, uint32_t d, uint32_t m, uint32_t l, uint32_t *buffer,
+uint32_t gol_check(const uint32_t *pool, size_t words, const uint32_t *shape, size_t shape_len, uint32_t *buffer,
                    size_t buffer_len, uint32_t domain, uint32_t kind, uint32_t size, uint32_t address, uint32_t *out,
                    size_t out_len);
 
@@ -236,7 +249,7 @@ uint32_t gol_remove_gate(uint32_t d, uint32_t *gates, size_t gates_len, uint32_t
  * Returns 0, 101, 1, 18, 2 (the current domain, or one in a frame or gate held), 10, then by the gate: 15, then 6
  * where the walk meets a bad entry; on pass of a return gate 16, then 17. A deny returns 0.
  */
-uint32_t gol_step(const uint32_t *pool, size_t words, uint32_t d, uint32_t m, uint32_t l, const uint32_t *gates,
+uint32_t gol_step(const uint32_t *pool, size_t words, const uint32_t *shape, size_t shape_len, const uint32_t *gates,
                   size_t gates_len, uint32_t *stack, size_t stack_len, uint32_t address, uint32_t target, uint32_t *out,
                   size_t out_len);
 

@@ -81,7 +81,7 @@ OFFSETS = {
 }
 
 # The names of slices of words that are not the pool.
-SLICES = {"owners", "runs", "out", "ws", "buffer", "gates", "stack", "part"}
+SLICES = {"owners", "runs", "out", "ws", "shape", "buffer", "gates", "stack", "part"}
 
 
 def closing(text, start, pair):

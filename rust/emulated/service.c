@@ -2,10 +2,10 @@
  * The library as a service, for tests on a machine that cannot link it: takes calls from standard input, makes them, and
  * writes what they gave to standard output. All is in 32-bit words of the machine's order, which both sides share.
  *
- * A call is a head (the function, ten numbers, which of four lent memories are mutable, which are sent, their four
+ * A call is a head (the function, ten numbers, which of five lent memories are mutable, which are sent, their five
  * lengths) and the words of the memories that are sent; one that is not sent holds what it held. The answer is the
  * number, and the words of the mutable memories. The memories are 0 the pool, 1 buffer, gates or runs, 2 the call stack,
- * 3 the results.
+ * 3 the results, 4 the shape.
  */
 #include "goleuthan.h"
 
@@ -13,7 +13,7 @@
 #include <stdio.h>
 #include <stdlib.h>
 
-enum { MEMORIES = 4, ROOM = 1 << 20, GUARDS = 64 };
+enum { MEMORIES = 5, ROOM = 1 << 20, GUARDS = 64 };
 
 struct head {
     uint32_t function, number[10], mutable_ones, sent, length[MEMORIES];
@@ -33,22 +33,24 @@ static void must(int holds, const char *what) {
 static uint32_t call(const struct head *h) {
     const uint32_t *n = h->number;
     uint32_t *pool = memory[0], *state = memory[1], *stack = memory[2], *out = memory[3];
+    const uint32_t *shape = memory[4];
     size_t words = h->length[0], state_len = h->length[1], stack_len = h->length[2], out_len = h->length[3];
+    size_t shape_len = h->length[4];
     switch (h->function) {
     case 0:
-        return gol_fresh(pool, words, n[0], n[1], n[2]);
+        return gol_fresh(pool, words, shape, shape_len);
     case 1:
-        return gol_change(pool, words, n[0], n[1], n[2], n[3], n[4], n[5], n[6], n[7], out, out_len);
+        return gol_change(pool, words, shape, shape_len, n[0], n[1], n[2], n[3], n[4], out, out_len);
     case 2:
-        return gol_tidy(pool, words, n[0], n[1], n[2], n[3], out, out_len);
+        return gol_tidy(pool, words, shape, shape_len, n[0], out, out_len);
     case 3:
-        return gol_lookup(pool, words, n[0], n[1], n[2], n[3], n[4], out, out_len);
+        return gol_lookup(pool, words, shape, shape_len, n[0], n[1], out, out_len);
     case 4:
-        return gol_check(pool, words, n[0], n[1], n[2], state, state_len, n[3], n[4], n[5], n[6], out, out_len);
+        return gol_check(pool, words, shape, shape_len, state, state_len, n[0], n[1], n[2], n[3], out, out_len);
     case 5:
-        return gol_list(pool, words, n[0], n[1], n[2], n[3], state, state_len, out, out_len);
+        return gol_list(pool, words, shape, shape_len, n[0], state, state_len, out, out_len);
     case 6:
-        return gol_step(pool, words, n[0], n[1], n[2], state, state_len, stack, stack_len, n[3], n[4], out, out_len);
+        return gol_step(pool, words, shape, shape_len, state, state_len, stack, stack_len, n[0], n[1], out, out_len);
     case 7:
         return gol_flush_all(state, state_len);
     case 8:

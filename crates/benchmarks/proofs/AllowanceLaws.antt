@@ -10,8 +10,7 @@ use lib.Dec.{eqb}
 use lib.ListN.{length, List·getD-eq-default}
 use Rattle.theory.specs.Pool.{words}
 use Rattle.table.specs.declared.Shape.{Shape}
-use Rattle.targets.specs.declared.Paint.{Paint}
-use Rattle.plan.specs.Aims.{Goal}
+use Rattle.plan.specs.Aims.{Aim, Goal}
 use Rattle.change.specs.Cuts.{differing}
 use Rattle.change.specs.Answers.{IsDone, IsCut}
 use Rattle.change.proofs.OutcomeLaws.{one-goal}
@@ -29,8 +28,8 @@ differing-long (x ∷ p) (y ∷ q) = go (eqb x y) (differing p q) (length p) (di
     go true m n h = omega arith
     go false m n h = omega arith
 
-module _ (s : Shape) (d : ℕ) (paint : Paint) (old : List ℕ) (Q : ℕ → ℕ) (kept : ℕ → Bool)
-    (g : Goal s d paint old Q kept) where
+module _ (s : Shape) (A : Aim) (old : List ℕ) (Q : ℕ → ℕ) (kept : ℕ → Bool)
+    (g : Goal s A old Q kept) where
   goal-word : (j : ℕ) → words (listed Q 0 (length old)) j ≡ Q j
   goal-word j = elim (decLt j (length old)) [
     | yes h ↦ listed-word Q 0 (length old) j h ∙ ap Q (omega arith)
@@ -38,12 +37,12 @@ module _ (s : Shape) (d : ℕ) (paint : Paint) (old : List ℕ) (Q : ℕ → ℕ
         ∙ sym (g .beyond j (omega arith) ∙ List·getD-eq-default old 0 (omega arith))
   ]
 
-  pub enough-done : (q : List ℕ) × IsDone s d paint old (length old) q
-  enough-done = ⊎-elim (λ x. x) (λ (x, c). absurd (too-few x c)) (goal-ends s d paint old Q kept (length old) g)
+  pub enough-done : (q : List ℕ) × IsDone s A old (length old) q
+  enough-done = ⊎-elim (λ x. x) (λ (x, c). absurd (too-few x c)) (goal-ends s A old Q kept (length old) g)
     where
-      too-few : (x : List ℕ) → IsCut s d paint old (length old) x → ⊥
+      too-few : (x : List ℕ) → IsCut s A old (length old) x → ⊥
       too-few x c =
           let more = c .more (listed Q 0 (length old)) (listed-long Q 0 (length old))
-          (λ j. goal-word j ∙ sym (one-goal s d paint old Q (g .finished) (c .cut) j)) in
+          (λ j. goal-word j ∙ sym (one-goal s A old Q (g .finished) (c .cut) j)) in
           let most = differing-long old (listed Q 0 (length old)) in
           omega arith

@@ -22,10 +22,11 @@ use Rattle.table.specs.declared.Shape.{Shape}
 use Rattle.table.specs.Shape.{Fits}
 use Rattle.table.specs.Map.{addresses, formOf}
 use Rattle.targets.specs.declared.Paint.{Paint}
-use Rattle.plan.specs.Aims.{aims}
-use Rattle.plan.proofs.AimLaws.{aims-covered, aims-other}
+use Rattle.plan.proofs.AimLaws.{change-covers, change-misses, aimed-covered, aimed-other}
+use Rattle.targets.specs.Paints.{region, paintOf}
+use Rattle.plan.specs.Aims.{aimOf, changeAim, aims}
 use Rattle.change.specs.Cuts.{differing}
-use Rattle.change.specs.Answers.{paintOf, IsCut, Asked}
+use Rattle.change.specs.Answers.{IsCut, Asked}
 use Rattle.benchmarks.specs.Rows.{shape}
 use Rattle.benchmarks.proofs.RowLaws.{fresh-fits, in-range, covered-yes, covered-no, covered-range}
 use Rattle.benchmarks.proofs.RowLaws.{aims-fresh, change-cut, listed, listed-long, listed-words}
@@ -126,13 +127,13 @@ goal-aimed : (d a : ℕ) → d < 1 → a < addresses → cond (ltb (a / 4096) 12
     (words middle-pool) d a
 goal-aimed d a bd ba = elim (decLt (a / 4096) 129) [
   | yes h ↦ ap (λ t. cond t 1 0) (lt-ltb (a / 4096) 129 h)
-      ∙ sym (aims-covered one-middle 0 reading (words middle-pool) d a
-      (omega arith, covered-yes pages a (omega arith) (omega arith)))
+      ∙ sym (aimed-covered one-middle (changeAim 0 pages 1) (words middle-pool) d a
+      (change-covers 0 pages 1 d a (omega arith) (covered-yes pages a (omega arith) (omega arith))))
   | no h ↦ ap (λ t. cond t 1 0) (le-ltb (a / 4096) 129 (omega arith))
-      ∙ sym (aims-other one-middle 0 reading (words middle-pool) d a
-      (λ c. let z = covered-range pages a (c .1) in omega arith)
+      ∙ sym (aimed-other one-middle (changeAim 0 pages 1) (words middle-pool) d a
+      (change-misses 0 pages 1 d a (covered-no pages a (λ x y. omega arith)))
       ∙ page-done-finished in-middle 2 middle-page (omega arith) .rights d a bd ba
-      ∙ aims-fresh one-middle (paintOf in-middle 2) d a bd bd ∙ ap (λ t. cond t 2 0)
+      ∙ aims-fresh one-middle in-middle 2 d a bd bd ∙ ap (λ t. cond t 2 0)
       (covered-no in-middle a (λ x y. omega arith)))
 ]
 
@@ -172,7 +173,7 @@ pub goal-stores : differing middle-pool goal ≡ 129
 unfolding differing listed after
 goal-stores = refl
 
-pub some-outcome : (x : List ℕ) × IsCut one-middle 0 reading middle-pool 128 x
+pub some-outcome : (x : List ℕ) × IsCut one-middle (aimOf 0 reading) middle-pool 128 x
 some-outcome =
     change-cut middle-pool one-middle 0 0 528384 1 128 pages asked middle-settled goal goal-finished
     (listed-long (until 129) 0 2048 ∙ sym (middle-fits .long)) (rw goal-stores (omega arith))

@@ -2,7 +2,7 @@
 use Prim.Native.Nat.{ℕ, suc, _+_, _*_, _/_, _%_, _≤_, _<_}
 use mathlib.Core.Path.{_≡_, refl, sym, ap, _∙_}
 use mathlib.Core.Logic.{_⊎_, inl, inr, ⊎-elim}
-use mathlib.Core.Bool.{false, cond}
+use mathlib.Core.Bool.{false, cond, true≢false}
 use mathlib.Core.List.{List}
 use native.Mathlib.Omega.{arith}
 use native.Mathlib.Decide.{ℕ-discrete}
@@ -20,11 +20,12 @@ use Rattle.table.specs.Map.{addresses, formOf}
 use Rattle.table.specs.Fresh.{freshPool}
 use Rattle.table.proofs.LookupLaws.{sound-lookup}
 use Rattle.table.proofs.FreshWordLaws.{fresh-right, fresh-settled}
-use Rattle.plan.specs.Aims.{aims}
-use Rattle.plan.proofs.AimLaws.{aims-covered, aims-other, covered-or}
+use Rattle.plan.proofs.AimLaws.{covers-change, change-covers, aimed-covered, aimed-other}
+use Rattle.targets.specs.Paints.{region}
+use Rattle.plan.specs.Aims.{changeAim, aimedAt}
 use Rattle.change.specs.declared.Answer.the-variants.{Done}
 use Rattle.change.specs.Cuts.{CutAt}
-use Rattle.change.specs.Answers.{paintOf, Changes, in-order, cut}
+use Rattle.change.specs.Answers.{Changes, in-order, cut}
 use Rattle.change.specs.Answers.{IsCut as WasCut}
 use Rattle.change.proofs.ChangesLaws.{one-change}
 use Rattle.change.proofs.DifferLaws.{differing-set, differing-self}
@@ -43,16 +44,15 @@ pub fresh-fit : Fits (shape 1 1) (length fresh)
 fresh-fit = fresh-fits (shape 1 1) (in-range 1 1 (omega arith) (omega arith))
 
 -- Row 4: what a cut leaves.
-module _ {n : ℕ} {x : List ℕ} (c : CutAt (shape 1 1) 0 (paintOf in-leaf 2) fresh n x) where
+module _ {n : ℕ} {x : List ℕ} (c : CutAt (shape 1 1) (changeAim 0 in-leaf 2) fresh n x) where
   cut-right : (a : ℕ) → a < addresses
       → (rightOf (formOf (shape 1 1)) (words x) 0 a ≡ 0)
       ⊎ ((rightOf (formOf (shape 1 1)) (words x) 0 a ≡ 2) × (0x1000 ≤ a) × (a ≤ 0x103F))
-  cut-right a ba = ⊎-elim
-      (λ z. let k = covered-range in-leaf a (z .1) in
+  cut-right a ba = by-cases (changeAim 0 in-leaf 2 .covers 0 a)
+      (λ z. let k = covered-range in-leaf a (covers-change 0 in-leaf 2 0 a z .1) in
       ⊎-elim (λ e. inl (e ∙ fresh-right (shape 1 1) 0 a (omega arith))) (λ e. inr (e, omega arith, omega arith))
       (c .covered 0 a (omega arith) ba z))
       (λ z. inl (c .others 0 a (omega arith) ba z ∙ fresh-right (shape 1 1) 0 a (omega arith)))
-      (covered-or 0 (paintOf in-leaf 2) 0 a)
 
   cut-looks : NoneOrTwo x (shape 1 1) 0x1000 0x103F
   cut-looks a ba =
@@ -64,7 +64,7 @@ module _ {n : ℕ} {x : List ℕ} (c : CutAt (shape 1 1) 0 (paintOf in-leaf 2) f
         cut-right a ba,
       )
 
-leaf-cut : (x : List ℕ) × WasCut (shape 1 1) 0 (paintOf in-leaf 2) fresh 1025 x
+leaf-cut : (x : List ℕ) × WasCut (shape 1 1) (changeAim 0 in-leaf 2) fresh 1025 x
 unfolding regionOf
 leaf-cut = page-cut in-leaf 2 leaf-page (omega arith) 0x1000 64 (omega arith) refl 1025 1026 leaf-stores (omega arith)
 
@@ -102,20 +102,20 @@ given-right d a bd =
     ∙ eight-right 0 (a / 524288 % 8) (omega arith) (omega arith)
 
 -- What the change aims at is no right anywhere.
-none-aimed : (d a : ℕ) → d < 1 → a < addresses → aims (shape 1 1) 0 (paintOf in-leaf 0) (words leaf-pool) d a ≡ 0
-none-aimed d a bd ba = ⊎-elim
-    (λ z. aims-covered (shape 1 1) 0 (paintOf in-leaf 0) (words leaf-pool) d a z)
+none-aimed : (d a : ℕ) → d < 1 → a < addresses → aimedAt (shape 1 1) (changeAim 0 in-leaf 0) (words leaf-pool) d a ≡ 0
+none-aimed d a bd ba = by-cases (changeAim 0 in-leaf 0 .covers d a)
+    (λ z. aimed-covered (shape 1 1) (changeAim 0 in-leaf 0) (words leaf-pool) d a z)
     (λ z.
-    let n : covered in-leaf a ≡ false = by-cases (covered in-leaf a) (λ e. absurd (z (omega arith, e))) (λ e. e) in
-    aims-other (shape 1 1) 0 (paintOf in-leaf 0) (words leaf-pool) d a z
+    let n : covered in-leaf a ≡ false = by-cases (covered in-leaf a)
+    (λ e. absurd (true≢false (sym (change-covers 0 in-leaf 0 d a (omega arith) e) ∙ z))) (λ e. e) in
+    aimed-other (shape 1 1) (changeAim 0 in-leaf 0) (words leaf-pool) d a z
     ∙ page-done-finished in-leaf 2 leaf-page (omega arith) .rights d a bd ba
-    ∙ aims-fresh (shape 1 1) (paintOf in-leaf 2) d a bd bd ∙ ap (λ t. cond t 2 0) n)
-    (covered-or 0 (paintOf in-leaf 0) d a)
+    ∙ aims-fresh (shape 1 1) in-leaf 2 d a bd bd ∙ ap (λ t. cond t 2 0) n)
 
 pub given-finished : Finished (formOf (shape 1 1)) (words leaf-pool)
-    (aims (shape 1 1) 0 (paintOf in-leaf 0) (words leaf-pool)) (words given-up)
+    (aimedAt (shape 1 1) (changeAim 0 in-leaf 0) (words leaf-pool)) (words given-up)
 given-finished = flat-finished (shape 1 1) (words given-up) (λ j h. rw (root-word j h) refl) (words leaf-pool)
-    (aims (shape 1 1) 0 (paintOf in-leaf 0) (words leaf-pool))
+    (aimedAt (shape 1 1) (changeAim 0 in-leaf 0) (words leaf-pool))
     (λ d a bd ba. given-right d a bd ∙ sym (none-aimed d a bd ba))
     (λ j h. getD-set-other leaf-pool 0 j 0x80000000 0 (λ e. omega arith))
 

@@ -24,9 +24,11 @@ use Rattle.table.specs.Fresh.{freshPool, MakesFresh}
 use Rattle.table.proofs.ShapeLaws.{fits-test}
 use Rattle.table.proofs.FormLaws.{eight-good}
 use Rattle.table.proofs.FreshLaws.{makes-fresh}
+use Rattle.targets.specs.Paints.{region}
+use Rattle.plan.specs.Aims.{aimOf}
 use Rattle.change.specs.declared.Answer.the-variants.{Done, Cut, Refused}
 use Rattle.change.specs.Cuts.{differing}
-use Rattle.change.specs.Answers.{paintOf, IsCut, Changes, Tidies, in-order, unsettled, cut}
+use Rattle.change.specs.Answers.{IsCut, Changes, Tidies, in-order, unsettled, cut}
 use Rattle.change.proofs.DifferLaws.{differing-less}
 use Rattle.change.proofs.OutcomeLaws.{one-goal}
 use Rattle.demands.specs.Series.{made, changed, Series, fresh, change, tidy}
@@ -51,9 +53,9 @@ unfolding differing listed after
 cut-stores = refl
 
 -- Every cut after 128 stores is that pool.
-module _ {x : List ℕ} (c : IsCut one-middle 0 reading middle-pool 128 x) where
+module _ {x : List ℕ} (c : IsCut one-middle (aimOf 0 reading) middle-pool 128 x) where
   goal-is : (j : ℕ) → c .cut .goal j ≡ words goal j
-  goal-is = one-goal one-middle 0 reading middle-pool (words goal) goal-finished (c .cut)
+  goal-is = one-goal one-middle (aimOf 0 reading) middle-pool (words goal) goal-finished (c .cut)
 
   -- All words of the table are stored in the third phase, in their order.
   is-kept : (j : ℕ) → 1024 ≤ j → j < 2048 → c .way .kept j ≡ true
@@ -146,7 +148,7 @@ module _ {x : List ℕ} (c : IsCut one-middle 0 reading middle-pool 128 x) where
             omega arith)
       ])
 
-the-cut : IsCut one-middle 0 reading middle-pool 128 cut-pool
+the-cut : IsCut one-middle (aimOf 0 reading) middle-pool 128 cut-pool
 the-cut = let (x, c) = some-outcome in rw (is-cut-pool c) at c
 
 cut-right : (a : ℕ) → a < addresses → rightOf (formOf one-middle) (words cut-pool) 0 a ≡ cond (ltb (a / 4096) 128) 1 0
@@ -164,10 +166,10 @@ some-cut = record {
   cut = the-cut;
   word = 0;
   address = omega arith;
-  covers = (refl, refl);
+  covers = refl;
   had-not = λ e.
       let old = page-done-finished in-middle 2 middle-page (omega arith) .rights 0 0 (omega arith) (omega arith) in
-      none (sym (old ∙ aims-fresh one-middle (paintOf in-middle 2) 0 0 (omega arith) (omega arith)) ∙ e);
+      none (sym (old ∙ aims-fresh one-middle in-middle 2 0 0 (omega arith) (omega arith)) ∙ e);
   has = cut-right 0 (omega arith);
 }
   where

@@ -19,8 +19,8 @@ use Rattle.words.specs.Rights.{goodRights}
 use Rattle.table.specs.Map.{formOf}
 use Rattle.table.proofs.FormLaws.{eight-good}
 use Rattle.table.proofs.FreshWordLaws.{fresh-word, fresh-settled}
-use Rattle.plan.specs.Aims.{aims}
-use Rattle.change.specs.Answers.{paintOf}
+use Rattle.targets.specs.Paints.{paintOf}
+use Rattle.plan.specs.Aims.{changeAim, aimedAt}
 use Rattle.benchmarks.specs.Rows.{shape}
 use Rattle.benchmarks.specs.Witnesses.{gives, fills, links, SomeDue}
 use Rattle.benchmarks.proofs.RowLaws.{aims-bare, listed}
@@ -102,11 +102,11 @@ given-same : (j : ℕ) → j ≢ 0 → words given-up j ≡ words leaf-pool j
 given-same j n = getD-set-other leaf-pool 0 j 0x80000000 0 n
 
 -- The change made again: the root word alone is wanted.
-again-finished : Finished F (words given-up) (aims (shape 1 1) 0 (paintOf in-leaf 2) (words given-up))
+again-finished : Finished F (words given-up) (aimedAt (shape 1 1) (changeAim 0 in-leaf 2) (words given-up))
     (words leaf-pool)
 again-finished = finished-words F _ _ (λ j. sym (page-word in-leaf 2 leaf-page (omega arith) j))
     (finished-same F _ (λ d. painted in-leaf 2) _
-    (λ d a bd ba. sym (aims-bare (shape 1 1) (paintOf in-leaf 2) (words given-up) d a bd (given-right d a bd)))
+    (λ d a bd ba. sym (aims-bare (shape 1 1) in-leaf 2 (words given-up) d a bd (given-right d a bd)))
     (page-finished-from leaf-page (words given-up) given-flat each))
   where
     each : (j : ℕ) → (words given-up j ≡ words fresh j) ⊎ (words given-up j ≡ after 0 0x1000 0xAAAAAAAA j)

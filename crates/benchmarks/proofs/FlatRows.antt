@@ -33,11 +33,10 @@ use Rattle.table.proofs.WantLaws.{divided-wants, pool-rights}
 use Rattle.places.specs.Count.{wantMiddle, Room}
 use Rattle.places.proofs.CountLaws.{count-less}
 use Rattle.places.proofs.ChangedLaws.{changed-rights}
-use Rattle.targets.specs.declared.Paint.{Paint}
 use Rattle.targets.specs.Paints.{region}
-use Rattle.plan.specs.Aims.{aims}
+use Rattle.plan.specs.Aims.{changeAim, aimedAt}
 use Rattle.change.specs.Cuts.{differing}
-use Rattle.change.specs.Answers.{paintOf, Asked, in-order, no-room}
+use Rattle.change.specs.Answers.{Asked, in-order, no-room}
 use Rattle.change.proofs.DifferLaws.{differing-set, differing-self}
 use Rattle.benchmarks.specs.Rows.{shape, AnyAddress, SetsOnePart, NoRoomForLess, SetsAll, ZeroWord}
 use Rattle.benchmarks.proofs.RowLaws.{always-change, finds, fresh-fits, in-range, covered-yes, covered-no}
@@ -124,11 +123,11 @@ part-covered a = elim (decLt a 524288) [
 module _ (g : Region) (r : ℕ) (Q : ℕ → ℕ) (flat : (j : ℕ) → j < 1024 → goodRights (Q j) ≡ true)
     (rights : (a : ℕ) → a < addresses → rightAt (Q (a / 4194304 % 1024)) (a / 524288 % 8) ≡ cond (covered g a) r 0)
     (rest : (j : ℕ) → 1024 ≤ j → Q j ≡ 0) where
-  finished : Finished (formOf (shape 0 0)) (words pool) (aims (shape 0 0) 0 (paintOf g r) (words pool)) Q
-  finished = flat-finished (shape 0 0) Q flat (words pool) (aims (shape 0 0) 0 (paintOf g r) (words pool))
+  finished : Finished (formOf (shape 0 0)) (words pool) (aimedAt (shape 0 0) (changeAim 0 g r) (words pool)) Q
+  finished = flat-finished (shape 0 0) Q flat (words pool) (aimedAt (shape 0 0) (changeAim 0 g r) (words pool))
       (λ d a bd ba. let z : 1024 * d + a / 4194304 % 1024 ≡ a / 4194304 % 1024 = omega arith in
       flat-right (shape 0 0) Q flat d a bd ∙ ap (λ i. rightAt (Q i) (a / 524288 % 8)) z ∙ rights a ba
-      ∙ sym (aims-fresh (shape 0 0) (paintOf g r) d a bd bd))
+      ∙ sym (aims-fresh (shape 0 0) g r d a bd bd))
       (λ j h. rest j h ∙ sym (fresh-word (shape 0 0) j ∙ ap (λ t. cond t 2147483648 0) (le-ltb j 1024 h)))
 
 asked : (start len r : ℕ) (g : Region) → r ≤ 3 → regionOf start len ≡ Covers g → Asked pool (shape 0 0) 0 start len r g
@@ -185,16 +184,16 @@ row-9 n h = always-change
     (refl, read-word)
 
 -- Row 8: the first 512 KB have two rights, and there is no middle place.
-abbrev less : Paint
-less = paintOf (rounded 0 524284) 1
+abbrev less : Region
+less = rounded 0 524284
 
-no-room-there : Room (shape 0 0) (aims (shape 0 0) 0 less (words pool)) → ⊥
+no-room-there : Room (shape 0 0) (aimedAt (shape 0 0) (changeAim 0 less 1) (words pool)) → ⊥
 no-room-there room =
-    let T = aims (shape 0 0) 0 less (words pool) in
-    let S = changed-rights (rightOf (formOf (shape 0 0)) (words pool)) 0 (region less) 1 0 (omega arith)
+    let T = aimedAt (shape 0 0) (changeAim 0 less 1) (words pool) in
+    let S = changed-rights (rightOf (formOf (shape 0 0)) (words pool)) 0 less 1 0 (omega arith)
     (pool-rights (shape 0 0) (words pool) 0) in
-    let here : T 0 0 ≡ 1 = aims-fresh (shape 0 0) less 0 0 (omega arith) (omega arith) in
-    let there : T 0 524284 ≡ 0 = aims-fresh (shape 0 0) less 0 524284 (omega arith) (omega arith) in
+    let here : T 0 0 ≡ 1 = aims-fresh (shape 0 0) less 1 0 0 (omega arith) (omega arith) in
+    let there : T 0 524284 ≡ 0 = aims-fresh (shape 0 0) less 1 0 524284 (omega arith) (omega arith) in
     let w : wantMiddle T 0 ≡ true = divided-wants (T 0) 2 0 S
     (0, 524284, omega arith, omega arith, refl, refl, λ z. apart (sym here ∙ z ∙ there)) in
     let x = count-less (wantMiddle T) 0 1024 (omega arith) w in

@@ -16,10 +16,11 @@ use Rattle.table.specs.Wants.{saidOf}
 use Rattle.table.specs.Fresh.{freshPool}
 use Rattle.table.proofs.WantLaws.{wants-leaf}
 use Rattle.table.proofs.FreshWordLaws.{fresh-right, fresh-settled}
-use Rattle.plan.specs.Aims.{aims}
+use Rattle.targets.specs.Paints.{region}
+use Rattle.plan.specs.Aims.{changeAim, aimedAt}
 use Rattle.change.specs.declared.Answer.the-variants.{Done}
 use Rattle.change.specs.Cuts.{differing}
-use Rattle.change.specs.Answers.{paintOf, no-region, in-order, cut}
+use Rattle.change.specs.Answers.{no-region, in-order, cut}
 use Rattle.change.proofs.DifferLaws.{differing-self}
 use Rattle.benchmarks.specs.Rows.{shape, Always, AnsweredCut, AnsweredRefused, Sets, LastWord}
 use Rattle.benchmarks.proofs.RowLaws.{always-change, covered-range, aims-fresh}
@@ -62,7 +63,7 @@ module _ (r : ℕ) (some : r ≢ 0) (h : r ≤ 3) (n : ℕ) where
   right-given : rightOf (formOf (shape 1 1)) (words (last-pool r)) 0 0xFFFFFFFC ≡ r
   right-given =
       page-done-finished last r (last-page r some h) (omega arith) .rights 0 0xFFFFFFFC (omega arith) (omega arith)
-      ∙ aims-fresh (shape 1 1) (paintOf last r) 0 0xFFFFFFFC (omega arith) (omega arith)
+      ∙ aims-fresh (shape 1 1) last r 0 0xFFFFFFFC (omega arith) (omega arith)
 
   is-cut : n < 1026 → Always (Sets 1 1 0xFFFFFFFC 4 r n) (λ a q. AnsweredCut a)
   unfolding regionOf
@@ -73,10 +74,11 @@ module _ (r : ℕ) (some : r ≢ 0) (h : r ≤ 3) (n : ℕ) where
       always-change (in-order last asked (cut (fresh-settled (shape 1 1)) x c)) refl
 
 -- With the right 0 nothing changes.
-still : Finished (formOf (shape 1 1)) (words fresh) (aims (shape 1 1) 0 (paintOf last 0) (words fresh)) (words fresh)
+still : Finished (formOf (shape 1 1)) (words fresh) (aimedAt (shape 1 1) (changeAim 0 last 0) (words fresh))
+    (words fresh)
 still = finished-same (formOf (shape 1 1)) (words fresh) (rightOf (formOf (shape 1 1)) (words fresh)) _
     (λ d a bd ba. fresh-right (shape 1 1) d a bd
-    ∙ sym (aims-fresh (shape 1 1) (paintOf last 0) d a bd bd ∙ either (covered last a)))
+    ∙ sym (aims-fresh (shape 1 1) last 0 d a bd bd ∙ either (covered last a)))
     (settled-finished (formOf (shape 1 1)) (fresh-settled (shape 1 1)))
   where
     either : (b : Bool) → _≡_ {A = ℕ} (cond b 0 0) 0

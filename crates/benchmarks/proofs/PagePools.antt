@@ -19,10 +19,11 @@ use Rattle.table.specs.Wants.{wantsOf, saidOf}
 use Rattle.table.specs.Fresh.{freshPool}
 use Rattle.table.proofs.WantLaws.{wants-says, none-rights, painted-rights}
 use Rattle.table.proofs.FreshWordLaws.{fresh-settled}
-use Rattle.plan.specs.Aims.{aims}
+use Rattle.targets.specs.Paints.{region}
+use Rattle.plan.specs.Aims.{changeAim, aimedAt}
 use Rattle.change.specs.declared.Answer.the-variants.{Done}
 use Rattle.change.specs.Cuts.{differing}
-use Rattle.change.specs.Answers.{paintOf, IsCut, Asked}
+use Rattle.change.specs.Answers.{IsCut, Asked}
 use Rattle.benchmarks.specs.Rows.{shape, Sets}
 use Rattle.benchmarks.proofs.RowLaws.{fresh-fits, in-range, aims-fresh, change-done, change-cut, listed}
 use Rattle.benchmarks.proofs.RowLaws.{listed-long, listed-words}
@@ -64,10 +65,10 @@ module _ {L low : ℕ} (g : Region) (r : ℕ) {a0 c0 w : ℕ} (o : OnePage L low
         ∙ sym (fresh-fits (shape 1 L) (in-range 1 L (omega arith) hl) .long)
 
     pub page-done-finished : Finished (formOf (shape 1 L)) (words (freshPool (shape 1 L)))
-        (aims (shape 1 L) 0 (paintOf g r) (words (freshPool (shape 1 L)))) (words (pagePool L low a0 w))
+        (aimedAt (shape 1 L) (changeAim 0 g r) (words (freshPool (shape 1 L)))) (words (pagePool L low a0 w))
     page-done-finished = finished-words (formOf (shape 1 L)) _ _ (λ j. sym (page-word j))
         (finished-same (formOf (shape 1 L)) _ (λ d. painted g r) _
-        (λ d a bd ba. sym (aims-fresh (shape 1 L) (paintOf g r) d a bd bd)) (page-finished o))
+        (λ d a bd ba. sym (aims-fresh (shape 1 L) g r d a bd bd)) (page-finished o))
 
     module _ (start len : ℕ) (hr : r ≤ 3) (e : regionOf start len ≡ Covers g) where
       pub page-asked : Asked (freshPool (shape 1 L)) (shape 1 L) 0 start len r g
@@ -87,7 +88,7 @@ module _ {L low : ℕ} (g : Region) (r : ℕ) {a0 c0 w : ℕ} (o : OnePage L low
           (pagePool L low a0 w) k page-done-finished page-long d h
 
       pub page-cut : (n k : ℕ) → differing (freshPool (shape 1 L)) (pagePool L low a0 w) ≡ k → n < k → (x : List ℕ)
-          × IsCut (shape 1 L) 0 (paintOf g r) (freshPool (shape 1 L)) n x
+          × IsCut (shape 1 L) (changeAim 0 g r) (freshPool (shape 1 L)) n x
       page-cut n k d h =
           change-cut (freshPool (shape 1 L)) (shape 1 L) 0 start len r n g page-asked (fresh-settled (shape 1 L))
           (pagePool L low a0 w) page-done-finished page-long (rw d h)

@@ -13,12 +13,11 @@ use Rattle.theory.specs.Finished.{Finished}
 use Rattle.words.specs.Rights.{rightAt, goodRights}
 use Rattle.table.specs.Shape.{Fits, maxLeaves}
 use Rattle.table.specs.Map.{addresses, formOf}
-use Rattle.plan.specs.Aims.{aims}
+use Rattle.plan.specs.Aims.{noAim, aimedAt}
 use Rattle.change.specs.declared.Answer.the-variants.{Done}
 use Rattle.change.specs.Cuts.{differing}
-use Rattle.change.specs.Answers.{noPaint, Tidies}
+use Rattle.change.specs.Answers.{Tidies}
 use Rattle.change.proofs.DifferLaws.{differing-set, differing-self}
-use Rattle.change.proofs.TidyGoalLaws.{aims-none}
 use Rattle.benchmarks.specs.Rows.{shape}
 use Rattle.benchmarks.proofs.RowLaws.{in-range, tidy-done}
 use Rattle.benchmarks.proofs.FlatLaws.{flat-finished, flat-right}
@@ -47,14 +46,14 @@ module _ (L : ℕ) (p : List ℕ) (long : length p ≡ 2048 + 64 * L) (o : OneTa
 
   module _ (rights : (a : ℕ) → a < addresses
       → rightAt (words tidied (a / 4194304 % 1024)) (a / 524288 % 8) ≡ rightOf (formOf (shape 1 L)) (words p) 0 a) where
-    tidied-finished : Finished (formOf (shape 1 L)) (words p) (aims (shape 1 L) 0 noPaint (words p)) (words tidied)
-    tidied-finished = flat-finished (shape 1 L) (words tidied) flat (words p) (aims (shape 1 L) 0 noPaint (words p))
+    tidied-finished : Finished (formOf (shape 1 L)) (words p) (aimedAt (shape 1 L) noAim (words p)) (words tidied)
+    tidied-finished = flat-finished (shape 1 L) (words tidied) flat (words p) (aimedAt (shape 1 L) noAim (words p))
         (λ d a bd ba.
         let i : 1024 * d + a / 4194304 % 1024 ≡ a / 4194304 % 1024 = omega arith in
         let z : d ≡ 0 = omega arith in
         flat-right (shape 1 L) (words tidied) flat d a bd ∙ ap (λ j. rightAt (words tidied j) (a / 524288 % 8)) i
         ∙ rights a ba
-        ∙ ap (λ e. rightOf (formOf (shape 1 L)) (words p) e a) (sym z) ∙ sym (aims-none (shape 1 L) 0 (words p) d a))
+        ∙ ap (λ e. rightOf (formOf (shape 1 L)) (words p) e a) (sym z))
         (λ j h. getD-set-other p 0 j w 0 (λ e. omega arith))
 
     pub tidies-root : L ≤ maxLeaves → (n : ℕ) → 1 ≤ n → Tidies p (shape 1 L) n (Done 1) tidied

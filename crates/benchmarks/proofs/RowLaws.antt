@@ -26,18 +26,16 @@ use Rattle.table.specs.Map.{formOf}
 use Rattle.table.specs.Fresh.{freshPool}
 use Rattle.table.specs.Lookup.{numbers, lookupOf}
 use Rattle.table.proofs.FormLaws.{lawful, exact}
-use Rattle.table.proofs.WantLaws.{wanting}
+use Rattle.table.proofs.WantLaws.{wanting, pool-rights}
 use Rattle.table.proofs.LookupLaws.{looks-up}
 use Rattle.table.proofs.FreshWordLaws.{fresh-right}
-use Rattle.targets.specs.declared.Paint.{Paint}
-use Rattle.targets.specs.Paints.{region}
-use Rattle.plan.specs.Aims.{aims}
+use Rattle.plan.specs.Aims.{Aim, changeAim, noAim, aimedAt}
 use Rattle.change.specs.declared.Answer.{Answer}
 use Rattle.change.specs.declared.Answer.the-variants.{Done, Cut}
 use Rattle.change.specs.Cuts.{differing}
-use Rattle.change.specs.Answers.{paintOf, noPaint, IsDone, IsCut, Asked, Changes, Tidies, in-order, done, cut}
+use Rattle.change.specs.Answers.{IsDone, IsCut, Asked, Changes, Tidies, in-order, done, cut}
 use Rattle.places.proofs.Exists.{finished-fits}
-use Rattle.change.proofs.TidyGoalLaws.{fits-goal}
+use Rattle.change.proofs.GoalLaws.{SetsRights, change-sets, fits-goal}
 use Rattle.change.proofs.EndLaws.{goal-ends}
 use Rattle.change.proofs.ChangesLaws.{one-change}
 use Rattle.change.proofs.TidiesLaws.{one-tidy}
@@ -103,27 +101,27 @@ pub covered-no : (g : Region) (a : ℕ) → (g .lo ≤ a / 4 → a / 4 < g .hi �
 covered-no g a f = by-cases (covered g a) (λ e. let (x, y) = covered-range g a e in absurd (f x y)) (λ e. e)
 
 -- What a change aims at where there are no rights: the right on the covered words, and none elsewhere.
-pub aims-bare : (s : Shape) (paint : Paint) (X : ℕ → ℕ) (d a : ℕ) → d < 1 → rightOf (formOf s) X d a ≡ 0
-    → aims s 0 paint X d a ≡ cond (covered (region paint) a) (paint .right) 0
-aims-bare s paint X d a lo none =
-    ap (λ x. cond (x && covered (region paint) a) (paint .right) (rightOf (formOf s) X d a)) (eq-eqb d 0 (omega arith))
-    ∙ ap (λ x. cond (covered (region paint) a) (paint .right) x) none
+pub aims-bare : (s : Shape) (g : Region) (r : ℕ) (X : ℕ → ℕ) (d a : ℕ) → d < 1 → rightOf (formOf s) X d a ≡ 0
+    → aimedAt s (changeAim 0 g r) X d a ≡ cond (covered g a) r 0
+aims-bare s g r X d a lo none =
+    ap (λ x. cond (x && covered g a) r (rightOf (formOf s) X d a)) (eq-eqb d 0 (omega arith))
+    ∙ ap (λ x. cond (covered g a) r x) none
 
-pub aims-fresh : (s : Shape) (paint : Paint) (d a : ℕ) → d < s .domains → d < 1
-    → aims s 0 paint (words (freshPool s)) d a ≡ cond (covered (region paint) a) (paint .right) 0
-aims-fresh s paint d a bd lo = aims-bare s paint (words (freshPool s)) d a lo (fresh-right s d a bd)
+pub aims-fresh : (s : Shape) (g : Region) (r d a : ℕ) → d < s .domains → d < 1
+    → aimedAt s (changeAim 0 g r) (words (freshPool s)) d a ≡ cond (covered g a) r 0
+aims-fresh s g r d a bd lo = aims-bare s g r (words (freshPool s)) d a lo (fresh-right s d a bd)
 
 -- With an allowance that does not suffice for the finished pool there is a cut: of a change, and of a tidying.
-pub was-cut : (s : Shape) (d : ℕ) (paint : Paint) (p : List ℕ) (n : ℕ) → paint .right < 4 → Fits s (length p)
+pub was-cut : (s : Shape) (A : Aim) (p : List ℕ) (n : ℕ) → SetsRights s A p → Fits s (length p)
     → SoundPool (formOf s) (words p) → (q : List ℕ)
-    → Finished (formOf s) (words p) (aims s d paint (words p)) (words q)
-    → length q ≡ length p → n < differing p q → (x : List ℕ) × IsCut s d paint p n x
-was-cut s d paint p n low fits sound q f l h =
+    → Finished (formOf s) (words p) (aimedAt s A (words p)) (words q)
+    → length q ≡ length p → n < differing p q → (x : List ℕ) × IsCut s A p n x
+was-cut s A p n low fits sound q f l h =
     let room = finished-fits s f in
-    let (Q, kept, goal) = fits-goal s d paint p low fits sound room in
-    ⊎-elim (λ (y, z). absurd (too-many y z)) (λ c. c) (goal-ends s d paint p Q kept n goal)
+    let (Q, kept, goal) = fits-goal s A p low fits sound room in
+    ⊎-elim (λ (y, z). absurd (too-many y z)) (λ c. c) (goal-ends s A p Q kept n goal)
   where
-    too-many : (y : List ℕ) → IsDone s d paint p n y → ⊥
+    too-many : (y : List ℕ) → IsDone s A p n y → ⊥
     too-many y z =
         let same : (j : ℕ) → words y j ≡ words q j =
         one-finished (formOf s) (lawful _) (wanting _) (words p) _ (exact _) (z .finished) f in
@@ -134,27 +132,30 @@ was-cut s d paint p n low fits sound q f l h =
 -- The finished pool, and an allowance that suffices or not.
 module _ (p : List ℕ) (s : Shape) (d start len r n : ℕ) (g : Region) (asked : Asked p s d start len r g)
     (settled : Settled (formOf s) (words p)) where
-  pub change-done : (q : List ℕ) (k : ℕ) → Finished (formOf s) (words p) (aims s d (paintOf g r) (words p)) (words q)
+  pub change-done : (q : List ℕ) (k : ℕ)
+      → Finished (formOf s) (words p) (aimedAt s (changeAim d g r) (words p)) (words q)
       → length q ≡ length p → differing p q ≡ k → k ≤ n → Changes p s d start len r n (Done k) q
   change-done q k f l e h =
-      let whole : IsDone s d (paintOf g r) p n q = record { finished = f; long = l; enough = rw e h } in
+      let whole : IsDone s (changeAim d g r) p n q = record { finished = f; long = l; enough = rw e h } in
       let c : Changes p s d start len r n (Done (differing p q)) q = in-order g asked (done settled q whole) in
       rw e at c
 
-  pub change-cut : (q : List ℕ) → Finished (formOf s) (words p) (aims s d (paintOf g r) (words p)) (words q)
-      → length q ≡ length p → n < differing p q → (x : List ℕ) × IsCut s d (paintOf g r) p n x
+  pub change-cut : (q : List ℕ) → Finished (formOf s) (words p) (aimedAt s (changeAim d g r) (words p)) (words q)
+      → length q ≡ length p → n < differing p q → (x : List ℕ) × IsCut s (changeAim d g r) p n x
   change-cut q f l h =
-      let low = asked .right in was-cut s d (paintOf g r) p n (omega arith) (asked .fits) (settled .sound) q f l h
+      let low = change-sets s d g r p (let z = asked .right in omega arith) in
+      was-cut s (changeAim d g r) p n low (asked .fits) (settled .sound) q f l h
 
 -- The same of a tidying.
 module _ (p : List ℕ) (s : Shape) (n : ℕ) (fits : Fits s (length p)) (sound : SoundPool (formOf s) (words p)) where
-  pub tidy-done : (q : List ℕ) (k : ℕ) → Finished (formOf s) (words p) (aims s 0 noPaint (words p)) (words q)
+  pub tidy-done : (q : List ℕ) (k : ℕ) → Finished (formOf s) (words p) (aimedAt s noAim (words p)) (words q)
       → length q ≡ length p → differing p q ≡ k → k ≤ n → Tidies p s n (Done k) q
   tidy-done q k f l e h =
-      let whole : IsDone s 0 noPaint p n q = record { finished = f; long = l; enough = rw e h } in
+      let whole : IsDone s noAim p n q = record { finished = f; long = l; enough = rw e h } in
       let c : Tidies p s n (Done (differing p q)) q = done fits sound q whole in
       rw e at c
 
-  pub tidy-cut : (q : List ℕ) → Finished (formOf s) (words p) (aims s 0 noPaint (words p)) (words q)
+  pub tidy-cut : (q : List ℕ) → Finished (formOf s) (words p) (aimedAt s noAim (words p)) (words q)
       → length q ≡ length p → n < differing p q → (x : List ℕ) × Tidies p s n Cut x
-  tidy-cut q f l h = let (x, c) = was-cut s 0 noPaint p n (omega arith) fits sound q f l h in (x, cut fits sound x c)
+  tidy-cut q f l h = let (x, c) = was-cut s noAim p n (λ e be. pool-rights s (words p) e) fits sound q f l h in
+      (x, cut fits sound x c)

@@ -16,6 +16,7 @@ use Rattle.lookaside.specs.Slots.{slotFor, emptySlot, emptyBuffer, firstMatch, 
 use Rattle.lookaside.specs.Check.{refusalOf, checkOf}
 use Rattle.lookaside.specs.Flushes.{flushedRegion, flushedBuffer, flushedSlot, flushes, meets, pointed}
 use Rattle.lookaside.specs.Agree.{Places, nowhere, both, less}
+use Rattle.demands.specs.Series.{aimIn}
 use Rattle.demands.specs.Watched.{placesOf, altered, Watched, emptied, checked, changed, tidied, flushed-region}
 use Rattle.benchmarks.specs.Witnesses.{SomeStale, SomeTidied}
 use Rattle.benchmarks.proofs.RowLaws.{listed}
@@ -38,7 +39,7 @@ missed = refl
 
 -- The change makes its region stale.
 abbrev stale : Places
-stale = both nowhere (altered Cut (regionOf 0 528384) 0)
+stale = both nowhere (altered Cut (aimIn (regionOf 0 528384) 0 1))
 
 filled-watched : Watched one-middle middle-pool used nowhere
 filled-watched = rw (← ap (λ c. c .buffer) missed) (checked (emptied middle-pool) 0 store 4 0x1000)
@@ -59,6 +60,7 @@ abbrev left : Places
 left = less stale (placesOf (regionOf 0 528384) 0)
 
 none-left : (d a : ℕ) → left d a ≡ false
+unfolding regionOf
 none-left d a = go (placesOf (regionOf 0 528384) 0 d a)
   where
     go : (t : Bool) → (t && not t) ≡ false

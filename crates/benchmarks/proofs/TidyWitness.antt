@@ -13,10 +13,8 @@ use Rattle.words.specs.Rights.{rightAt, goodRights}
 use Rattle.words.proofs.RightsLaws.{eight-right}
 use Rattle.table.specs.Shape.{Fits}
 use Rattle.table.specs.Map.{formOf}
-use Rattle.plan.specs.Aims.{aims}
+use Rattle.plan.specs.Aims.{noAim, aimedAt}
 use Rattle.change.specs.Cuts.{differing}
-use Rattle.change.specs.Answers.{noPaint}
-use Rattle.change.proofs.TidyGoalLaws.{aims-none}
 use Rattle.benchmarks.specs.Rows.{shape}
 use Rattle.benchmarks.specs.Witnesses.{SomeTidyCut}
 use Rattle.benchmarks.proofs.RowLaws.{in-range, tidy-done, tidy-cut}
@@ -75,11 +73,11 @@ bare-right d a bd =
     ∙ ap (λ w. rightAt w (a / 524288 % 8)) (bare-word (1024 * d + a / 4194304 % 1024) (omega arith))
     ∙ eight-right 0 (a / 524288 % 8) (omega arith) (omega arith)
 
-finished : Finished (formOf (shape 2 0)) (words two-needless) (aims (shape 2 0) 0 noPaint (words two-needless))
+finished : Finished (formOf (shape 2 0)) (words two-needless) (aimedAt (shape 2 0) noAim (words two-needless))
     (words bare)
 finished = flat-finished (shape 2 0) (words bare) bare-flat (words two-needless)
-    (aims (shape 2 0) 0 noPaint (words two-needless))
-    (λ d a bd ba. bare-right d a bd ∙ sym (aims-none (shape 2 0) 0 (words two-needless) d a ∙ needless-right d a bd))
+    (aimedAt (shape 2 0) noAim (words two-needless))
+    (λ d a bd ba. bare-right d a bd ∙ sym (needless-right d a bd))
     (λ j h. sym (needless-other j (omega arith)))
 
 two-stores : differing two-needless bare ≡ 2

@@ -21,15 +21,12 @@ use Rattle.table.proofs.WantLaws.{wants-divided}
 use Rattle.table.proofs.FreshWordLaws.{fresh-right, fresh-settled}
 use Rattle.places.specs.Count.{count, Room}
 use Rattle.places.proofs.CountLaws.{count-into, count-all}
-use Rattle.places.proofs.ChangedLaws.{changed-uncovered}
 use Rattle.places.specs.Final.{blocks, domainOf, addressOf, want}
 use Rattle.places.proofs.NumberLaws.{number-first}
-use Rattle.targets.specs.declared.Paint.{Paint}
-use Rattle.targets.specs.Paints.{region}
-use Rattle.plan.specs.Aims.{aims}
-use Rattle.plan.proofs.AimLaws.{aims-covered, aims-other}
-use Rattle.change.specs.Answers.{paintOf, IsDone}
-use Rattle.change.proofs.TidyGoalLaws.{fits-goal}
+use Rattle.plan.proofs.AimLaws.{aimed-covered, aimed-other, change-misses}
+use Rattle.plan.specs.Aims.{Aim, changeAim, aimedAt}
+use Rattle.change.specs.Answers.{IsDone}
+use Rattle.change.proofs.GoalLaws.{change-sets, fits-goal}
 use Rattle.benchmarks.specs.Witnesses.{SomeSettled}
 use Rattle.benchmarks.proofs.RowLaws.{fresh-fits, covered-no}
 use Rattle.benchmarks.proofs.AllowanceLaws.{enough-done}
@@ -82,8 +79,9 @@ module _ (R : ℕ → ℕ → ℕ) (none : (d b : ℕ) → d < 2 → b < address
   fits-two : Room two R
   fits-two = record { middles = fit 1 (omega arith); leaves = fit 0 (omega arith) }
 
-abbrev paint : Paint
-paint = paintOf here 2
+-- The change of a domain.
+abbrev aim : ℕ → Aim
+aim d = changeAim d here 2
 
 -- A pool whose rights are none elsewhere; the same of the pool after the change of a domain.
 pub record Begun (p : List ℕ) : Type 0 where
@@ -92,16 +90,16 @@ pub record Begun (p : List ℕ) : Type 0 where
   pub none : (e b : ℕ) → e < 2 → b < addresses → covered here b ≡ false → rightOf F (words p) e b ≡ 0
 
 aims-none : (p : List ℕ) → Begun p → (d e b : ℕ) → e < 2 → b < addresses → covered here b ≡ false
-    → aims two d paint (words p) e b ≡ 0
-aims-none p o d e b be bb n = changed-uncovered (rightOf F (words p)) d (region paint) 2 e b n ∙ o .none e b be bb n
+    → aimedAt two (aim d) (words p) e b ≡ 0
+aims-none p o d e b be bb n = aimed-other two (aim d) (words p) e b (change-misses d here 2 e b n) ∙ o .none e b be bb n
 
-next : (p : List ℕ) → Begun p → (d : ℕ) → (q : List ℕ) × IsDone two d paint p (length p) q
+next : (p : List ℕ) → Begun p → (d : ℕ) → (q : List ℕ) × IsDone two (aim d) p (length p) q
 next p o d =
-    let (Q, kept, g) = fits-goal two d paint p (omega arith) (o .fits) (o .settled .sound)
-    (fits-two (aims two d paint (words p)) (aims-none p o d)) in
-    enough-done two d paint p Q kept g
+    let (Q, kept, g) = fits-goal two (aim d) p (change-sets two d here 2 p (omega arith)) (o .fits) (o .settled .sound)
+    (fits-two (aimedAt two (aim d) (words p)) (aims-none p o d)) in
+    enough-done two (aim d) p Q kept g
 
-begun : (p : List ℕ) → Begun p → (d : ℕ) (q : List ℕ) → IsDone two d paint p (length p) q → Begun q
+begun : (p : List ℕ) → Begun p → (d : ℕ) (q : List ℕ) → IsDone two (aim d) p (length p) q → Begun q
 begun p o d q f = record {
   fits = rw (f .long) (o .fits);
   settled = f .finished .settled;
@@ -128,13 +126,12 @@ some-settled =
     let (q, g) = next p o 1 in
     let z = begun p o 1 q g in
     let first : rightOf F (words q) 0 0x1000 ≡ 2 =
-    g .finished .rights 0 0x1000 (omega arith) (omega arith) ∙ aims-other two 1 paint (words p) 0 0x1000
-    (λ c. other (c .0))
-    ∙ f .finished .rights 0 0x1000 (omega arith) (omega arith) ∙ aims-covered two 0 paint
-    (words (freshPool two)) 0 0x1000 (refl, refl) in
+    g .finished .rights 0 0x1000 (omega arith) (omega arith) ∙ aimed-other two (aim 1) (words p) 0 0x1000 refl
+    ∙ f .finished .rights 0 0x1000 (omega arith) (omega arith) ∙ aimed-covered two (aim 0)
+    (words (freshPool two)) 0 0x1000 refl in
     let second : rightOf F (words q) 1 0x1000 ≡ 2 =
-    g .finished .rights 1 0x1000 (omega arith) (omega arith) ∙ aims-covered two 1 paint (words p) 1 0x1000
-    (refl, refl) in
+    g .finished .rights 1 0x1000 (omega arith) (omega arith) ∙ aimed-covered two (aim 1) (words p) 1 0x1000
+    refl in
     let rights : (d : ℕ) → d < 2 → rightOf F (words q) d 0x1000 ≡ 2 = λ d h. elim (ℕ-discrete d 0) [
       | yes e ↦ rw e first
       | no n ↦ (let e : d ≡ 1 = omega arith in rw e second)
@@ -149,9 +146,6 @@ some-settled =
       leaf = λ d h. (0x1000, has q z d 0 h (omega arith) (rights d h));
     }
   where
-    other : _≡_ {A = ℕ} 0 1 → ⊥
-    other e = omega arith
-
     differ : {x y : ℕ} → x ≡ 2 → y ≡ 0 → x ≢ y
     differ a b e = omega arith
 

@@ -15,7 +15,7 @@ use Rattle.table.specs.Shape.{Fits}
 use Rattle.table.specs.Map.{addresses, formOf}
 use Rattle.table.specs.Access.{store}
 use Rattle.targets.specs.declared.Paint.{Paint}
-use Rattle.plan.specs.Aims.{Covered}
+use Rattle.plan.specs.Aims.{aimOf}
 use Rattle.change.specs.declared.Answer.the-variants.{Done, Cut, Refused}
 use Rattle.change.specs.Cuts.{Due}
 use Rattle.change.specs.Answers.{IsCut, Changes, Tidies}
@@ -57,10 +57,10 @@ pub record SomeCut : Type 0 where
   pub stores : ℕ
   pub pool : List ℕ
   pub some : 0 < stores
-  pub cut : IsCut shape domain paint old stores pool
+  pub cut : IsCut shape (aimOf domain paint) old stores pool
   pub word : ℕ
   pub address : word < addresses
-  pub covers : Covered domain paint domain word
+  pub covers : aimOf domain paint .covers domain word ≡ true
   pub had-not : rightOf (formOf shape) (words old) domain word ≢ paint .right
   pub has : rightOf (formOf shape) (words pool) domain word ≡ paint .right
 
@@ -84,7 +84,7 @@ pub record SomeDue (kind : Kind) : Type 0 where
   pub pool : List ℕ
   pub word : ℕ
   pub value : ℕ
-  pub due : Due shape domain paint pool word value
+  pub due : Due shape (aimOf domain paint) pool word value
   pub is : kindOf (due .next) ≡ kind
 
 -- A buffer in use, nowhere stale, that agrees with its table; and a slot of it answers.

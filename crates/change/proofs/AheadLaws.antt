@@ -15,11 +15,11 @@ use Rattle.words.specs.Rights.{rightAt, eightOf}
 use Rattle.table.specs.declared.Shape.{Shape}
 use Rattle.table.specs.Shape.{Fits}
 use Rattle.table.specs.Map.{leads, zone}
-use Rattle.targets.specs.declared.Paint.{Paint}
 use Rattle.plan.specs.declared.Edge.{Edge}
 use Rattle.plan.specs.declared.Plan.{Plan}
 use Rattle.plan.specs.Plan.{isLead, isNew, InTable, tableOf, rootAfter, pageAfter, after, newWord, PlanFits}
 use Rattle.plan.specs.Goals.{Planned}
+use Rattle.plan.specs.Aims.{Aim}
 use Rattle.change.specs.Runs.{phases, At}
 use Rattle.change.specs.declared.ahead.Span.{Span}
 use Rattle.change.specs.Ahead.{Ahead, Outside, Untouched, RootIdle, MiddleIdle, LeafIdle, NotNew, KeptIdle}
@@ -202,11 +202,11 @@ module _ (q : Plan) (j : ℕ) where
   new-idle a b c d = rw (a, b, c, d) refl
 
 -- A run passes over words that are idle in its phase.
-pub at-ahead : {s : Shape} {d : ℕ} {paint : Paint} {q : Plan} {old : List ℕ} {Q : ℕ → ℕ} {kept : ℕ
+pub at-ahead : {s : Shape} {A : Aim} {q : Plan} {old : List ℕ} {Q : ℕ → ℕ} {kept : ℕ
     → Bool} {n c i k left : ℕ} {x : List ℕ}
-    → Planned s d paint q old Q kept → i ≤ k → ((j : ℕ) → i ≤ j → j < k → Idle q c j)
-    → At s d paint old Q kept n c i x left
-    → At s d paint old Q kept n c k x left
+    → Planned s A q old Q kept → i ≤ k → ((j : ℕ) → i ≤ j → j < k → Idle q c j)
+    → At s A old Q kept n c i x left
+    → At s A old Q kept n c k x left
 at-ahead {s = s} {q = q} {old = old} {Q = Q} {kept = kept} {c = c} {i = i} {k = k} p h idle a = at-pass i k h passes a
   where
     other : (j : ℕ) → newWord q j ≡ not (eqb c 2) → j < length old → Q j ≢ words old j → phases s old kept j ≢ c

@@ -8,7 +8,7 @@ use Rattle.words.specs.declared.Region.{Region}
 use Rattle.words.specs.declared.Rounded.the-variants.{Covers, Refused as NoRegion}
 use Rattle.table.specs.declared.Shape.{Shape}
 use Rattle.places.proofs.Exists.{finished-fits}
-use Rattle.targets.specs.declared.Paint.{Paint}
+use Rattle.plan.specs.Aims.{Aim}
 use Rattle.change.specs.declared.Answer.{Answer}
 use Rattle.change.specs.declared.Answer.the-variants.{Done, Refused}
 use Rattle.change.specs.Cuts.{differing}
@@ -18,9 +18,9 @@ use Rattle.change.proofs.DoneLaws.{one-done, done-not-cut}
 use Rattle.change.proofs.ReachedLaws.{one-cut}
 use Rattle.change.proofs.TidiesLaws.{Agree}
 
-one-from-6 : {p : List ℕ} {s : Shape} {d : ℕ} {paint : Paint} {n : ℕ} {a b : Answer} {x y : List ℕ}
-    → ChangesRegion p s d paint n a x
-    → ChangesRegion p s d paint n b y → Agree a x b y
+one-from-6 : {p : List ℕ} {s : Shape} {A : Aim} {n : ℕ} {a b : Answer} {x y : List ℕ}
+    → ChangesRegion p s A n a x
+    → ChangesRegion p s A n b y → Agree a x b y
 one-from-6 (unsound f) (unsound g) = (refl, refl)
 one-from-6 (unsound f) (unsettled g h) = absurd (f g)
 one-from-6 (unsound f) (no-room g h) = absurd (f (g .sound))

@@ -25,14 +25,12 @@ use Rattle.table.specs.declared.Shape.{Shape}
 use Rattle.table.specs.Map.{addresses, formOf}
 use Rattle.table.proofs.FormLaws.{lawful, exact}
 use Rattle.table.proofs.WantLaws.{wanting}
-use Rattle.targets.specs.declared.Paint.{Paint}
-use Rattle.targets.specs.Paints.{region}
-use Rattle.plan.specs.Aims.{aims, Covered}
+use Rattle.plan.specs.Aims.{Aim, aimedAt}
 use Rattle.change.specs.Cuts.{differing, CutAt, Due}
-use Rattle.plan.proofs.AimLaws.{aims-covered, aims-other, covered-or}
+use Rattle.plan.proofs.AimLaws.{aimed-covered, aimed-other}
 use Rattle.change.proofs.DifferLaws.{differing-set}
 
-module _ (s : Shape) (d : ℕ) (paint : Paint) {x : List ℕ} {k v : ℕ} (due : Due s d paint x k v) where
+module _ (s : Shape) (A : Aim) {x : List ℕ} {k v : ℕ} (due : Due s A x k v) where
   abbrev after-it : List ℕ
   after-it = set x k v
 
@@ -57,25 +55,24 @@ module _ (s : Shape) (d : ℕ) (paint : Paint) {x : List ℕ} {k v : ℕ} (due :
   ]
 
   -- Elsewhere the right stays.
-  other : (e a : ℕ) → e < s .domains → a < addresses → (Covered d paint e a → ⊥) → rightOf (formOf s) (words after-it)
+  other : (e a : ℕ) → e < s .domains → a < addresses → A .covers e a ≡ false → rightOf (formOf s) (words after-it)
       e a ≡ rightOf (formOf s) (words x) e a
-  other e a be ba n = ⊎-elim (λ q. q) (λ q. q ∙ due .finished .rights e a be ba ∙ aims-other s d paint (words x) e a
+  other e a be ba n = ⊎-elim (λ q. q) (λ q. q ∙ due .finished .rights e a be ba ∙ aimed-other s A (words x) e a
       n) (safe .rights e a be ba)
 
-  same-aims : (e a : ℕ) → e < s .domains → a < addresses → aims s d paint (words x) e a
-      ≡ aims s d paint (words after-it) e a
-  same-aims e a be ba = ⊎-elim
-      (λ c. aims-covered s d paint (words x) e a c ∙ sym (aims-covered s d paint (words after-it) e a c))
-      (λ n. aims-other s d paint (words x) e a n ∙ sym (other e a be ba n)
-      ∙ sym (aims-other s d paint (words after-it) e a n))
-      (covered-or d paint e a)
+  same-aims : (e a : ℕ) → e < s .domains → a < addresses → aimedAt s A (words x) e a
+      ≡ aimedAt s A (words after-it) e a
+  same-aims e a be ba = by-cases (A .covers e a)
+      (λ c. aimed-covered s A (words x) e a c ∙ sym (aimed-covered s A (words after-it) e a c))
+      (λ n. aimed-other s A (words x) e a n ∙ sym (other e a be ba n)
+      ∙ sym (aimed-other s A (words after-it) e a n))
 
   -- The change from after the store finishes where the change from before it did.
-  pub due-again : Finished (formOf s) (words after-it) (aims s d paint (words after-it)) (due .goal)
+  pub due-again : Finished (formOf s) (words after-it) (aimedAt s A (words after-it)) (due .goal)
   due-again = finished-same (formOf s) _ _ _ same-aims
       (finished-stays (formOf s) (lawful _) (exact _) (due .sound) (due .finished) mixed word)
 
-  pub put-cuts : (old : List ℕ) (n : ℕ) → CutAt s d paint old n x → CutAt s d paint old (n + 1) (set x k v)
+  pub put-cuts : (old : List ℕ) (n : ℕ) → CutAt s A old n x → CutAt s A old (n + 1) (set x k v)
   put-cuts old n c = record {
     goal = c .goal;
     finished = c .finished;
@@ -85,14 +82,14 @@ module _ (s : Shape) (d : ℕ) (paint : Paint) {x : List ℕ} {k v : ℕ} (due :
     sound = safe .sound;
     covered = λ e a be ba z. ⊎-elim
         (λ q. ⊎-elim (λ y. inl (q ∙ y)) (λ y. inr (q ∙ y)) (c .covered e a be ba z))
-        (λ q. inr (q ∙ due .finished .rights e a be ba ∙ aims-covered s d paint (words x) e a z))
+        (λ q. inr (q ∙ due .finished .rights e a be ba ∙ aimed-covered s A (words x) e a z))
         (safe .rights e a be ba);
     others = λ e a be ba n. other e a be ba n ∙ c .others e a be ba n;
     again = finished-words (formOf s) _ _ same due-again;
   }
     where
       same : (j : ℕ) → due .goal j ≡ c .goal j
-      same = one-finished (formOf s) (lawful _) (wanting _) (words x) (aims s d paint (words x)) (exact _)
+      same = one-finished (formOf s) (lawful _) (wanting _) (words x) (aimedAt s A (words x)) (exact _)
           (due .finished) (c .again)
 
       was : words x k ≡ words old k

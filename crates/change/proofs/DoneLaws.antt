@@ -10,20 +10,19 @@ use Rattle.table.specs.declared.Shape.{Shape}
 use Rattle.table.specs.Map.{formOf}
 use Rattle.table.proofs.FormLaws.{lawful, exact}
 use Rattle.table.proofs.WantLaws.{wanting}
-use Rattle.targets.specs.declared.Paint.{Paint}
-use Rattle.plan.specs.Aims.{aims}
+use Rattle.plan.specs.Aims.{Aim, aimedAt}
 use Rattle.change.specs.Answers.{IsDone, IsCut}
 
-module _ {s : Shape} {d : ℕ} {paint : Paint} {p : List ℕ} {n : ℕ} where
-  pub one-done : {q x : List ℕ} → IsDone s d paint p n q → IsDone s d paint p n x → q ≡ x
+module _ {s : Shape} {A : Aim} {p : List ℕ} {n : ℕ} where
+  pub one-done : {q x : List ℕ} → IsDone s A p n q → IsDone s A p n x → q ≡ x
   one-done {q} {x} a b = ext-getD 0 q x (a .long ∙ sym (b .long)) (λ j h.
-      one-finished (formOf s) (lawful _) (wanting _) (words p) (aims s d paint (words p)) (exact _)
+      one-finished (formOf s) (lawful _) (wanting _) (words p) (aimedAt s A (words p)) (exact _)
       (a .finished) (b .finished) j)
 
-  pub done-not-cut : {q x : List ℕ} → IsDone s d paint p n q → IsCut s d paint p n x → ⊥
+  pub done-not-cut : {q x : List ℕ} → IsDone s A p n q → IsCut s A p n x → ⊥
   done-not-cut {q} {x} a b =
       let z = b .more q (a .long)
-      (one-finished (formOf s) (lawful _) (wanting _) (words p) (aims s d paint (words p)) (exact _)
+      (one-finished (formOf s) (lawful _) (wanting _) (words p) (aimedAt s A (words p)) (exact _)
       (a .finished) (b .cut .finished)) in
       let y = a .enough in
       omega arith

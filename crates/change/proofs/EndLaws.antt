@@ -25,25 +25,25 @@ use Rattle.table.proofs.ShapeLaws.{test-fits, fits-test}
 use Rattle.table.proofs.FormLaws.{lawful, exact}
 use Rattle.table.proofs.WantLaws.{wanting}
 use Rattle.places.proofs.Exists.{fits-dec}
-use Rattle.targets.specs.declared.Paint.{Paint}
-use Rattle.plan.specs.Aims.{aims, Goal}
+use Rattle.targets.specs.Paints.{region}
+use Rattle.plan.specs.Aims.{Aim, changeAim, noAim, aimedAt, Goal}
 use Rattle.change.specs.declared.Answer.{Answer}
 use Rattle.change.specs.Runs.{phases, At}
-use Rattle.change.specs.Answers.{noPaint, paintOf, IsDone, IsCut, ChangesRegion, Changes, Tidies}
+use Rattle.change.specs.Answers.{IsDone, IsCut, ChangesRegion, Changes, Tidies}
 use Rattle.change.specs.Answers.{no-shape, no-domain, no-right, no-region, in-order, unsound, unsettled}
 use Rattle.change.specs.Answers.{no-room, done, cut}
 use Rattle.change.proofs.State.{at-skip, at-store, at-long}
 use Rattle.change.proofs.StateLaws.{at-begin, at-turn, at-end}
 use Rattle.change.proofs.OutcomeLaws.{outcome-done, outcome-cut}
-use Rattle.change.proofs.TidyGoalLaws.{fits-goal, tidy-goal, tidy-finished}
+use Rattle.change.proofs.GoalLaws.{SetsRights, change-sets, fits-goal, tidy-goal}
 
-module _ (s : Shape) (d : ℕ) (paint : Paint) (old : List ℕ) (Q : ℕ → ℕ) (kept : ℕ → Bool) (n : ℕ) where
+module _ (s : Shape) (A : Aim) (old : List ℕ) (Q : ℕ → ℕ) (kept : ℕ → Bool) (n : ℕ) where
   -- A run that stands at word `k` of phase `c`.
   abbrev Stands : ℕ → ℕ → Type 0
-  Stands c k = (x : List ℕ) × (left : ℕ) × At s d paint old Q kept n c k x left
+  Stands c k = (x : List ℕ) × (left : ℕ) × At s A old Q kept n c k x left
 
   abbrev WasCut : Type 0
-  WasCut = (x : List ℕ) × IsCut s d paint old n x
+  WasCut = (x : List ℕ) × IsCut s A old n x
 
   -- It comes to the next word, or is cut here ..
   turn-ends : (c k : ℕ) → k < length old → Stands c k → Stands c (k + 1) ⊎ WasCut
@@ -55,9 +55,9 @@ module _ (s : Shape) (d : ℕ) (paint : Paint) (old : List ℕ) (Q : ℕ → ℕ
     ]
   ]
     where
-      stores : (l : ℕ) → At s d paint old Q kept n c k x l → Q k ≢ words x k → phases s old kept k ≡ c
+      stores : (l : ℕ) → At s A old Q kept n c k x l → Q k ≢ words x k → phases s old kept k ≡ c
           → Stands c (k + 1) ⊎ WasCut
-      stores zero b z y = inr (x, outcome-cut s d paint old Q kept n c k x b (let i = at-long b in omega arith) z)
+      stores zero b z y = inr (x, outcome-cut s A old Q kept n c k x b (let i = at-long b in omega arith) z)
       stores (suc l) b z y = inl (set x k (Q k), l, at-store b l (omega arith) (let i = at-long b in omega arith) z y)
 
   -- .. and so to the end of the phase.
@@ -70,11 +70,11 @@ module _ (s : Shape) (d : ℕ) (paint : Paint) (old : List ℕ) (Q : ℕ → ℕ
   next-phase c (inl a) = ⊎-elim (λ (x, left, b). inl (x, left, at-turn c b)) inr
       (phase-ends c (length old) 0 (omega arith) a)
 
-  pub goal-ends : Goal s d paint old Q kept → ((q : List ℕ) × IsDone s d paint old n q) ⊎ WasCut
+  pub goal-ends : Goal s A old Q kept → ((q : List ℕ) × IsDone s A old n q) ⊎ WasCut
   goal-ends g = ⊎-elim
       (λ (x, left, a). inl (
         x,
-        outcome-done s d paint old Q kept x n left g (at-long a) (at-end (omega arith) a)
+        outcome-done s A old Q kept x n left g (at-long a) (at-end (omega arith) a)
             (ap (λ t. left + t) (a .cut .count) ∙ a .sum),
       ))
       inr
@@ -104,14 +104,14 @@ same-or P Q (suc n) = ⊎-elim
 settled-or : (s : Shape) (p : List ℕ) → Fits s (length p) → SoundPool (formOf s) (words p)
     → Settled (formOf s) (words p) ⊎ (Settled (formOf s) (words p) → ⊥)
 settled-or s p f sP =
-    let (Q, kept, g) = tidy-goal s 0 p f sP in
+    let (Q, kept, g) = tidy-goal s p f sP in
     ⊎-elim
     (λ all. inl (finished-words (formOf s) (words p) _ {Q = Q} (λ j. elim (decLt j (length p)) [
       | yes h ↦ all j h
       | no h ↦ g .beyond j (omega arith)
     ]) (g .finished) .settled))
     (λ (j, z). inr (λ t. z (one-finished (formOf s) (lawful _) (wanting _) (words p) _ (exact _)
-    (tidy-finished s 0 (words p) (g .finished)) (settled-finished (formOf s) t) j)))
+    (g .finished) (settled-finished (formOf s) t) j)))
     (same-or (words p) Q (length p))
 
 -- An outcome of a tidying.
@@ -120,21 +120,21 @@ tidy-ends p s n = by-cases (fitsOf s (length p))
     (λ e.
     let f = test-fits s (length p) e in
     ⊎-elim
-    (λ sP. let (Q, kept, g) = tidy-goal s 0 p f sP in
-    ⊎-elim (λ (q, x). (_, q, done f sP q x)) (λ (x, y). (_, x, cut f sP x y)) (goal-ends s 0 noPaint p Q kept n g))
+    (λ sP. let (Q, kept, g) = tidy-goal s p f sP in
+    ⊎-elim (λ (q, x). (_, q, done f sP q x)) (λ (x, y). (_, x, cut f sP x y)) (goal-ends s noAim p Q kept n g))
     (λ u. (_, p, unsound f u))
     (sound-or s (words p)))
     (λ e. (_, p, no-shape (λ f. true≢false (sym (fits-test s (length p) f) ∙ e))))
 
 -- An outcome of a change, from refusal 6 on ..
-pub region-ends : (p : List ℕ) (s : Shape) (d : ℕ) (paint : Paint) (n : ℕ) → Fits s (length p) → paint .right < 4
-    → (a : Answer) × (q : List ℕ) × ChangesRegion p s d paint n a q
-region-ends p s d paint n f r = ⊎-elim
+pub region-ends : (p : List ℕ) (s : Shape) (A : Aim) (n : ℕ) → Fits s (length p) → SetsRights s A p
+    → (a : Answer) × (q : List ℕ) × ChangesRegion p s A n a q
+region-ends p s A n f r = ⊎-elim
     (λ sP. ⊎-elim
-    (λ t. elim (fits-dec s (aims s d paint (words p))) [
+    (λ t. elim (fits-dec s (aimedAt s A (words p))) [
       | yes room ↦
-          (let (Q, kept, g) = fits-goal s d paint p r f sP room in
-          ⊎-elim (λ (q, x). (_, q, done t q x)) (λ (x, y). (_, x, cut t x y)) (goal-ends s d paint p Q kept n g))
+          (let (Q, kept, g) = fits-goal s A p r f sP room in
+          ⊎-elim (λ (q, x). (_, q, done t q x)) (λ (x, y). (_, x, cut t x y)) (goal-ends s A p Q kept n g))
       | no full ↦ (_, p, no-room t full)
     ])
     (λ u. (_, p, unsettled sP u))
@@ -161,5 +161,5 @@ change-ends p s d start len r n = by-cases (fitsOf s (length p))
         → (a : Answer) × (q : List ℕ) × Changes p s d start len r n a q
     from-4 f bd br (NoRegion k) e = (_, p, no-region f bd br k e)
     from-4 f bd br (Covers g) e =
-        let (a, q, c) = region-ends p s d (paintOf g r) n f (omega arith) in
+        let (a, q, c) = region-ends p s (changeAim d g r) n f (change-sets s d g r p (omega arith)) in
         (a, q, in-order g (record { fits = f; domain = bd; right = br; region = e }) c)

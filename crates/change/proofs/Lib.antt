@@ -11,7 +11,7 @@ pub mod RegionLaws
 pub mod DoneLaws
 pub mod ReachedLaws
 pub mod TidyLaws
-pub mod TidyGoalLaws
+pub mod GoalLaws
 pub mod TidyWordLaws
 pub mod TidyingLaws
 pub mod TidyAimLaws

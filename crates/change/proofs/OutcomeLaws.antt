@@ -14,19 +14,18 @@ use Rattle.table.specs.declared.Shape.{Shape}
 use Rattle.table.specs.Map.{formOf}
 use Rattle.table.proofs.FormLaws.{lawful, exact}
 use Rattle.table.proofs.WantLaws.{wanting}
-use Rattle.targets.specs.declared.Paint.{Paint}
-use Rattle.plan.specs.Aims.{aims, Goal}
+use Rattle.plan.specs.Aims.{Aim, aimedAt, Goal}
 use Rattle.change.specs.Cuts.{differing, CutAt}
 use Rattle.theory.specs.Phase.{midway}
 use Rattle.change.specs.Runs.{phases, At}
 use Rattle.change.specs.Answers.{OnTheWay, IsCut, IsDone}
 use Rattle.change.proofs.DifferLaws.{differing-less}
 
-module _ (s : Shape) (d : ℕ) (paint : Paint) (old : List ℕ) where
+module _ (s : Shape) (A : Aim) (old : List ℕ) where
   -- A pool that is the goal word by word is the finished one.
-  pub outcome-done : (Q : ℕ → ℕ) (kept : ℕ → Bool) (y : List ℕ) (n left : ℕ) → Goal s d paint old Q kept → length y
+  pub outcome-done : (Q : ℕ → ℕ) (kept : ℕ → Bool) (y : List ℕ) (n left : ℕ) → Goal s A old Q kept → length y
       ≡ length old
-      → ((j : ℕ) → words y j ≡ Q j) → left + differing old y ≡ n → IsDone s d paint old n y
+      → ((j : ℕ) → words y j ≡ Q j) → left + differing old y ≡ n → IsDone s A old n y
   outcome-done Q kept y n left g l e c = record {
     finished = finished-words (formOf s) _ _ (λ j. sym (e j)) (g .finished);
     long = l;
@@ -34,17 +33,17 @@ module _ (s : Shape) (d : ℕ) (paint : Paint) (old : List ℕ) where
   }
 
   -- Every cut of the change has the same goal.
-  pub one-goal : {n : ℕ} {x : List ℕ} (Q : ℕ → ℕ) → Finished (formOf s) (words old) (aims s d paint (words old)) Q
-      → (c : CutAt s d paint old n x)
+  pub one-goal : {n : ℕ} {x : List ℕ} (Q : ℕ → ℕ) → Finished (formOf s) (words old) (aimedAt s A (words old)) Q
+      → (c : CutAt s A old n x)
       → (j : ℕ) → c .goal j ≡ Q j
-  one-goal Q f c = one-finished (formOf s) (lawful _) (wanting _) (words old) (aims s d paint (words old))
+  one-goal Q f c = one-finished (formOf s) (lawful _) (wanting _) (words old) (aimedAt s A (words old))
       (exact _) (c .finished) f
 
   -- A run that stands before a word that is to change was cut.
-  cut-here : (Q : ℕ → ℕ) (kept : ℕ → Bool) (n c k : ℕ) (x : List ℕ) → Goal s d paint old Q kept
-      → (cut : CutAt s d paint old n x)
+  cut-here : (Q : ℕ → ℕ) (kept : ℕ → Bool) (n c k : ℕ) (x : List ℕ) → Goal s A old Q kept
+      → (cut : CutAt s A old n x)
       → ((j : ℕ) → words x j ≡ midway (words old) Q (phases s old kept) c k j) → k < length x → Q k ≢ words x k
-      → IsCut s d paint old n x
+      → IsCut s A old n x
   cut-here Q kept n c k x g cut pool h w =
       let same = one-goal Q (g .finished) cut in
       let e : cut .goal ≡ Q = fun-ext same in
@@ -56,9 +55,9 @@ module _ (s : Shape) (d : ℕ) (paint : Paint) (old : List ℕ) where
             (rw (cut .long) at h) (λ y. w (sym (same k) ∙ sym (z k) ∙ y)));
       }
 
-  pub outcome-cut : (Q : ℕ → ℕ) (kept : ℕ → Bool) (n c k : ℕ) (x : List ℕ) → At s d paint old Q kept n c k x 0
+  pub outcome-cut : (Q : ℕ → ℕ) (kept : ℕ → Bool) (n c k : ℕ) (x : List ℕ) → At s A old Q kept n c k x 0
       → k < length x → Q k ≢ words x k
-      → IsCut s d paint old n x
+      → IsCut s A old n x
   outcome-cut Q kept n c k x a h w =
       let z = a .sum in
       let e : a .done ≡ n = omega arith in

@@ -21,8 +21,7 @@ use Rattle.table.specs.declared.Shape.{Shape}
 use Rattle.table.specs.Map.{formOf}
 use Rattle.table.proofs.FormLaws.{lawful, exact}
 use Rattle.table.proofs.WantLaws.{wanting}
-use Rattle.targets.specs.declared.Paint.{Paint}
-use Rattle.plan.specs.Aims.{aims}
+use Rattle.plan.specs.Aims.{Aim, aimedAt}
 use Rattle.change.specs.Cuts.{differing}
 use Rattle.change.specs.Runs.{phases}
 use Rattle.change.specs.Answers.{OnTheWay, IsCut, IsDone}
@@ -108,15 +107,15 @@ among-same old x y a b among h = ext-getD 0 x y (a ∙ sym b) (λ j i. elim (ℕ
   | no e ↦ absurd (let z = differing-less old x y j a b among (rw a at i) (λ q. e (sym q)) in omega arith)
 ])
 
-module _ {s : Shape} {d : ℕ} {paint : Paint} {old : List ℕ} {n m : ℕ} {x y : List ℕ} where
-  cuts-among : IsCut s d paint old n x → IsCut s d paint old m y → Among old x y ⊎ Among old y x
+module _ {s : Shape} {A : Aim} {old : List ℕ} {n m : ℕ} {x y : List ℕ} where
+  cuts-among : IsCut s A old n x → IsCut s A old m y → Among old x y ⊎ Among old y x
   cuts-among a b =
       let e : b .cut .goal ≡ a .cut .goal = fun-ext
-      (one-goal s d paint old (a .cut .goal) (a .cut .finished) (b .cut)) in
+      (one-goal s A old (a .cut .goal) (a .cut .finished) (b .cut)) in
       ways-among (a .way) (rw e at (b .way))
 
   -- The words reached with an allowance are among those reached with a greater one, whether that is cut ..
-  pub reached-among : IsCut s d paint old n x → IsCut s d paint old m y → n ≤ m → Among old x y
+  pub reached-among : IsCut s A old n x → IsCut s A old m y → n ≤ m → Among old x y
   reached-among a b h = ⊎-elim (λ u. u)
       (λ u.
       let p = a .cut .count in
@@ -126,16 +125,16 @@ module _ {s : Shape} {d : ℕ} {paint : Paint} {old : List ℕ} {n m : ℕ} {x y
       (cuts-among a b)
 
   -- .. or suffices.
-  pub reached-done : IsCut s d paint old n x → IsDone s d paint old m y → Among old x y
+  pub reached-done : IsCut s A old n x → IsDone s A old m y → Among old x y
   reached-done a b j = ⊎-elim inl
-      (λ z. inr (z ∙ one-finished (formOf s) (lawful _) (wanting _) (words old) (aims s d paint (words old))
+      (λ z. inr (z ∙ one-finished (formOf s) (lawful _) (wanting _) (words old) (aimedAt s A (words old))
       (exact _)
       (a .cut .finished) (b .finished) j))
       (a .cut .each j)
 
 -- A cut leaves one pool.
-pub one-cut : {s : Shape} {d : ℕ} {paint : Paint} {old : List ℕ} {n : ℕ} {x y : List ℕ} → IsCut s d paint old n x
-    → IsCut s d paint old n y → x ≡ y
+pub one-cut : {s : Shape} {A : Aim} {old : List ℕ} {n : ℕ} {x y : List ℕ} → IsCut s A old n x
+    → IsCut s A old n y → x ≡ y
 one-cut {old = old} {x = x} {y = y} a b =
     let p = a .cut .count in
     let q = b .cut .count in

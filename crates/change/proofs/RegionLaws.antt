@@ -19,35 +19,36 @@ use Rattle.words.proofs.RegionLaws.{region-covering}
 use Rattle.plan.specs.declared.Plan.{Plan}
 use Rattle.plan.specs.declared.Planning.{Planning}
 use Rattle.plan.specs.declared.Planning.the-variants.{Ready as Planned-as, NoRoom}
-use Rattle.plan.specs.Aims.{aims}
 use Rattle.plan.specs.Plan.{PlanFits}
 use Rattle.plan.specs.Planning.{Regular}
 use Rattle.plan.specs.Goals.{Planned}
 use Rattle.plan.specs.Edges.{PlanReady, PlansChange}
 use Rattle.plan.proofs.EdgeLaws.{first-below, last-below}
 use Rattle.plan.proofs.PlannedLaws.{planned}
+use Rattle.targets.specs.Paints.{paintOf}
+use Rattle.plan.specs.Aims.{Aim, aimOf, changeAim, aimedAt}
 use Rattle.change.specs.declared.Answer.{Answer}
 use Rattle.change.specs.declared.Work.the-variants.{Change}
 use Rattle.change.specs.declared.Request.{Request}
 use Rattle.change.specs.declared.Request.the-variants.{Refused, Planned as Known}
 use Rattle.change.specs.declared.Answer.the-variants.{Refused as No}
-use Rattle.change.specs.Answers.{paintOf, Asked, ChangesRegion, Changes, in-order, done, cut}
+use Rattle.change.specs.Answers.{Asked, ChangesRegion, Changes, in-order, done, cut}
 use Rattle.change.specs.Requests.{RegionIs, RequestIs}
 use Rattle.change.specs.Runs.{Ready, Ends, all-made, cut-short}
 
-ready-for : (p : List ℕ) (s : Shape) (d : ℕ) (paint : Paint) (q : Plan) {G : ℕ → ℕ} {K : ℕ → Bool} → Fits s (length p)
+ready-for : (p : List ℕ) (s : Shape) (A : Aim) (q : Plan) {G : ℕ → ℕ} {K : ℕ → Bool} → Fits s (length p)
     → PlanFits q
-    → Planned s d paint q p G K → Ready s d paint (Change q) p
-ready-for p s d paint q {G} {K} f r pl =
-    record { fits = f; goal = G; kept = K; aim = pl .goal; meant = pl; follows = (r, omega arith, omega arith) }
+    → Planned s A q p G K → Ready s A (Change q) p
+ready-for p s A q {G} {K} f r pl =
+    record { fits = f; goal = G; kept = K; due = pl .goal; meant = pl; follows = (r, omega arith, omega arith) }
 
 -- A plan that is right at its edges is ready to be carried out.
 pub plan-ready : (p : List ℕ) (s : Shape) (d : ℕ) (paint : Paint) (q : Plan) → Fits s (length p)
     → Settled (formOf s) (words p) → d < s .domains → Regular paint
-    → PlanReady s d paint (words p) q → Ready s d paint (Change q) p
+    → PlanReady s d paint (words p) q → Ready s (aimOf d paint) (Change q) p
 plan-ready p s d paint q f t bd g r =
     let e = r .edges in
-    ready-for p s d paint q f
+    ready-for p s (aimOf d paint) q f
     (record {
       domain = let z = f .range .domains in let y = e .for-domain in omega arith;
       right = rw (e .for-paint) (g .right);
@@ -65,22 +66,22 @@ pub planning-ready : (p : List ℕ) (s : Shape) (d : ℕ) (paint : Paint) (r : P
     → PlanReady s d paint (words p) q
 planning-ready p s d paint r q z e = rw e at z
 
-pub planning-none : (p : List ℕ) (s : Shape) (d : ℕ) (paint : Paint) (r : Planning) → PlansChange s d paint
-    (words p) r → r ≡ NoRoom
-    → Room s (aims s d paint (words p)) → ⊥
+pub planning-none : (p : List ℕ) (s : Shape) (d : ℕ) (paint : Paint) (r : Planning)
+    → PlansChange s d paint (words p) r → r ≡ NoRoom
+    → Room s (aimedAt s (aimOf d paint) (words p)) → ⊥
 planning-none p s d paint r z e = rw e at z
 
 -- The request of a region that is in order.
 pub request-is : (p : List ℕ) (s : Shape) (d start len r : ℕ) {g : Region} (q : Request) → Asked p s d start len r g
-    → RegionIs p s d (paintOf g r) q
+    → RegionIs p s (changeAim d g r) q
     → RequestIs p s d start len r q
 request-is p s d start len r {g} (Refused k) a f = λ n. in-order g a (f n)
 request-is p s d start len r {g} (Known q) a (t, y) = (g, a, t, y)
 
 -- What the end of the loop says of the change.
-pub region-answers : {s : Shape} {d : ℕ} {paint : Paint} {p : List ℕ} {n : ℕ} {a : Answer} {y : List ℕ}
+pub region-answers : {s : Shape} {A : Aim} {p : List ℕ} {n : ℕ} {a : Answer} {y : List ℕ}
     → Settled (formOf s) (words p)
-    → Ends p s d paint n a y → ChangesRegion p s d paint n a y
+    → Ends p s A n a y → ChangesRegion p s A n a y
 region-answers t (all-made q d) = done t q d
 region-answers t (cut-short x c) = cut t x c
 
@@ -94,13 +95,14 @@ module _ {p : List ℕ} {s : Shape} {d start len r : ℕ} where
       → RequestIs p s d start len r (Known q)
   request-planned f e = rw e at f
 
-  pub request-ready : {q : Plan} → RequestIs p s d start len r (Known q) → Ready s d (q .paint) (Change q) p
-  request-ready {q} (g, a, t, y) = subst (λ (z : Paint). Ready s d z (Change q) p) (sym (y .meant .for-paint)) y
+  pub request-ready : {q : Plan} → RequestIs p s d start len r (Known q) → Ready s
+      (aimOf (q .domain) (q .paint)) (Change q) p
+  request-ready {q} (g, a, t, y) = subst (λ (z : Aim). Ready s z (Change q) p) (y .meant .aim) y
 
   pub request-answers : {q : Plan} {n : ℕ} {a : Answer} {y : List ℕ} → RequestIs p s d start len r (Known q)
-      → Ends p s d (q .paint) n a y
+      → Ends p s (aimOf (q .domain) (q .paint)) n a y
       → Changes p s d start len r n a y
-  request-answers (g, a, t, y) e = in-order g a (region-answers t (rw (y .meant .for-paint) at e))
+  request-answers (g, a, t, y) e = in-order g a (region-answers t (rw (← y .meant .aim) at e))
 
 -- A region that was rounded may be changed.
 pub covers-regular : (start len r : ℕ) (g : Region) → r ≤ 3 → regionOf start len ≡ Covers g → Regular (paintOf g r)

@@ -9,7 +9,7 @@ use lib.ListN.{length, set, length-set}
 use Rattle.theory.specs.Pool.{words}
 use Rattle.table.specs.declared.Shape.{Shape}
 use Rattle.table.specs.Shape.{Fits}
-use Rattle.targets.specs.declared.Paint.{Paint}
+use Rattle.plan.specs.Aims.{Aim}
 use Rattle.change.specs.declared.Answer.the-variants.{Done, Cut}
 use Rattle.change.specs.declared.Cursor.{Cursor}
 use Rattle.change.specs.declared.Next.{Next}
@@ -26,38 +26,37 @@ use Rattle.change.proofs.OutcomeLaws.{outcome-done, outcome-cut}
 use Rattle.change.proofs.TidyAimLaws.{owners-now}
 
 -- Between two stores of the work on `old`, which was told the owners `o`.
-pub record Midst (s : Shape) (o : List ℕ) (d : ℕ) (paint : Paint) (w : Work) (old : List ℕ) (n : ℕ) (from : Cursor)
+pub record Midst (s : Shape) (o : List ℕ) (A : Aim) (w : Work) (old : List ℕ) (n : ℕ) (from : Cursor)
     (x : List ℕ) (left : ℕ) : Type 0 where
   pub fits : Fits s (length x)
   pub goal : ℕ → ℕ
   pub kept : ℕ → Bool
-  pub meant : Meant s d paint w old goal kept
-  pub at : At s d paint old goal kept n (from .phase) (from .word .0) x left
+  pub meant : Meant s A w old goal kept
+  pub at : At s A old goal kept n (from .phase) (from .word .0) x left
   pub follows : Follows w from (length x)
   pub told : Told s w o old
 
-pub midst-begin : {s : Shape} {o : List ℕ} {d : ℕ} {paint : Paint} {w : Work} {x : List ℕ} (n : ℕ)
-    → Ready s d paint w x → Told s w o x
-    → Midst s o d paint w x n start x n
+pub midst-begin : {s : Shape} {o : List ℕ} {A : Aim} {w : Work} {x : List ℕ} (n : ℕ)
+    → Ready s A w x → Told s w o x
+    → Midst s o A w x n start x n
 midst-begin n r t = record {
   fits = r .fits;
   goal = r .goal;
   kept = r .kept;
   meant = r .meant;
-  at = at-begin n
-      (r .aim);
+  at = at-begin n (r .due);
   follows = r .follows;
   told = t;
 }
 
 -- What the work was told still holds.
-told-now : (s : Shape) (o : List ℕ) (d : ℕ) (paint : Paint) (w : Work) (old : List ℕ) (Q : ℕ → ℕ) (kept : ℕ → Bool)
+told-now : (s : Shape) (o : List ℕ) (A : Aim) (w : Work) (old : List ℕ) (Q : ℕ → ℕ) (kept : ℕ → Bool)
     (n : ℕ) (from : Cursor) (x : List ℕ) (left : ℕ)
-    → Fits s (length x) → Meant s d paint w old Q kept → Follows w from (length x) → At s d paint old Q kept n
+    → Fits s (length x) → Meant s A w old Q kept → Follows w from (length x) → At s A old Q kept n
     (from .phase) (from .word .0) x left
     → Told s w o old → Told s w o x
-told-now s o d paint (Change q) old Q kept n from x left f m h a t = tt
-told-now s o d paint Tidying old Q kept n from x left f (e, g) h a t = owners-now f t (rw (h, e, g) at a)
+told-now s o A (Change q) old Q kept n from x left f m h a t = tt
+told-now s o A Tidying old Q kept n from x left f m h a t = owners-now f t (rw (h, m) at a)
 
 -- What was found, where it is a store, and where it is none.
 module _ {s : Shape} {w : Work} {x : List ℕ} {c i : ℕ} {r : Next} where
@@ -88,25 +87,24 @@ module _ {s : Shape} {w : Work} {x : List ℕ} {b m c i : ℕ}
         (comes u a);
   }
 
-none-left : {s : Shape} {d : ℕ} {paint : Paint} {old : List ℕ} {Q : ℕ → ℕ} {kept : ℕ
+none-left : {s : Shape} {A : Aim} {old : List ℕ} {Q : ℕ → ℕ} {kept : ℕ
     → Bool} {n c k : ℕ} {x : List ℕ} {left : ℕ} → left ≡ 0
-    → At s d paint old Q kept n c k x left → At s d paint old Q kept n c k x 0
+    → At s A old Q kept n c k x left → At s A old Q kept n c k x 0
 none-left z a = rw z at a
 
-module _ {s : Shape} {o : List ℕ} {d : ℕ} {paint : Paint} {w : Work} {old : List ℕ} {n : ℕ} {from : Cursor} {x :
+module _ {s : Shape} {o : List ℕ} {A : Aim} {w : Work} {old : List ℕ} {n : ℕ} {from : Cursor} {x :
     List ℕ} {left : ℕ}
-    (m : Midst s o d paint w old n from x left) where
+    (m : Midst s o A w old n from x left) where
   pub midst-looks : Looks s w from x
   midst-looks = record { fits = m .fits; sound = m .at .cut .sound; follows = m .follows }
 
   pub midst-told : Told s w o x
-  midst-told = told-now s o d paint w old (m .goal) (m .kept) n from x left (m .fits) (m .meant) (m .follows) (m .at)
+  midst-told = told-now s o A w old (m .goal) (m .kept) n from x left (m .fits) (m .meant) (m .follows) (m .at)
       (m .told)
 
   abbrev run : Run s w
   run = record {
-    domain = d;
-    paint = paint;
+    aim = A;
     old = old;
     goal = m .goal;
     kept = m .kept;
@@ -123,11 +121,11 @@ module _ {s : Shape} {o : List ℕ} {d : ℕ} {paint : Paint} {w : Work} {old : 
     pub ends-left : left ≤ n
     ends-left = let z = made in omega arith
 
-    pub ends-done : Ends old s d paint n (Done (n - left)) x
+    pub ends-done : Ends old s A n (Done (n - left)) x
     ends-done =
         let z = made in
         let y : n - left ≡ differing old x = omega arith in
-        rw y (all-made x (outcome-done s d paint old (m .goal) (m .kept) x n left (m .at .goal) (m .at .cut .long)
+        rw y (all-made x (outcome-done s A old (m .goal) (m .kept) x n left (m .at .goal) (m .at .cut .long)
         (e run (m .at)) made))
 
   -- There is one.
@@ -138,16 +136,16 @@ module _ {s : Shape} {o : List ℕ} {d : ℕ} {paint : Paint} {w : Work} {old : 
     moves : m .goal k ≢ words x k
     moves z = here .differs (sym z ∙ sym (here .value))
 
-    pub ends-cut : left ≡ 0 → Ends old s d paint n Cut x
-    ends-cut z = cut-short x (outcome-cut s d paint old (m .goal) (m .kept) n (on .phase) k x (none-left z (here .at))
+    pub ends-cut : left ≡ 0 → Ends old s A n Cut x
+    ends-cut z = cut-short x (outcome-cut s A old (m .goal) (m .kept) n (on .phase) k x (none-left z (here .at))
         (e .inside) moves)
 
     -- It is due,
-    pub next-due : Due s d paint x k v
+    pub next-due : Due s A x k v
     next-due = rw (here .value) (at-due (here .at) (e .inside) moves (here .phase))
 
     -- and is made.
-    pub midst-on : left ≢ 0 → Midst s o d paint w old n on (set x k v) (left - 1)
+    pub midst-on : left ≢ 0 → Midst s o A w old n on (set x k v) (left - 1)
     midst-on z = record {
       fits = rw (length-set x k v) (m .fits);
       goal = m .goal;

@@ -24,18 +24,17 @@ use Rattle.table.specs.Shape.{firstMiddle, firstLeaf}
 use Rattle.table.specs.Map.{formOf, leads, zone}
 use Rattle.table.proofs.FormLaws.{lawful, exact}
 use Rattle.table.proofs.WantLaws.{wanting}
-use Rattle.targets.specs.declared.Paint.{Paint}
 use Rattle.plan.specs.declared.Plan.{Plan}
 use Rattle.plan.specs.Plan.{isLead, after, newWord, phaseOf}
-use Rattle.plan.specs.Aims.{aims, Goal}
+use Rattle.plan.specs.Aims.{Aim, aimedAt}
 use Rattle.change.specs.Cuts.{differing, CutAt, Due}
 use Rattle.change.proofs.CutLaws.{put-cuts}
 use Rattle.plan.specs.Goals.{Planned}
 use Rattle.change.specs.Runs.{phases, At}
 
-module _ {s : Shape} {d : ℕ} {paint : Paint} {old : List ℕ} {Q : ℕ → ℕ} {kept : ℕ
+module _ {s : Shape} {A : Aim} {old : List ℕ} {Q : ℕ → ℕ} {kept : ℕ
     → Bool} {n c k : ℕ} {x : List ℕ} {left : ℕ}
-    (a : At s d paint old Q kept n c k x left) where
+    (a : At s A old Q kept n c k x left) where
   abbrev P : ℕ → ℕ
   P = words old
 
@@ -66,7 +65,7 @@ module _ {s : Shape} {d : ℕ} {paint : Paint} {old : List ℕ} {Q : ℕ → ℕ
   ]
 
   -- In its phase its store is due.
-  pub at-due : k < length x → Q k ≢ words x k → ph k ≡ c → Due s d paint x k (Q k)
+  pub at-due : k < length x → Q k ≢ words x k → ph k ≡ c → Due s A x k (Q k)
   at-due h m e = record {
     goal = Q;
     finished = finished-words (formOf s) _ _ same (a .cut .again);
@@ -82,11 +81,11 @@ module _ {s : Shape} {d : ℕ} {paint : Paint} {old : List ℕ} {Q : ℕ → ℕ
       whole = fun-ext (a .pool)
 
       same : (j : ℕ) → a .cut .goal j ≡ Q j
-      same = one-finished (formOf s) (lawful _) (wanting _) P (aims s d paint P) (exact _)
+      same = one-finished (formOf s) (lawful _) (wanting _) P (aimedAt s A P) (exact _)
           (a .cut .finished) (a .goal .finished)
 
   -- What a plan says of the word.
-  module _ {q : Plan} (p : Planned s d paint q old Q kept) (h : k < length x) where
+  module _ {q : Plan} (p : Planned s A q old Q kept) (h : k < length x) where
     -- Whatever it holds, the plan gives its finished value,
     pub at-final : after q k (words x k) ≡ Q k
     at-final = elim (decLt (ph k) c) [
@@ -115,9 +114,9 @@ module _ {s : Shape} {d : ℕ} {paint : Paint} {old : List ℕ} {Q : ℕ → ℕ
         go false = refl
 
 -- From word to word.
-module _ {s : Shape} {d : ℕ} {paint : Paint} {old : List ℕ} {Q : ℕ → ℕ} {kept : ℕ
+module _ {s : Shape} {A : Aim} {old : List ℕ} {Q : ℕ → ℕ} {kept : ℕ
     → Bool} {n c k : ℕ} {x : List ℕ} {left : ℕ}
-    (a : At s d paint old Q kept n c k x left) where
+    (a : At s A old Q kept n c k x left) where
   -- Off word `k`, and at it where it does not change in this phase, nothing changes.
   beside : (j : ℕ) → j ≢ k → midway (words old) Q (phases s old kept) c (k + 1) j ≡ midway (words old) Q
       (phases s old kept) c k j
@@ -136,7 +135,7 @@ module _ {s : Shape} {d : ℕ} {paint : Paint} {old : List ℕ} {Q : ℕ → ℕ
       go false = refl
 
   -- A word that has its finished value, or is of another phase, is passed over.
-  pub at-skip : (Q k ≡ words x k) ⊎ (phases s old kept k ≢ c) → At s d paint old Q kept n c (k + 1) x left
+  pub at-skip : (Q k ≡ words x k) ⊎ (phases s old kept k ≢ c) → At s A old Q kept n c (k + 1) x left
   at-skip why = record {
     goal = a .goal;
     pool = λ j. a .pool j ∙ elim (ℕ-discrete j k) [
@@ -160,7 +159,7 @@ module _ {s : Shape} {d : ℕ} {paint : Paint} {old : List ℕ} {Q : ℕ → ℕ
 
   -- A word of this phase that is to change is stored.
   pub at-store : (l : ℕ) → left ≡ l + 1 → k < length x → Q k ≢ words x k → phases s old kept k ≡ c
-      → At s d paint old Q kept n c (k + 1) (set x k (Q k)) l
+      → At s A old Q kept n c (k + 1) (set x k (Q k)) l
   at-store l el h m e = record {
     goal = a .goal;
     pool = λ j. elim (ℕ-discrete j k) [
@@ -169,5 +168,5 @@ module _ {s : Shape} {d : ℕ} {paint : Paint} {old : List ℕ} {Q : ℕ → ℕ
     ];
     done = a .done + 1;
     sum = let z = a .sum in omega arith;
-    cut = put-cuts s d paint (at-due a h m e) old (a .done) (a .cut);
+    cut = put-cuts s A (at-due a h m e) old (a .done) (a .cut);
   }

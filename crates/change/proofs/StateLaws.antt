@@ -14,10 +14,9 @@ use Rattle.theory.specs.Phase.{midway}
 use Rattle.theory.proofs.PhaseLaws.{midway-new}
 use Rattle.table.specs.declared.Shape.{Shape}
 use Rattle.table.specs.Map.{leads, zone}
-use Rattle.targets.specs.declared.Paint.{Paint}
+use Rattle.plan.specs.Aims.{Aim, Goal}
 use Rattle.change.specs.Cuts.{CutAt}
 use Rattle.change.proofs.DifferLaws.{differing-self}
-use Rattle.plan.specs.Aims.{Goal}
 use Rattle.change.specs.Runs.{phases, At}
 
 -- The phases are 1, 2 and 3.
@@ -31,9 +30,9 @@ phase-range s old kept j = go (kept j) (leads (zone s j) (words old j))
     go false b = (omega arith, omega arith)
 
 -- Before the first store the pool is what a cut after no store leaves.
-pub cut-none : (s : Shape) (d : ℕ) (paint : Paint) (old : List ℕ) (Q : ℕ → ℕ) (kept : ℕ → Bool)
-    → Goal s d paint old Q kept → CutAt s d paint old 0 old
-cut-none s d paint old Q kept p = record {
+pub cut-none : (s : Shape) (A : Aim) (old : List ℕ) (Q : ℕ → ℕ) (kept : ℕ → Bool)
+    → Goal s A old Q kept → CutAt s A old 0 old
+cut-none s A old Q kept p = record {
   goal = Q;
   finished = p .finished;
   long = refl;
@@ -45,16 +44,16 @@ cut-none s d paint old Q kept p = record {
   again = p .finished;
 }
 
-pub at-begin : {s : Shape} {d : ℕ} {paint : Paint} {old : List ℕ} {Q : ℕ → ℕ} {kept : ℕ → Bool} (n : ℕ)
-    → Goal s d paint old Q kept
-    → At s d paint old Q kept n 1 0 old n
-at-begin {s} {d} {paint} {old} {Q} {kept} n p = record {
+pub at-begin : {s : Shape} {A : Aim} {old : List ℕ} {Q : ℕ → ℕ} {kept : ℕ → Bool} (n : ℕ)
+    → Goal s A old Q kept
+    → At s A old Q kept n 1 0 old n
+at-begin {s} {A} {old} {Q} {kept} n p = record {
   goal = p;
   pool = λ j. sym (rw (le-ltb (phases s old kept j) 1 (phase-range s old kept j .0), le-ltb j 0 (omega arith))
       (go j (eqb (phases s old kept j) 1)));
   done = 0;
   sum = omega arith;
-  cut = cut-none s d paint old Q kept p;
+  cut = cut-none s A old Q kept p;
 }
   where
     go : (j : ℕ) (b : Bool) → cond (b && false) (Q j) (words old j) ≡ words old j
@@ -68,12 +67,12 @@ same u v z true false = z
 same u v z false true = sym z
 same u v z false false = refl
 
-module _ {s : Shape} {d : ℕ} {paint : Paint} {old : List ℕ} {Q : ℕ → ℕ} {kept : ℕ
+module _ {s : Shape} {A : Aim} {old : List ℕ} {Q : ℕ → ℕ} {kept : ℕ
     → Bool} {n : ℕ} {x : List ℕ} {left : ℕ} where
   -- Words that are to stay, or are of another phase, are passed over in one step.
   pub at-pass : {c : ℕ} (i k : ℕ) → i ≤ k →
-      ((j : ℕ) → i ≤ j → j < k → (Q j ≡ words old j) ⊎ (phases s old kept j ≢ c)) → At s d paint old Q kept n c i x left
-      → At s d paint old Q kept n c k x left
+      ((j : ℕ) → i ≤ j → j < k → (Q j ≡ words old j) ⊎ (phases s old kept j ≢ c)) → At s A old Q kept n c i x left
+      → At s A old Q kept n c k x left
   at-pass {c} i k lo idle a = record {
     goal = a .goal;
     pool = λ j. a .pool j ∙ elim (decLt j i) [
@@ -95,12 +94,12 @@ module _ {s : Shape} {d : ℕ} {paint : Paint} {old : List ℕ} {Q : ℕ → ℕ
       test j b = cond (ltb (phases s old kept j) c || (eqb (phases s old kept j) c && b)) (Q j) (words old j)
 
   pub at-jump : {c : ℕ} (i k : ℕ) → i ≤ k → ((j : ℕ) → i ≤ j → j < k → Q j ≡ words old j)
-      → At s d paint old Q kept n c i x left
-      → At s d paint old Q kept n c k x left
+      → At s A old Q kept n c i x left
+      → At s A old Q kept n c k x left
   at-jump i k lo stays = at-pass i k lo (λ j a b. inl (stays j a b))
 
   -- Past the last word the next phase begins.
-  pub at-turn : (c : ℕ) → At s d paint old Q kept n c (length old) x left → At s d paint old Q kept n (c + 1) 0 x left
+  pub at-turn : (c : ℕ) → At s A old Q kept n c (length old) x left → At s A old Q kept n (c + 1) 0 x left
   at-turn c a = record {
     goal = a .goal;
     pool = λ j. a .pool j ∙ elim (decLt j (length old)) [
@@ -143,6 +142,6 @@ module _ {s : Shape} {d : ℕ} {paint : Paint} {old : List ℕ} {Q : ℕ → ℕ
           last false = refl
 
   -- Past the last phase the pool is the finished one.
-  pub at-end : {c k : ℕ} → 4 ≤ c → At s d paint old Q kept n c k x left → (j : ℕ) → words x j ≡ Q j
+  pub at-end : {c k : ℕ} → 4 ≤ c → At s A old Q kept n c k x left → (j : ℕ) → words x j ≡ Q j
   at-end {c} {k} h a j = a .pool j ∙ midway-new (words old) Q (phases s old kept) c k j
       (let z = phase-range s old kept j .1 in omega arith)

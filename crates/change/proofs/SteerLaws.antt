@@ -21,12 +21,12 @@ use Rattle.table.proofs.WantLaws.{wanting}
 use Rattle.places.specs.Count.{Room}
 use Rattle.places.proofs.Exists.{finished-fits}
 use Rattle.targets.specs.declared.Paint.{Paint}
-use Rattle.plan.specs.Aims.{aims, Goal}
+use Rattle.plan.specs.Aims.{Aim, changeAim, noAim, aimedAt, Goal}
 use Rattle.change.specs.declared.Answer.{Answer}
 use Rattle.change.specs.declared.Answer.the-variants.{Done, Cut, Refused}
 use Rattle.change.specs.Cuts.{differing, CutAt}
 use Rattle.change.specs.Runs.{phases, At}
-use Rattle.change.specs.Answers.{noPaint, paintOf, IsDone, IsCut, Asked, ChangesRegion, Changes, Tidies}
+use Rattle.change.specs.Answers.{IsDone, IsCut, Asked, ChangesRegion, Changes, Tidies}
 use Rattle.change.specs.Answers.{no-shape, no-domain, no-right, no-region, in-order, unsound, unsettled}
 use Rattle.change.specs.Answers.{no-room, done, cut}
 use Rattle.change.specs.StoreList.{OneStore, storesOf, stored, StoresAre, Makes}
@@ -37,46 +37,46 @@ use Rattle.change.proofs.EndLaws.{region-ends, tidy-ends, change-ends}
 use Rattle.change.proofs.ChangesLaws.{same-region, not-both}
 use Rattle.change.proofs.DoneLaws.{one-done, done-not-cut}
 use Rattle.change.proofs.ReachedLaws.{one-cut, one-test}
-use Rattle.change.proofs.TidyGoalLaws.{fits-goal, tidy-goal}
+use Rattle.change.proofs.GoalLaws.{SetsRights, change-sets, fits-goal, tidy-goal}
 use Rattle.change.proofs.StoreListLaws.{cut-from, all-from}
 
 -- The stores of a change are one list.
-pub one-list : {s : Shape} {d : ℕ} {paint : Paint} {old : List ℕ} {l m : List OneStore} → StoresAre s d paint old l
-    → StoresAre s d paint old m → l ≡ m
-one-list {s} {d} {paint} {old} a b =
+pub one-list : {s : Shape} {A : Aim} {old : List ℕ} {l m : List OneStore} → StoresAre s A old l
+    → StoresAre s A old m → l ≡ m
+one-list {s} {A} {old} a b =
     let e : a .finished-pool ≡ b .finished-pool = fun-ext
     (one-finished (formOf s) (lawful _) (wanting _) (words old)
-    (aims s d paint (words old)) (exact _) (a .goal .finished) (b .goal .finished)) in
-    let g : Goal s d paint old (b .finished-pool) (a .kept) = rw e at (a .goal) in
+    (aimedAt s A (words old)) (exact _) (a .goal .finished) (b .goal .finished)) in
+    let g : Goal s A old (b .finished-pool) (a .kept) = rw e at (a .goal) in
     let k : a .kept ≡ b .kept = fun-ext (one-test (formOf s) (g .tells) (b .goal .tells)) in
     let z : storesOf s old (a .finished-pool) (a .kept) ≡ storesOf s old (b .finished-pool) (b .kept) = rw (e, k) in
     a .list ∙ z ∙ sym (b .list)
 
-module _ (s : Shape) (d : ℕ) (paint : Paint) (old : List ℕ) (Q : ℕ → ℕ) (kept : ℕ → Bool)
-    (g : Goal s d paint old Q kept) where
+module _ (s : Shape) (A : Aim) (old : List ℕ) (Q : ℕ → ℕ) (kept : ℕ → Bool)
+    (g : Goal s A old Q kept) where
   abbrev list : List OneStore
   list = storesOf s old Q kept
 
   -- With an allowance below their number the first of them are made, and more are wanted.
-  list-cut : (n : ℕ) → n < length list → IsCut s d paint old n (stored old (take n list))
-  list-cut n h = cut-from s d paint old Q kept n 3 1 old n (at-begin n g) h
+  list-cut : (n : ℕ) → n < length list → IsCut s A old n (stored old (take n list))
+  list-cut n h = cut-from s A old Q kept n 3 1 old n (at-begin n g) h
 
   -- Else all of them are, and the run has come to its end.
-  list-end : (n : ℕ) → length list ≤ n → At s d paint old Q kept n 4 0 (stored old list) (n - length list)
-  list-end n h = all-from s d paint old Q kept n 3 1 4 refl old n (n - length list) (omega arith) (at-begin n g)
+  list-end : (n : ℕ) → length list ≤ n → At s A old Q kept n 4 0 (stored old list) (n - length list)
+  list-end n h = all-from s A old Q kept n 3 1 4 refl old n (n - length list) (omega arith) (at-begin n g)
 
   list-made : (n : ℕ) → length list ≤ n → differing old (stored old list) ≡ length list
   list-made n h = let a = list-end n h in let z = a .sum in let y = a .cut .count in omega arith
 
-  list-done : (n : ℕ) → length list ≤ n → IsDone s d paint old n (stored old list)
+  list-done : (n : ℕ) → length list ≤ n → IsDone s A old n (stored old list)
   list-done n h =
       let a = list-end n h in
       let z = list-made n h in
-      outcome-done s d paint old Q kept (stored old list) n (n - length list) g (at-long a) (at-end (omega arith) a)
+      outcome-done s A old Q kept (stored old list) n (n - length list) g (at-long a) (at-end (omega arith) a)
       (omega arith)
 
   -- The first `n` stores leave what is said of a cut after `n`.
-  prefix-goal : (n : ℕ) → n ≤ length list → CutAt s d paint old n (stored old (take n list))
+  prefix-goal : (n : ℕ) → n ≤ length list → CutAt s A old n (stored old (take n list))
   prefix-goal n h = elim (decLt n (length list)) [
     | yes i ↦ list-cut n i .cut
     | no i ↦
@@ -87,43 +87,43 @@ module _ (s : Shape) (d : ℕ) (paint : Paint) (old : List ℕ) (Q : ℕ → ℕ
   ]
 
   -- Whatever comes of the allowance, the first stores of the list were made.
-  makes-done : {n : ℕ} {q : List ℕ} → IsDone s d paint old n q → Makes old list n (Done (differing old q)) q
+  makes-done : {n : ℕ} {q : List ℕ} → IsDone s A old n q → Makes old list n (Done (differing old q)) q
   makes-done {n} {q} f = elim (decLt n (length list)) [
     | yes i ↦ absurd (done-not-cut f (list-cut n i))
     | no i ↦ (let e = one-done f (list-done n (omega arith)) in
         (omega arith, ap (differing old) e ∙ list-made n (omega arith), e))
   ]
 
-  makes-cut : {n : ℕ} {x : List ℕ} → IsCut s d paint old n x → Makes old list n Cut x
+  makes-cut : {n : ℕ} {x : List ℕ} → IsCut s A old n x → Makes old list n Cut x
   makes-cut {n} f = elim (decLt n (length list)) [
     | yes i ↦ (i, one-cut f (list-cut n i))
     | no i ↦ absurd (done-not-cut (list-done n (omega arith)) f)
   ]
 
-module _ {s : Shape} {d : ℕ} {paint : Paint} {p : List ℕ} {l : List OneStore} (a : StoresAre s d paint p l) where
+module _ {s : Shape} {A : Aim} {p : List ℕ} {l : List OneStore} (a : StoresAre s A p l) where
   -- Each prefix of the list leaves what the paper says of a cut.
-  pub prefix-cut : (n : ℕ) → n ≤ length l → CutAt s d paint p n (stored p (take n l))
-  prefix-cut = rw (a .list) (prefix-goal s d paint p (a .finished-pool) (a .kept) (a .goal))
+  pub prefix-cut : (n : ℕ) → n ≤ length l → CutAt s A p n (stored p (take n l))
+  prefix-cut = rw (a .list) (prefix-goal s A p (a .finished-pool) (a .kept) (a .goal))
 
   -- Done or cut, its first stores were made.
-  pub done-makes : {n : ℕ} {q : List ℕ} → IsDone s d paint p n q → Makes p l n (Done (differing p q)) q
-  done-makes = rw (a .list) (makes-done s d paint p (a .finished-pool) (a .kept) (a .goal))
+  pub done-makes : {n : ℕ} {q : List ℕ} → IsDone s A p n q → Makes p l n (Done (differing p q)) q
+  done-makes = rw (a .list) (makes-done s A p (a .finished-pool) (a .kept) (a .goal))
 
-  pub cut-makes : {n : ℕ} {x : List ℕ} → IsCut s d paint p n x → Makes p l n Cut x
-  cut-makes = rw (a .list) (makes-cut s d paint p (a .finished-pool) (a .kept) (a .goal))
+  pub cut-makes : {n : ℕ} {x : List ℕ} → IsCut s A p n x → Makes p l n Cut x
+  cut-makes = rw (a .list) (makes-cut s A p (a .finished-pool) (a .kept) (a .goal))
 
 -- The stores of a change that has room.
-room-stores : (s : Shape) (d : ℕ) (paint : Paint) (p : List ℕ) → paint .right < 4 → Fits s (length p)
+room-stores : (s : Shape) (A : Aim) (p : List ℕ) → SetsRights s A p → Fits s (length p)
     → SoundPool (formOf s) (words p)
-    → Room s (aims s d paint (words p)) → (l : List OneStore)
-    × StoresAre s d paint p l
-room-stores s d paint p r f sP room =
-    let (Q, kept, g) = fits-goal s d paint p r f sP room in
+    → Room s (aimedAt s A (words p)) → (l : List OneStore)
+    × StoresAre s A p l
+room-stores s A p r f sP room =
+    let (Q, kept, g) = fits-goal s A p r f sP room in
     (storesOf s p Q kept, record { finished-pool = Q; kept = kept; goal = g; list = refl })
 
 -- From refusal 6 on, the list of stores is empty where the request is refused ..
-module _ {p : List ℕ} {s : Shape} {d : ℕ} {paint : Paint} {n : ℕ} where
-  unsound-makes : {a : Answer} {q : List ℕ} → (SoundPool (formOf s) (words p) → ⊥) → ChangesRegion p s d paint n a q
+module _ {p : List ℕ} {s : Shape} {A : Aim} {n : ℕ} where
+  unsound-makes : {a : Answer} {q : List ℕ} → (SoundPool (formOf s) (words p) → ⊥) → ChangesRegion p s A n a q
       → Makes p [] n a q
   unsound-makes u (unsound g) = (refl, refl)
   unsound-makes u (unsettled g h) = absurd (u g)
@@ -131,7 +131,7 @@ module _ {p : List ℕ} {s : Shape} {d : ℕ} {paint : Paint} {n : ℕ} where
   unsound-makes u (done g q h) = absurd (u (g .sound))
   unsound-makes u (cut g q h) = absurd (u (g .sound))
 
-  unsettled-makes : {a : Answer} {q : List ℕ} → (Settled (formOf s) (words p) → ⊥) → ChangesRegion p s d paint n a q
+  unsettled-makes : {a : Answer} {q : List ℕ} → (Settled (formOf s) (words p) → ⊥) → ChangesRegion p s A n a q
       → Makes p [] n a q
   unsettled-makes u (unsound g) = (refl, refl)
   unsettled-makes u (unsettled g h) = (refl, refl)
@@ -139,8 +139,8 @@ module _ {p : List ℕ} {s : Shape} {d : ℕ} {paint : Paint} {n : ℕ} where
   unsettled-makes u (done g q h) = absurd (u g)
   unsettled-makes u (cut g q h) = absurd (u g)
 
-  full-makes : {a : Answer} {q : List ℕ} → (Room s (aims s d paint (words p)) → ⊥)
-      → ChangesRegion p s d paint n a q
+  full-makes : {a : Answer} {q : List ℕ} → (Room s (aimedAt s A (words p)) → ⊥)
+      → ChangesRegion p s A n a q
       → Makes p [] n a q
   full-makes u (unsound g) = (refl, refl)
   full-makes u (unsettled g h) = (refl, refl)
@@ -149,8 +149,8 @@ module _ {p : List ℕ} {s : Shape} {d : ℕ} {paint : Paint} {n : ℕ} where
   full-makes u (cut g q h) = absurd (u (finished-fits s (h .cut .finished)))
 
   -- .. and else that of its change.
-  room-makes : {l : List OneStore} {a : Answer} {q : List ℕ} → Settled (formOf s) (words p) → StoresAre s d paint p l
-      → ChangesRegion p s d paint n a q
+  room-makes : {l : List OneStore} {a : Answer} {q : List ℕ} → Settled (formOf s) (words p) → StoresAre s A p l
+      → ChangesRegion p s A n a q
       → Makes p l n a q
   room-makes t x (unsound g) = absurd (g (t .sound))
   room-makes t x (unsettled g h) = absurd (h t)
@@ -159,18 +159,18 @@ module _ {p : List ℕ} {s : Shape} {d : ℕ} {paint : Paint} {n : ℕ} where
   room-makes t x (cut g q h) = cut-makes x h
 
 -- From refusal 6 on a request has one list of stores for every allowance.
-abbrev RegionMakes : List ℕ → Shape → ℕ → Paint → List OneStore → Type 0
-RegionMakes p s d paint l = (n : ℕ) (a : Answer) (q : List ℕ) → ChangesRegion p s d paint n a q → Makes p l n a q
+abbrev RegionMakes : List ℕ → Shape → Aim → List OneStore → Type 0
+RegionMakes p s A l = (n : ℕ) (a : Answer) (q : List ℕ) → ChangesRegion p s A n a q → Makes p l n a q
 
-region-stores : (p : List ℕ) (s : Shape) (d : ℕ) (paint : Paint) → Fits s (length p) → paint .right < 4
-    → (l : List OneStore) × RegionMakes p s d paint l
-region-stores p s d paint f r = let (a, q, c) = region-ends p s d paint 0 f r in go c
+region-stores : (p : List ℕ) (s : Shape) (A : Aim) → Fits s (length p) → SetsRights s A p
+    → (l : List OneStore) × RegionMakes p s A l
+region-stores p s A f r = let (a, q, c) = region-ends p s A 0 f r in go c
   where
-    with-room : Settled (formOf s) (words p) → Room s (aims s d paint (words p))
-        → (l : List OneStore) × RegionMakes p s d paint l
-    with-room t room = let (l, x) = room-stores s d paint p r f (t .sound) room in (l, λ n a q c. room-makes t x c)
+    with-room : Settled (formOf s) (words p) → Room s (aimedAt s A (words p))
+        → (l : List OneStore) × RegionMakes p s A l
+    with-room t room = let (l, x) = room-stores s A p r f (t .sound) room in (l, λ n a q c. room-makes t x c)
 
-    go : {a : Answer} {q : List ℕ} → ChangesRegion p s d paint 0 a q → (l : List OneStore) × RegionMakes p s d paint l
+    go : {a : Answer} {q : List ℕ} → ChangesRegion p s A 0 a q → (l : List OneStore) × RegionMakes p s A l
     go (unsound u) = ([], λ n a q c. unsound-makes u c)
     go (unsettled g u) = ([], λ n a q c. unsettled-makes u c)
     go (no-room g u) = ([], λ n a q c. full-makes u c)
@@ -188,7 +188,7 @@ module _ {p : List ℕ} {s : Shape} {d start len r n : ℕ} where
   early-makes u (in-order g x v) = absurd (u g x)
 
   -- .. and one that is makes those of its region.
-  asked-makes : (l : List OneStore) (g : Region) → Asked p s d start len r g → RegionMakes p s d (paintOf g r) l
+  asked-makes : (l : List OneStore) (g : Region) → Asked p s d start len r g → RegionMakes p s (changeAim d g r) l
       → {a : Answer} {q : List ℕ} → Changes p s d start len r n a q → Makes p l n a q
   asked-makes l g x m (no-shape f) = absurd (f (x .fits))
   asked-makes l g x m (no-domain f h) = let k = x .domain in absurd (omega arith)
@@ -213,7 +213,8 @@ change-stores p s d start len r = let (a, q, c) = change-ends p s d start len r 
     go (no-right f h t) = none (λ g x. let k = x .right in omega arith)
     go (no-region f h t k e) = none (λ g x. not-both start len (x .region) e)
     go (in-order g x v) =
-        let (l, m) = region-stores p s d (paintOf g r) (x .fits) (let k = x .right in omega arith) in
+        let (l, m) = region-stores p s (changeAim d g r) (x .fits)
+        (change-sets s d g r p (let k = x .right in omega arith)) in
         (l, λ n a q c. asked-makes l g x m c)
 
 -- The same of a tidying.
@@ -229,7 +230,7 @@ module _ {p : List ℕ} {s : Shape} {n : ℕ} where
   refused-tidies u (cut f g q h) = absurd (u f g)
 
   tidies-makes : {l : List OneStore} {a : Answer} {q : List ℕ} → Fits s (length p) → SoundPool (formOf s) (words p)
-      → StoresAre s 0 noPaint p l → Tidies p s n a q
+      → StoresAre s noAim p l → Tidies p s n a q
       → Makes p l n a q
   tidies-makes f t x (no-shape g) = absurd (g f)
   tidies-makes f t x (unsound g h) = absurd (h t)
@@ -241,8 +242,8 @@ tidy-stores p s = let (a, q, c) = tidy-ends p s 0 in go c
   where
     sound-stores : Fits s (length p) → SoundPool (formOf s) (words p) → (l : List OneStore) × TidyMakes p s l
     sound-stores f t =
-        let (Q, kept, g) = tidy-goal s 0 p f t in
-        let x : StoresAre s 0 noPaint p (storesOf s p Q kept) =
+        let (Q, kept, g) = tidy-goal s p f t in
+        let x : StoresAre s noAim p (storesOf s p Q kept) =
         record { finished-pool = Q; kept = kept; goal = g; list = refl } in
         (storesOf s p Q kept, λ n a q c. tidies-makes f t x c)
 

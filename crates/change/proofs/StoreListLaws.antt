@@ -14,8 +14,7 @@ use borrow.Author.Tests.{eqb-true, eqb-false, eq-eqb, not-true, not-false}
 use Rattle.theory.specs.Pool.{words}
 use Rattle.theory.proofs.Logic.{by-cases, and-both}
 use Rattle.table.specs.declared.Shape.{Shape}
-use Rattle.targets.specs.declared.Paint.{Paint}
-use Rattle.plan.specs.Aims.{Goal}
+use Rattle.plan.specs.Aims.{Aim}
 use Rattle.change.specs.Cuts.{differing, CutAt}
 use Rattle.change.specs.Runs.{phases, At}
 use Rattle.change.specs.Answers.{IsCut, IsDone}
@@ -35,12 +34,12 @@ take-past [] m k n e = let z : k ≡ n = omega arith in rw z
 take-past (w ∷ l) m zero n e = absurd (omega arith)
 take-past (w ∷ l) m (suc k) n e = ap (λ t. w ∷ t) (take-past l m k n (omega arith))
 
-module _ (s : Shape) (d : ℕ) (paint : Paint) (old : List ℕ) (Q : ℕ → ℕ) (kept : ℕ → Bool) (n : ℕ) where
+module _ (s : Shape) (A : Aim) (old : List ℕ) (Q : ℕ → ℕ) (kept : ℕ → Bool) (n : ℕ) where
   abbrev ph : ℕ → ℕ
   ph = phases s old kept
 
   abbrev Stands : ℕ → ℕ → List ℕ → ℕ → Type 0
-  Stands c k x left = At s d paint old Q kept n c k x left
+  Stands c k x left = At s A old Q kept n c k x left
 
   abbrev inPhase : ℕ → ℕ → ℕ → List OneStore
   inPhase c m k = storesIn (words old) Q ph c m k
@@ -77,7 +76,7 @@ module _ (s : Shape) (d : ℕ) (paint : Paint) (old : List ℕ) (Q : ℕ → ℕ
   -- A run of a phase whose stores the rest of the allowance does not cover is cut after as many of them ..
   cut-in : (c m k : ℕ) → k + m ≡ length old → (x : List ℕ) (left : ℕ) → Stands c k x left
       → left < length (inPhase c m k)
-      → IsCut s d paint old n (stored x (take left (inPhase c m k)))
+      → IsCut s A old n (stored x (take left (inPhase c m k)))
   unfolding storesIn stored
   cut-in c zero k e x left a h = absurd (omega arith)
   cut-in c (suc m) k e x left a h = go (test a) refl (cut-in c m (k + 1) (omega arith)) left a h
@@ -86,11 +85,11 @@ module _ (s : Shape) (d : ℕ) (paint : Paint) (old : List ℕ) (Q : ℕ → ℕ
       rest = inPhase c m (k + 1)
 
       go : (t : Bool) → test a ≡ t
-          → ((y : List ℕ) (l : ℕ) → Stands c (k + 1) y l → l < length rest → IsCut s d paint old n
+          → ((y : List ℕ) (l : ℕ) → Stands c (k + 1) y l → l < length rest → IsCut s A old n
           (stored y (take l rest)))
           → (l : ℕ) → Stands c k x l → l < length (cond t (here k ∷ rest) rest)
-          → IsCut s d paint old n (stored x (take l (cond t (here k ∷ rest) rest)))
-      go true q later zero b h = outcome-cut s d paint old Q kept n c k x b (let i = at-long b in omega arith)
+          → IsCut s A old n (stored x (take l (cond t (here k ∷ rest) rest)))
+      go true q later zero b h = outcome-cut s A old Q kept n c k x b (let i = at-long b in omega arith)
           (changes-now a q)
       go true q later (suc l) b h = later (set x k (Q k)) l
           (at-store b l (omega arith) (let i = at-long b in omega arith) (changes-now a q) (phase-now a q))
@@ -124,10 +123,10 @@ module _ (s : Shape) (d : ℕ) (paint : Paint) (old : List ℕ) (Q : ℕ → ℕ
     abbrev now : List OneStore
     now = inPhase c (length old) 0
 
-    phase-cut : ((y : List ℕ) (l : ℕ) → Stands (c + 1) 0 y l → l < length later → IsCut s d paint old n
+    phase-cut : ((y : List ℕ) (l : ℕ) → Stands (c + 1) 0 y l → l < length later → IsCut s A old n
         (stored y (take l later)))
         → (x : List ℕ) (left : ℕ) → Stands c 0 x left → left < length (now ++ later)
-        → IsCut s d paint old n (stored x (take left (now ++ later)))
+        → IsCut s A old n (stored x (take left (now ++ later)))
     phase-cut then x left a h = elim (decLt left (length now)) [
       | yes i ↦ rw (take-append-le left now later (omega arith)) (cut-in c (length old) 0 (omega arith) x left a i)
       | no i ↦
@@ -149,7 +148,7 @@ module _ (s : Shape) (d : ℕ) (paint : Paint) (old : List ℕ) (Q : ℕ → ℕ
 
   -- The same of all phases from one on.
   pub cut-from : (f c : ℕ) (x : List ℕ) (left : ℕ) → Stands c 0 x left → left < length (fromPhase f c)
-      → IsCut s d paint old n (stored x (take left (fromPhase f c)))
+      → IsCut s A old n (stored x (take left (fromPhase f c)))
   unfolding storesFrom
   cut-from zero c x left a h = absurd (omega arith)
   cut-from (suc f) c x left a h = phase-cut c (fromPhase f (c + 1)) (cut-from f (c + 1)) x left a h

@@ -10,14 +10,14 @@ use Rattle.theory.proofs.FinishedLaws.{settled-finished}
 use Rattle.table.specs.declared.Shape.{Shape}
 use Rattle.table.specs.Shape.{Fits}
 use Rattle.table.specs.Map.{addresses, formOf}
+use Rattle.plan.specs.Aims.{noAim}
 use Rattle.change.specs.declared.Answer.{Answer}
 use Rattle.change.specs.declared.Answer.the-variants.{Done, Cut}
 use Rattle.change.specs.Cuts.{differing}
-use Rattle.change.specs.Answers.{noPaint, IsDone, Tidies, no-shape, unsound, done, cut}
+use Rattle.change.specs.Answers.{IsDone, Tidies, no-shape, unsound, done, cut}
 use Rattle.change.proofs.DifferLaws.{differing-self}
 use Rattle.change.proofs.DoneLaws.{one-done, done-not-cut}
 use Rattle.change.proofs.ReachedLaws.{one-cut}
-use Rattle.change.proofs.TidyGoalLaws.{tidy-finished, finished-tidy}
 
 -- Two outcomes that are one: the same answer and the same pool.
 abbrev pub Agree : Answer → List ℕ → Answer → List ℕ → Type 0
@@ -52,9 +52,7 @@ pub tidy-settled : {p : List ℕ} {s : Shape} {n : ℕ} {a : Answer} {q : List �
     → Tidied s p q
 tidy-settled m e (no-shape f) = absurd (let z : _≡_ {A = ℕ} 0 1 = cc in omega arith)
 tidy-settled m e (unsound f u) = absurd (let z : _≡_ {A = ℕ} 0 1 = cc in omega arith)
-tidy-settled {p = p} {s = s} m e (done f u q d) =
-    let g = tidy-finished s 0 (words p) (d .finished) in
-    record { settled = g .settled; rights = g .rights }
+tidy-settled m e (done f u q d) = record { settled = d .finished .settled; rights = d .finished .rights }
 tidy-settled m e (cut f u x c) = absurd (let z : _≡_ {A = ℕ} 0 1 = cc in omega arith)
 
 -- A settled pool is tidy already.
@@ -62,8 +60,8 @@ pub tidy-none : {p : List ℕ} {s : Shape} {n : ℕ} {a : Answer} {q : List ℕ}
     → Settled (formOf s) (words p) → Tidies p s n a q
     → (a ≡ Done 0) × (q ≡ p)
 tidy-none {p} {s} {n} f t y =
-    let d : IsDone s 0 noPaint p n p = record {
-      finished = finished-tidy s 0 (words p) (settled-finished (formOf s) t);
+    let d : IsDone s noAim p n p = record {
+      finished = settled-finished (formOf s) t;
       long = refl;
       enough = let z = differing-self p in omega arith;
     } in

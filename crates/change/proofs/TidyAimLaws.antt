@@ -22,8 +22,8 @@ use Rattle.targets.specs.declared.Target.the-variants.{Mixed}
 use Rattle.targets.specs.Targets.{painted, targetOf, Gives, Readable}
 use Rattle.targets.proofs.PoolLaws.{root-gives, middle-gives, root-readable, middle-readable}
 use Rattle.targets.proofs.WantedLaws.{unpainted-target}
+use Rattle.targets.specs.Paints.{noPaint}
 use Rattle.change.specs.declared.Work.the-variants.{Tidying}
-use Rattle.change.specs.Answers.{noPaint}
 use Rattle.change.specs.Runs.{Run, Stands, OnlyFrom, MiddleOwners}
 use Rattle.change.specs.Tidying.{TidyAt, AimedAt, MiddlePlace, Owns, Table, Place}
 use Rattle.change.proofs.TidyWordLaws.{root-becomes, page-becomes, root-stays, still-leads, page-stays}

@@ -19,28 +19,27 @@ use Rattle.table.proofs.FormLaws.{lawful, exact}
 use Rattle.table.proofs.WantLaws.{wanting}
 use Rattle.targets.specs.declared.Target.{Target}
 use Rattle.targets.specs.declared.Target.the-variants.{Says, Mixed}
+use Rattle.plan.specs.Aims.{noAim}
 use Rattle.change.specs.declared.Work.the-variants.{Tidying}
 use Rattle.change.specs.Runs.{phases, Run, Stands, Stores}
-use Rattle.change.specs.Answers.{noPaint}
 use Rattle.change.specs.Tidying.{TidyAt, Becomes, AimedAt}
 use Rattle.change.proofs.State.{here-was}
 use Rattle.change.proofs.StateLaws.{at-jump}
 use Rattle.change.proofs.OutcomeLaws.{one-goal}
-use Rattle.change.proofs.TidyGoalLaws.{tidy-finished}
 use Rattle.change.proofs.TidyLaws.{differs-first}
 
 module _ {s : Shape} {old : List ℕ} {Q : ℕ → ℕ} {kept : ℕ → Bool} {n k : ℕ} {x : List ℕ} {left : ℕ}
     (a : TidyAt s old Q kept n k x left) where
   same-goal : (j : ℕ) → a .cut .goal j ≡ Q j
-  same-goal = one-goal s 0 noPaint old Q (a .goal .finished) (a .cut)
+  same-goal = one-goal s noAim old Q (a .goal .finished) (a .cut)
 
   -- The pool as it is has the same finished pool.
   pub tidy-now : Finished (formOf s) (words x) (rightOf (formOf s) (words x)) Q
-  tidy-now = tidy-finished s 0 (words x) (finished-words (formOf s) _ _ same-goal (a .cut .again))
+  tidy-now = finished-words (formOf s) _ _ same-goal (a .cut .again)
 
   -- So has the pool as it was.
   pub tidy-old : Finished (formOf s) (words old) (rightOf (formOf s) (words old)) Q
-  tidy-old = tidy-finished s 0 (words old) (a .goal .finished)
+  tidy-old = a .goal .finished
 
   -- A word that is to change is of the first phase.
   pub first-phase : (j : ℕ) → Q j ≢ words old j → phases s old kept j ≡ 1
@@ -85,11 +84,11 @@ module _ {s : Shape} {old : List ℕ} {Q : ℕ → ℕ} {kept : ℕ → Bool} {n
 module _ (s : Shape) (u : Run s Tidying) {x : List ℕ} where
   pub as-tidying : {k : ℕ} → Stands s Tidying u 1 k x → TidyAt s (u .old) (u .goal) (u .kept) (u .allowance) k x
       (u .left)
-  as-tidying a = let (e, f) = u .meant in rw (e, f) at a
+  as-tidying a = rw (u .meant) at a
 
   pub of-tidying : {k : ℕ} → TidyAt s (u .old) (u .goal) (u .kept) (u .allowance) k x (u .left)
       → Stands s Tidying u 1 k x
-  of-tidying a = let (e, f) = u .meant in rw (e, f) a
+  of-tidying a = rw (u .meant) a
 
   -- The word stays,
   pub aim-passes : (k : ℕ) (t : Target) → t ≡ Mixed → AimedAt s k x t → Stands s Tidying u 1 k x

@@ -1,4 +1,4 @@
--- What is said of a change that was cut, and what makes a store due. A tidying is the change of an empty region.
+-- What is said of a change or a tidying that was cut, by its aim, and what makes a store due.
 use Prim.Native.Nat.{ℕ, suc, _<_}
 use mathlib.Core.Path.{_≡_}
 use mathlib.Core.Logic.{_≢_, _⊎_}
@@ -11,8 +11,7 @@ use Rattle.theory.specs.Finished.{Finished}
 use Rattle.theory.specs.Stores.{Next}
 use Rattle.table.specs.declared.Shape.{Shape}
 use Rattle.table.specs.Map.{addresses, formOf}
-use Rattle.targets.specs.declared.Paint.{Paint}
-use Rattle.plan.specs.Aims.{aims, Covered}
+use Rattle.plan.specs.Aims.{Aim, aimedAt}
 
 -- How many words of two pools differ.
 unfoldable pub differing : List ℕ → List ℕ → ℕ
@@ -20,10 +19,11 @@ differing [] q = 0
 differing (x ∷ p) [] = 0
 differing (x ∷ p) (y ∷ q) = cond (eqb x y) (differing p q) (suc (differing p q))
 
--- The change of the pool `old`, cut after `n` stores, has left `x`. `goal` is the finished pool.
-pub record CutAt (s : Shape) (d : ℕ) (paint : Paint) (old : List ℕ) (n : ℕ) (x : List ℕ) : Type 0 where
+-- What sets the rights of the aim `A` in the pool `old` was cut after `n` stores, and has left `x`. `goal` is the
+-- finished pool.
+pub record CutAt (s : Shape) (A : Aim) (old : List ℕ) (n : ℕ) (x : List ℕ) : Type 0 where
   pub goal : ℕ → ℕ
-  pub finished : Finished (formOf s) (words old) (aims s d paint (words old)) goal
+  pub finished : Finished (formOf s) (words old) (aimedAt s A (words old)) goal
   pub long : length x ≡ length old
   -- Exactly `n` of the differing words have their finished value, the others their old one,
   pub count : differing old x ≡ n
@@ -31,20 +31,20 @@ pub record CutAt (s : Shape) (d : ℕ) (paint : Paint) (old : List ℕ) (n : ℕ
   -- the pool is sound,
   pub sound : SoundPool (formOf s) (words x)
   -- every covered word has its old or new right,
-  pub covered : (e a : ℕ) → e < s .domains → a < addresses → Covered d paint e a
+  pub covered : (e a : ℕ) → e < s .domains → a < addresses → A .covers e a ≡ true
       → (rightOf (formOf s) (words x) e a ≡ rightOf (formOf s) (words old) e a)
-      ⊎ (rightOf (formOf s) (words x) e a ≡ paint .right)
+      ⊎ (rightOf (formOf s) (words x) e a ≡ A .sets e a)
   -- and every other its old one.
-  pub others : (e a : ℕ) → e < s .domains → a < addresses → (Covered d paint e a → ⊥)
+  pub others : (e a : ℕ) → e < s .domains → a < addresses → A .covers e a ≡ false
       → rightOf (formOf s) (words x) e a ≡ rightOf (formOf s) (words old) e a
-  -- The change from here would finish in the same pool.
-  pub again : Finished (formOf s) (words x) (aims s d paint (words x)) goal
+  -- The same aim from here would finish in the same pool.
+  pub again : Finished (formOf s) (words x) (aimedAt s A (words x)) goal
 
--- A store of `v` at word `k` is due in the pool `x`: it is one that the change from here to its finished pool makes
--- first.
-pub record Due (s : Shape) (d : ℕ) (paint : Paint) (x : List ℕ) (k v : ℕ) : Type 0 where
+-- A store of `v` at word `k` is due in the pool `x`: it is one that comes first on the way from here to the finished
+-- pool of the aim.
+pub record Due (s : Shape) (A : Aim) (x : List ℕ) (k v : ℕ) : Type 0 where
   pub goal : ℕ → ℕ
-  pub finished : Finished (formOf s) (words x) (aims s d paint (words x)) goal
+  pub finished : Finished (formOf s) (words x) (aimedAt s A (words x)) goal
   pub sound : SoundPool (formOf s) (words x)
   pub next : Next (formOf s) (words x) goal (words x) k
   pub value : v ≡ goal k

@@ -12,9 +12,8 @@ use Rattle.table.specs.declared.Shape.{Shape}
 use Rattle.table.specs.Shape.{Fits, firstMiddle}
 use Rattle.table.specs.Map.{formOf}
 use Rattle.census.specs.Places.{maxPlaces}
-use Rattle.targets.specs.declared.Paint.{Paint}
 use Rattle.plan.specs.Plan.{PlanFits}
-use Rattle.plan.specs.Aims.{Goal}
+use Rattle.plan.specs.Aims.{Aim, noAim, Goal}
 use Rattle.plan.specs.Goals.{Planned}
 use Rattle.change.specs.declared.Answer.{Answer}
 use Rattle.change.specs.declared.Answer.the-variants.{Done, Cut}
@@ -24,7 +23,7 @@ use Rattle.change.specs.declared.Next.the-variants.{Store, None}
 use Rattle.change.specs.declared.Work.{Work}
 use Rattle.change.specs.declared.Work.the-variants.{Change, Tidying}
 use Rattle.change.specs.Cuts.{differing, CutAt}
-use Rattle.change.specs.Answers.{noPaint, IsDone, IsCut}
+use Rattle.change.specs.Answers.{IsDone, IsCut}
 
 -- The phase of a word: of the kept ones that lead first, then of those in no kept table, then of the others.
 abbrev pub phases : Shape → List ℕ → (ℕ → Bool) → ℕ → ℕ
@@ -32,33 +31,32 @@ phases s old kept = phase (formOf s) (words old) kept
 
 -- In the change of `old` with the allowance `n`, the phases before `c`, and of phase `c` the words below `k`, are
 -- done; `left` stores are left.
-pub record At (s : Shape) (d : ℕ) (paint : Paint) (old : List ℕ) (Q : ℕ → ℕ) (kept : ℕ → Bool) (n c k : ℕ)
+pub record At (s : Shape) (A : Aim) (old : List ℕ) (Q : ℕ → ℕ) (kept : ℕ → Bool) (n c k : ℕ)
     (x : List ℕ) (left : ℕ) : Type 0 where
-  pub goal : Goal s d paint old Q kept
+  pub goal : Goal s A old Q kept
   pub pool : (j : ℕ) → words x j ≡ midway (words old) Q (phases s old kept) c k j
   pub done : ℕ
   pub sum : left + done ≡ n
-  pub cut : CutAt s d paint old done x
+  pub cut : CutAt s A old done x
 
--- The work is that of the domain, the paint and the goal: by its plan; and a tidying is the change of the empty region.
-abbrev pub Meant : Shape → ℕ → Paint → Work → List ℕ → (ℕ → ℕ) → (ℕ → Bool) → Type 0
-Meant s d paint (Change q) old goal kept = Planned s d paint q old goal kept
-Meant s d paint Tidying old goal kept = (d ≡ 0) × (paint ≡ noPaint)
+-- The work is that of the aim and the goal: a change by its plan, and a tidying aims at nothing.
+abbrev pub Meant : Shape → Aim → Work → List ℕ → (ℕ → ℕ) → (ℕ → Bool) → Type 0
+Meant s A (Change q) old goal kept = Planned s A q old goal kept
+Meant s A Tidying old goal kept = A ≡ noAim
 
 -- A run of the work `w`.
 pub record Run (s : Shape) (w : Work) : Type 0 where
-  pub domain : ℕ
-  pub paint : Paint
+  pub aim : Aim
   pub old : List ℕ
   pub goal : ℕ → ℕ
   pub kept : ℕ → Bool
   pub allowance : ℕ
   pub left : ℕ
-  pub meant : Meant s domain paint w old goal kept
+  pub meant : Meant s aim w old goal kept
 
 -- It stands at word `k` of phase `c`, in the pool `x`.
 abbrev pub Stands : (s : Shape) (w : Work) → Run s w → ℕ → ℕ → List ℕ → Type 0
-Stands s w r c k x = At s (r .domain) (r .paint) (r .old) (r .goal) (r .kept) (r .allowance) c k x (r .left)
+Stands s w r c k x = At s (r .aim) (r .old) (r .goal) (r .kept) (r .allowance) c k x (r .left)
 
 -- A cursor that the work can go on from, in a pool of `n` words: the plan is in its ranges and the row within the
 -- pool; a tidying has one phase.
@@ -118,15 +116,15 @@ abbrev pub start : Cursor
 start = record { phase = 1; word = record { 0 = 0 }; past = record { 0 = 0 } }
 
 -- The work is ready to be made on the pool `x`.
-pub record Ready (s : Shape) (d : ℕ) (paint : Paint) (w : Work) (x : List ℕ) : Type 0 where
+pub record Ready (s : Shape) (A : Aim) (w : Work) (x : List ℕ) : Type 0 where
   pub fits : Fits s (length x)
   pub goal : ℕ → ℕ
   pub kept : ℕ → Bool
-  pub aim : Goal s d paint x goal kept
-  pub meant : Meant s d paint w x goal kept
+  pub due : Goal s A x goal kept
+  pub meant : Meant s A w x goal kept
   pub follows : Follows w start (length x)
 
 -- A change or a tidying of `p` with the allowance `n` is done, with the count, or cut.
-pub data Ends (p : List ℕ) (s : Shape) (d : ℕ) (paint : Paint) (n : ℕ) : Answer → List ℕ → Type 0 where
-  all-made : (q : List ℕ) → IsDone s d paint p n q → Ends p s d paint n (Done (differing p q)) q
-  cut-short : (x : List ℕ) → IsCut s d paint p n x → Ends p s d paint n Cut x
+pub data Ends (p : List ℕ) (s : Shape) (A : Aim) (n : ℕ) : Answer → List ℕ → Type 0 where
+  all-made : (q : List ℕ) → IsDone s A p n q → Ends p s A n (Done (differing p q)) q
+  cut-short : (x : List ℕ) → IsCut s A p n x → Ends p s A n Cut x

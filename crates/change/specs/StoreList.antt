@@ -9,8 +9,7 @@ use Rattle.theory.specs.Pool.{words}
 use Rattle.theory.specs.Phase.{phase}
 use Rattle.table.specs.declared.Shape.{Shape}
 use Rattle.table.specs.Map.{formOf}
-use Rattle.targets.specs.declared.Paint.{Paint}
-use Rattle.plan.specs.Aims.{Goal}
+use Rattle.plan.specs.Aims.{Aim, Goal}
 use Rattle.change.specs.declared.Answer.{Answer}
 use Rattle.change.specs.declared.Answer.the-variants.{Done, Cut, Refused}
 
@@ -43,11 +42,11 @@ unfoldable pub stored : List ℕ → List OneStore → List ℕ
 stored x [] = x
 stored x (w ∷ l) = stored (set x (w .word) (w .value)) l
 
--- The stores of the change of the pool `old` are the list `l`.
-pub record StoresAre (s : Shape) (d : ℕ) (paint : Paint) (old : List ℕ) (l : List OneStore) : Type 0 where
+-- The stores that the aim `A` makes in the pool `old` are the list `l`.
+pub record StoresAre (s : Shape) (A : Aim) (old : List ℕ) (l : List OneStore) : Type 0 where
   pub finished-pool : ℕ → ℕ
   pub kept : ℕ → Bool
-  pub goal : Goal s d paint old finished-pool kept
+  pub goal : Goal s A old finished-pool kept
   pub list : l ≡ storesOf s old finished-pool kept
 
 -- With the allowance `n`, the first `n` stores of the list were made, or all; done is all of them, with their number,

@@ -11,11 +11,11 @@ use Rattle.table.specs.Shape.{firstMiddle}
 use Rattle.targets.specs.declared.Target.{Target}
 use Rattle.targets.specs.declared.Target.the-variants.{Says, Mixed}
 use Rattle.change.specs.Runs.{At}
-use Rattle.change.specs.Answers.{noPaint}
+use Rattle.plan.specs.Aims.{noAim}
 
 -- The tidying of `old` with the allowance `n` has come to word `k`; `left` stores are left.
 abbrev pub TidyAt : Shape → List ℕ → (ℕ → ℕ) → (ℕ → Bool) → ℕ → ℕ → List ℕ → ℕ → Type 0
-TidyAt s old goal kept n k x left = At s 0 noPaint old goal kept n 1 k x left
+TidyAt s old goal kept n k x left = At s noAim old goal kept n 1 k x left
 
 -- By its target, a word that holds `w` and is to hold `g` changes to rights, or stays.
 abbrev pub Becomes : Target → ℕ → ℕ → Type 0

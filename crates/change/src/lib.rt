@@ -9,6 +9,7 @@ ghost use Rattle.table.specs.Shape.{Fits, InRange};
 ghost use Rattle.plan.specs.Plan.{isLead, InTable, tableOf, isNew, rootAfter, pageAfter, leafAfter, after, newWord};
 ghost use Rattle.plan.specs.Plan.{phaseOf, PlanFits};
 ghost use Rattle.plan.specs.Planning.{Regular};
+ghost use Rattle.plan.specs.Aims.{aimOf};
 ghost use Rattle.change.specs.Answers.{Changes};
 ghost use Rattle.change.specs.Cuts.{CutAt, Due};
 ghost use Rattle.change.specs.Requests.{RegionIs, RequestIs};
@@ -279,10 +280,10 @@ fn phase_of(shape: Shape, plan: Plan, k: PoolWord, x: u32) -> u32
 // The one store. All stores of a change and of a tidying are made here, and none but one that is due: the pool is
 // then what a cut leaves.
 fn put(pool: &mut [u32], shape: Shape, domain: u32, paint: Paint, at: PoolWord, value: u32)
-    requires { ⌜ Due shape domain paint (now pool) (at .0) value ⌝ }
+    requires { ⌜ Due shape (aimOf domain paint) (now pool) (at .0) value ⌝ }
     ensures stored { λ r. ⌜ now (pool .exit) ≡ set (now (pool .entry)) (at .0) value ⌝ }
-    ensures cut { λ r. ⌜ ((old : List ℕ) (n : ℕ) → CutAt shape domain paint old n (now (pool .entry))
-        → CutAt shape domain paint old (n + 1) (now (pool .exit))) ⌝ }
+    ensures cut { λ r. ⌜ ((old : List ℕ) (n : ℕ) → CutAt shape (aimOf domain paint) old n (now (pool .entry))
+        → CutAt shape (aimOf domain paint) old (n + 1) (now (pool .exit))) ⌝ }
 {
     let i = words::pool_index(at);
     pool[i] = value;
@@ -312,9 +313,9 @@ fn make_stores(
     work: Work,
     allowance: u32,
 ) -> Answer
-    requires { ⌜ Ready shape domain paint work (now pool) ⌝ }
+    requires { ⌜ Ready shape (aimOf domain paint) work (now pool) ⌝ }
     requires { ⌜ Told shape work (now owners) (now pool) ⌝ }
-    ensures { λ r. ⌜ Ends (now (pool .entry)) shape domain paint allowance r (now (pool .exit)) ⌝ }
+    ensures { λ r. ⌜ Ends (now (pool .entry)) shape (aimOf domain paint) allowance r (now (pool .exit)) ⌝ }
 {
     let mut left = allowance;
     let mut from = START;
@@ -337,7 +338,7 @@ fn make_stores(
 fn plan_region(pool: &[u32], shape: Shape, domain: u32, paint: Paint) -> Request
     requires { ⌜ Fits shape (length (now pool)) ⌝ }
     requires { ⌜ (domain < shape .domains) × Regular paint ⌝ }
-    ensures { λ r. ⌜ RegionIs (now (pool .entry)) shape domain paint r ⌝ }
+    ensures { λ r. ⌜ RegionIs (now (pool .entry)) shape (aimOf domain paint) r ⌝ }
 {
     let mut owners = [0u32; 72];
     let sound = census::census(pool, shape, &mut owners);
@@ -410,10 +411,11 @@ pub fn change(
         Request::Refused(k) => Answer::Refused(k),
         Request::Planned(plan) => {
             let paint = plan.paint;
+            let to = plan.domain;
             let work = Work::Change(plan);
             // The plan knows its tables.
             let owners = [0u32; 0];
-            make_stores(pool, shape, &owners, domain, paint, work, allowance)
+            make_stores(pool, shape, &owners, to, paint, work, allowance)
         }
     }
 }

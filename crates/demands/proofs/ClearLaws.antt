@@ -19,7 +19,7 @@ use Rattle.table.specs.Shape.{Fits, fitsOf}
 use Rattle.table.specs.Map.{addresses, formOf}
 use Rattle.table.specs.Lookup.{foundAt, lookupOf}
 use Rattle.table.proofs.LookupLaws.{right-found, lookup-walks, sound-lookup}
-use Rattle.targets.specs.declared.Paint.{Paint}
+use Rattle.plan.specs.Aims.{Aim}
 use Rattle.change.specs.declared.Answer.{Answer}
 use Rattle.change.specs.Answers.{ChangesRegion, Changes, Tidies, no-shape, no-domain, no-right, no-region, in-order}
 use Rattle.change.specs.Answers.{unsound, unsettled, no-room, done, cut}
@@ -146,8 +146,8 @@ module _ (p : List ℕ) (s : Shape) (b : Buffer) (g : AllClear p s b) where
       n = refusalOf s (length p) (b .next) d kind size a
 
   -- What a change or a tidying leaves is the pool that came in, or sound.
-  region-clear : {q : List ℕ} {d n : ℕ} {paint : Paint} {c : Answer} → Fits s (length p)
-      → ChangesRegion p s d paint n c q → AllClear q s b
+  region-clear : {q : List ℕ} {A : Aim} {n : ℕ} {c : Answer} → Fits s (length p)
+      → ChangesRegion p s A n c q → AllClear q s b
   region-clear f (unsound x) = g
   region-clear f (unsettled x y) = g
   region-clear f (no-room x y) = g

@@ -13,7 +13,8 @@ use Rattle.table.specs.Map.{formOf}
 use Rattle.places.proofs.Exists.{finished-fits}
 use Rattle.change.specs.declared.Answer.{Answer}
 use Rattle.change.specs.declared.Answer.the-variants.{Done, Cut, Refused}
-use Rattle.change.specs.Answers.{paintOf, Asked, ChangesRegion, Changes, Tidies, no-shape, no-domain, no-right}
+use Rattle.plan.specs.Aims.{Aim, changeAim}
+use Rattle.change.specs.Answers.{Asked, ChangesRegion, Changes, Tidies, no-shape, no-domain, no-right}
 use Rattle.change.specs.Answers.{no-region, in-order, unsound, unsettled, no-room, done, cut}
 use Rattle.demands.specs.Series.{History, Series, RoomFor, ByRoom, full, finishes, is-cut}
 use Rattle.change.proofs.AnswerLaws.{done-refused, cut-refused, done-cut, same-number}
@@ -41,7 +42,7 @@ tidied-settled (cut y z q w) e = absurd (done-cut (sym e))
 
 -- The request of a change that is in order up to 5 is answered as its region is.
 asked-region : {p : List ℕ} {s : Shape} {d start len r n : ℕ} {g : Region} {c : Answer} {q : List ℕ}
-    → Asked p s d start len r g → Changes p s d start len r n c q → ChangesRegion p s d (paintOf g r) n c q
+    → Asked p s d start len r g → Changes p s d start len r n c q → ChangesRegion p s (changeAim d g r) n c q
 asked-region a (no-shape y) = absurd (y (a .fits))
 asked-region a (no-domain y z) = let w = a .domain in absurd (omega arith)
 asked-region a (no-right y z w) = let v = a .right in absurd (omega arith)
@@ -54,8 +55,8 @@ asked-region {start = start} {len = len} a (in-order g x y) =
 
 -- .. in which a change that is in order up to 5 is refused 8 exactly where the rights it would leave need more tables
 -- than there are, and is otherwise done or cut.
-region-by-room : {p : List ℕ} {s : Shape} {d r n : ℕ} {g : Region} {c : Answer} {q : List ℕ}
-    → Settled (formOf s) (words p) → ChangesRegion p s d (paintOf g r) n c q → ByRoom s p d g r c
+region-by-room : {p : List ℕ} {s : Shape} {A : Aim} {n : ℕ} {c : Answer} {q : List ℕ}
+    → Settled (formOf s) (words p) → ChangesRegion p s A n c q → ByRoom s p A c
 region-by-room t (unsound y) = absurd (y (t .sound))
 region-by-room t (unsettled y z) = absurd (z t)
 region-by-room t (no-room y z) = full z
@@ -63,11 +64,12 @@ region-by-room {s = s} t (done y q z) = finishes (finished-fits s (z .finished))
 region-by-room {s = s} t (cut y q z) = is-cut (finished-fits s (z .cut .finished))
 
 pub settled-by-room : {p : List ℕ} {s : Shape} {d start len r n : ℕ} {g : Region} {c : Answer} {q : List ℕ}
-    → Settled (formOf s) (words p) → Asked p s d start len r g → Changes p s d start len r n c q → ByRoom s p d g r c
+    → Settled (formOf s) (words p) → Asked p s d start len r g → Changes p s d start len r n c q
+        → ByRoom s p (changeAim d g r) c
 settled-by-room t a x = region-by-room t (asked-region a x)
 
 -- The same, number by number.
-by-room-not-7 : {s : Shape} {p : List ℕ} {d : ℕ} {g : Region} {r : ℕ} {c : Answer} → ByRoom s p d g r c
+by-room-not-7 : {s : Shape} {p : List ℕ} {A : Aim} {c : Answer} → ByRoom s p A c
     → (c ≢ Refused 6) × (c ≢ Refused 7)
 by-room-not-7 (full y) = (
   (λ e. let w = same-number e in omega arith),
@@ -76,8 +78,8 @@ by-room-not-7 (full y) = (
 by-room-not-7 (finishes y k) = (done-refused, done-refused)
 by-room-not-7 (is-cut y) = (cut-refused, cut-refused)
 
-by-room-8 : {s : Shape} {p : List ℕ} {d : ℕ} {g : Region} {r : ℕ} {c : Answer} → ByRoom s p d g r c
-    → (c ≡ Refused 8 → RoomFor s p d g r → ⊥) × ((RoomFor s p d g r → ⊥) → c ≡ Refused 8)
+by-room-8 : {s : Shape} {p : List ℕ} {A : Aim} {c : Answer} → ByRoom s p A c
+    → (c ≡ Refused 8 → RoomFor s p A → ⊥) × ((RoomFor s p A → ⊥) → c ≡ Refused 8)
 by-room-8 (full y) = ((λ e. y), (λ z. refl))
 by-room-8 (finishes y k) = ((λ e. absurd (done-refused e)), (λ z. absurd (z y)))
 by-room-8 (is-cut y) = ((λ e. absurd (cut-refused e)), (λ z. absurd (z y)))
@@ -89,14 +91,14 @@ settled-not-7 t a x = by-room-not-7 (settled-by-room t a x)
 
 pub settled-exactly-8 : {p : List ℕ} {s : Shape} {d start len r n : ℕ} {g : Region} {c : Answer} {q : List ℕ}
     → Settled (formOf s) (words p) → Asked p s d start len r g → Changes p s d start len r n c q
-    → (c ≡ Refused 8 → RoomFor s p d g r → ⊥) × ((RoomFor s p d g r → ⊥) → c ≡ Refused 8)
+    → (c ≡ Refused 8 → RoomFor s p (changeAim d g r) → ⊥) × ((RoomFor s p (changeAim d g r) → ⊥) → c ≡ Refused 8)
 settled-exactly-8 t a x = by-room-8 (settled-by-room t a x)
 
 -- In a series, after a tidying that was not cut: a change in order is refused 8 exactly where there is no room for the
 -- finished rights, and is otherwise done or cut.
 pub room-exactly : {s : Shape} {p q x : List ℕ} {h : History} {n m : ℕ} {b c : Answer} {d start len r : ℕ} {g : Region}
     → Series s p h → Tidies p s n b q → b ≢ Cut → Asked q s d start len r g → Changes q s d start len r m c x
-    → ByRoom s q d g r c
+    → ByRoom s q (changeAim d g r) c
 room-exactly y t whole a z =
     let settled = ⊎-elim (λ (k, e). tidied-settled t e) (λ e. absurd (whole e)) (series-tidy-ends y t) in
     settled-by-room settled a z

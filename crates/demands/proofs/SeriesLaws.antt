@@ -22,16 +22,14 @@ use Rattle.table.specs.Fresh.{MakesFresh, freshPool}
 use Rattle.table.specs.Map.{formOf}
 use Rattle.table.proofs.ShapeLaws.{test-fits}
 use Rattle.table.proofs.FreshWordLaws.{fresh-settled, fresh-right}
-use Rattle.targets.specs.declared.Paint.{Paint}
 use Rattle.change.specs.declared.Answer.{Answer}
 use Rattle.change.specs.declared.Answer.the-variants.{Done, Cut, Refused}
-use Rattle.plan.specs.Aims.{Covered}
-use Rattle.change.specs.Answers.{paintOf, noPaint, Asked, ChangesRegion, Changes, Tidies, no-shape}
+use Rattle.plan.specs.Aims.{Aim}
+use Rattle.change.specs.Answers.{ChangesRegion, Changes, Tidies, no-shape}
 use Rattle.change.specs.Answers.{no-domain, no-right, no-region, in-order, unsound, unsettled, no-room, done, cut}
 use Rattle.change.proofs.AnswerLaws.{done-refused, cut-refused, same-number}
-use Rattle.change.proofs.TidyGoalLaws.{none-covered}
-use Rattle.plan.proofs.AimLaws.{aims-covered, aims-other, covered-or}
-use Rattle.demands.specs.Series.{History, made, changed, tidied, Covers-it, Series, fresh, change, tidy}
+use Rattle.plan.proofs.AimLaws.{aimed-covered, aimed-other}
+use Rattle.demands.specs.Series.{History, made, aimed, tidied, aimIn, changed, Series, fresh, change, tidy}
 use Rattle.demands.specs.Series.{Holds}
 
 pub one-region : (start len : ℕ) {g h : Region} → regionOf start len ≡ Covers g → regionOf start len ≡ Covers h → g ≡ h
@@ -57,39 +55,29 @@ fresh-holds s p q m = by-cases (fitsOf s (length p))
     refuses e = let z : _≡_ {A = ℕ} 0 1 = cc in omega arith
 
 module _ {s : Shape} {p : List ℕ} {h : History} (o : Holds s p h) where
-  module _ {d start len r : ℕ} {g : Region} (asked : Asked p s d start len r g) where
-    covers-it : (e a : ℕ) → Covered d (paintOf g r) e a → Covers-it d start len e a
-    covers-it e a (q, c) = (g, asked .region, q, c)
-
-    it-covers : (e a : ℕ) → Covers-it d start len e a → Covered d (paintOf g r) e a
-    it-covers e a (k, z, q, c) = let y : k ≡ g = one-region start len z (asked .region) in (q, rw y at c)
-
-    region-holds : {n : ℕ} {c : Answer} {q : List ℕ} → ChangesRegion p s d (paintOf g r) n c q
-        → Holds s q (changed h d start len r c)
-    region-holds (unsound x) = record { fits = o .fits; sound = o .sound; rights = o .rights }
-    region-holds (unsettled x y) = record { fits = o .fits; sound = o .sound; rights = o .rights }
-    region-holds (no-room x y) = record { fits = o .fits; sound = o .sound; rights = o .rights }
-    region-holds (done t q f) = record {
-      fits = rw (f .long) (o .fits);
-      sound = f .finished .settled .sound;
-      rights = λ e a be ba. ⊎-elim
-          (λ c. inl (covers-it e a c, f .finished .rights e a be ba ∙ aims-covered s d (paintOf g r) (words p) e a c))
-          (λ c.
-          let same = f .finished .rights e a be ba ∙ aims-other s d (paintOf g r) (words p) e a c in
-          inr ((λ z. c (it-covers e a z)), rw same (o .rights e a be ba)))
-          (covered-or d (paintOf g r) e a);
-    }
-    region-holds (cut t x f) = record {
-      fits = rw (f .cut .long) (o .fits);
-      sound = f .cut .sound;
-      rights = λ e a be ba. ⊎-elim
-          (λ c. ⊎-elim
-          (λ y. inr (rw y (o .rights e a be ba)))
-          (λ y. inl (covers-it e a c, y))
-          (f .cut .covered e a be ba c))
-          (λ c. inr (rw (f .cut .others e a be ba c) (o .rights e a be ba)))
-          (covered-or d (paintOf g r) e a);
-    }
+  region-holds : {A : Aim} {n : ℕ} {c : Answer} {q : List ℕ} → ChangesRegion p s A n c q → Holds s q (aimed h A c)
+  region-holds (unsound x) = record { fits = o .fits; sound = o .sound; rights = o .rights }
+  region-holds (unsettled x y) = record { fits = o .fits; sound = o .sound; rights = o .rights }
+  region-holds (no-room x y) = record { fits = o .fits; sound = o .sound; rights = o .rights }
+  region-holds {A} (done t q f) = record {
+    fits = rw (f .long) (o .fits);
+    sound = f .finished .settled .sound;
+    rights = λ e a be ba. by-cases (A .covers e a)
+        (λ c. inl (c, f .finished .rights e a be ba ∙ aimed-covered s A (words p) e a c))
+        (λ c.
+        let same = f .finished .rights e a be ba ∙ aimed-other s A (words p) e a c in
+        inr (c, rw same (o .rights e a be ba)));
+  }
+  region-holds {A} (cut t x f) = record {
+    fits = rw (f .cut .long) (o .fits);
+    sound = f .cut .sound;
+    rights = λ e a be ba. by-cases (A .covers e a)
+        (λ c. ⊎-elim
+        (λ y. inr (rw y (o .rights e a be ba)))
+        (λ y. inl (c, y))
+        (f .cut .covered e a be ba c))
+        (λ c. inr (rw (f .cut .others e a be ba c) (o .rights e a be ba)));
+  }
 
   change-holds : {d start len r n : ℕ} {c : Answer} {q : List ℕ} → Changes p s d start len r n c q
       → Holds s q (changed h d start len r c)
@@ -97,7 +85,7 @@ module _ {s : Shape} {p : List ℕ} {h : History} (o : Holds s p h) where
   change-holds (no-domain x y) = record { fits = o .fits; sound = o .sound; rights = o .rights }
   change-holds (no-right x y z) = record { fits = o .fits; sound = o .sound; rights = o .rights }
   change-holds (no-region x y z k w) = record { fits = o .fits; sound = o .sound; rights = o .rights }
-  change-holds (in-order g asked x) = region-holds asked x
+  change-holds {d} {r = r} (in-order g asked x) = rw (ap (λ z. aimIn z d r) (asked .region)) (region-holds x)
 
   tidy-holds : {n : ℕ} {c : Answer} {q : List ℕ} → Tidies p s n c q → Holds s q (tidied h c)
   tidy-holds (no-shape x) = record { fits = o .fits; sound = o .sound; rights = o .rights }
@@ -105,14 +93,12 @@ module _ {s : Shape} {p : List ℕ} {h : History} (o : Holds s p h) where
   tidy-holds (done x y q f) = record {
     fits = rw (f .long) (o .fits);
     sound = f .finished .settled .sound;
-    rights = λ e a be ba.
-        let other = aims-other s 0 noPaint (words p) e a (none-covered 0 e a) in
-        rw (f .finished .rights e a be ba ∙ other) (o .rights e a be ba);
+    rights = λ e a be ba. rw (f .finished .rights e a be ba) (o .rights e a be ba);
   }
   tidy-holds (cut x y q f) = record {
     fits = rw (f .cut .long) (o .fits);
     sound = f .cut .sound;
-    rights = λ e a be ba. rw (f .cut .others e a be ba (none-covered 0 e a)) (o .rights e a be ba);
+    rights = λ e a be ba. rw (f .cut .others e a be ba refl) (o .rights e a be ba);
   }
 
 -- Demand 3: after any series the pool is sound, and every word has the right of the last finished change that covers
@@ -123,8 +109,8 @@ series-holds (change x c) = change-holds (series-holds x) c
 series-holds (tidy x c) = tidy-holds (series-holds x) c
 
 -- No change and no tidying of a series is refused 6 ..
-never-unsound : {s : Shape} {p q : List ℕ} {d : ℕ} {paint : Paint} {n : ℕ} {c : Answer}
-    → SoundPool (formOf s) (words p) → ChangesRegion p s d paint n c q → c ≢ Refused 6
+never-unsound : {s : Shape} {p q : List ℕ} {A : Aim} {n : ℕ} {c : Answer}
+    → SoundPool (formOf s) (words p) → ChangesRegion p s A n c q → c ≢ Refused 6
 never-unsound o (unsound x) e = x o
 never-unsound o (unsettled x y) e = let z = same-number e in omega arith
 never-unsound o (no-room x y) e = let z = same-number e in omega arith

@@ -20,9 +20,10 @@ use Rattle.table.specs.Shape.{Fits}
 use Rattle.table.specs.Map.{addresses, formOf}
 use Rattle.table.specs.Lookup.{lookupOf}
 use Rattle.table.proofs.LookupLaws.{right-loads, sound-lookup}
-use Rattle.plan.proofs.AimLaws.{aims-other}
+use Rattle.plan.specs.Aims.{Aim}
+use Rattle.plan.proofs.AimLaws.{aimed-other}
 use Rattle.change.specs.declared.Answer.{Answer}
-use Rattle.change.specs.Answers.{paintOf, noPaint, ChangesRegion, Changes, Tidies, no-shape, no-domain, no-right}
+use Rattle.change.specs.Answers.{ChangesRegion, Changes, Tidies, no-shape, no-domain, no-right}
 use Rattle.change.specs.Answers.{no-region, in-order, unsound, unsettled, no-room, done, cut}
 use Rattle.lookaside.specs.declared.Buffer.{Buffer}
 use Rattle.lookaside.specs.declared.Flushed.{Flushed}
@@ -38,11 +39,10 @@ use Rattle.lookaside.proofs.FlushLaws.{pointed-goes}
 use Rattle.lookaside.proofs.AgreeLaws.{emptied-agrees, change-agrees, tidy-agrees, more-agrees, flush-agrees}
 use Rattle.lookaside.proofs.AgreeLaws.{check-agrees}
 use Rattle.lookaside.proofs.VerdictLaws.{check-right, check-as-emptied}
-use Rattle.demands.specs.Series.{History, Series, fresh, change, tidy}
+use Rattle.demands.specs.Series.{History, aimIn, Series, fresh, change, tidy}
 use Rattle.demands.specs.Watched.{placesOf, altered, Watched, emptied, checked, changed, tidied, flushed-all}
 use Rattle.demands.specs.Watched.{flushed-domain, flushed-region, unflushed}
 use Rattle.demands.proofs.SeriesLaws.{series-holds}
-use Rattle.change.proofs.TidyGoalLaws.{none-covered}
 use Rattle.demands.proofs.ClearLaws.{AllClear, not-six, orSix, emptied-clear, flushed-clear, check-clear}
 use Rattle.demands.proofs.ClearLaws.{change-clear, tidy-clear, check-six}
 
@@ -57,36 +57,31 @@ lookup-exact p s d a q f h =
 
 -- What a change leaves as it was: all but the places that it may have altered.
 
-uncovered : (d : ℕ) (g : Region) (e a : ℕ) → within d g e a ≡ false → (e ≡ d) × (covered g a ≡ true) → ⊥
-uncovered d g e a z (q, c) = false≢true (sym z ∙ ap (λ t. t && covered g a) (eq-eqb e d q) ∙ c)
-
-region-same : {p q : List ℕ} {s : Shape} {d r n : ℕ} (g : Region) {c : Answer}
-    → ChangesRegion p s d (paintOf g r) n c q
-    → SameBut (s .domains) (altered c (Covers g) d) (rightsOf s p) (rightsOf s q)
-region-same g (unsound x) e a be ba z = refl
-region-same g (unsettled x y) e a be ba z = refl
-region-same g (no-room x y) e a be ba z = refl
-region-same {p} {s = s} {d} {r} g (done t q f) e a be ba z =
-    sym (f .finished .rights e a be ba ∙ aims-other s d (paintOf g r) (words p) e a (uncovered d g e a z))
-region-same {d = d} g (cut t x f) e a be ba z = sym (f .cut .others e a be ba (uncovered d g e a z))
+region-same : {p q : List ℕ} {s : Shape} {A : Aim} {n : ℕ} {c : Answer} → ChangesRegion p s A n c q
+    → SameBut (s .domains) (altered c A) (rightsOf s p) (rightsOf s q)
+region-same (unsound x) e a be ba z = refl
+region-same (unsettled x y) e a be ba z = refl
+region-same (no-room x y) e a be ba z = refl
+region-same {p} {s = s} {A} (done t q f) e a be ba z =
+    sym (f .finished .rights e a be ba ∙ aimed-other s A (words p) e a z)
+region-same (cut t x f) e a be ba z = sym (f .cut .others e a be ba z)
 
 pub change-same : {p q : List ℕ} {s : Shape} {d start len r n : ℕ} {c : Answer} → Changes p s d start len r n c q
-    → SameBut (s .domains) (altered c (regionOf start len) d) (rightsOf s p) (rightsOf s q)
+    → SameBut (s .domains) (altered c (aimIn (regionOf start len) d r)) (rightsOf s p) (rightsOf s q)
 change-same (no-shape x) e a be ba z = refl
 change-same (no-domain x y) e a be ba z = refl
 change-same (no-right x y w) e a be ba z = refl
 change-same (no-region x y w k v) e a be ba z = refl
-change-same {d = d} {start} {len} {c = c} (in-order g asked x) e a be ba z =
-    region-same g x e a be ba (ap (λ t. altered c t d e a) (sym (asked .region)) ∙ z)
+change-same {d = d} {r = r} {c = c} (in-order g asked x) e a be ba z =
+    region-same x e a be ba (ap (λ t. altered c (aimIn t d r) e a) (sym (asked .region)) ∙ z)
 
 -- A tidying, finished or cut, leaves all rights: it needs no flush.
 pub tidy-same : {p q : List ℕ} {s : Shape} {n : ℕ} {c : Answer} → Tidies p s n c q
     → SameBut (s .domains) nowhere (rightsOf s p) (rightsOf s q)
 tidy-same (no-shape x) e a be ba z = refl
 tidy-same (unsound x y) e a be ba z = refl
-tidy-same {p} {s = s} (done x y q f) e a be ba z =
-    sym (f .finished .rights e a be ba ∙ aims-other s 0 noPaint (words p) e a (none-covered 0 e a))
-tidy-same (cut x y q f) e a be ba z = sym (f .cut .others e a be ba (none-covered 0 e a))
+tidy-same (done x y q f) e a be ba z = sym (f .finished .rights e a be ba)
+tidy-same (cut x y q f) e a be ba z = sym (f .cut .others e a be ba refl)
 
 -- The buffer agrees with the table but where it is stale, no slot answers where the walk is refused 6, and its pointer
 -- is in order.
@@ -116,10 +111,9 @@ module _ {s : Shape} {p : List ℕ} {b : Buffer} {x : Places} (o : Sees s p b x)
   }
 
   change-sees : {q : List ℕ} {d start len r n : ℕ} {c : Answer} → Changes p s d start len r n c q
-      → Sees s q b (both x (altered c (regionOf start len) d))
-  change-sees {q} {d} {start} {len} {c = c} y = record {
-    agrees = change-agrees (s .domains) (rightsOf s p) (rightsOf s q) b x (altered c (regionOf start len) d)
-        (change-same y) (o .agrees);
+      → Sees s q b (both x (altered c (aimIn (regionOf start len) d r)))
+  change-sees {q} y = record {
+    agrees = change-agrees (s .domains) (rightsOf s p) (rightsOf s q) b x _ (change-same y) (o .agrees);
     clear = change-clear p s b (o .clear) y;
     pointer = o .pointer;
   }

@@ -1,10 +1,9 @@
--- Laws of the calls on lent states: a state of the wrong length, and a state of its layout's. Assumes nothing.
+-- Laws of the calls on lent states: a shape or a state of the wrong length, and all of their layouts'. Assumes nothing.
 use Prim.Native.Nat.{ℕ}
 use mathlib.Core.Path.{_≡_, sym}
 use mathlib.Core.List.{List, [], _∷_}
 use borrow.Author.Tests.{eq-eqb, ne-eqb}
 use lib.ListN.{length, getD}
-use Rattle.table.specs.declared.Shape.{Shape}
 use Rattle.lookaside.specs.declared.Buffer.{Buffer}
 use Rattle.lookaside.specs.declared.Checked.{Checked}
 use Rattle.lookaside.specs.declared.Flushed.{Flushed}
@@ -17,35 +16,43 @@ use Rattle.gates.specs.declared.GatesSet.{GatesSet}
 use Rattle.gates.specs.declared.Step.{Step}
 use Rattle.gates.specs.Steps.{stepOf, numbers as stepNumbers}
 use Rattle.goleuthan.specs.Out.{outWith, wrongLength}
+use Rattle.goleuthan.specs.Calls.{shapeLong, shapeIn}
 use Rattle.goleuthan.specs.States.{bufferLong, bufferOf, bufferWords, gatesLong, gatesOf, gatesWords}
 use Rattle.goleuthan.specs.States.{stackLong, stackOf, stackWords}
 use Rattle.goleuthan.specs.StateCalls.{stateAfter, back, verdictResults, checkCall, flushCall, gatesCall}
 use Rattle.goleuthan.specs.StateCalls.{stepResults, stepCall}
 
-module _ (p : List ℕ) (s : Shape) (ws : List ℕ) (d kind size a : ℕ) (out res : List ℕ) where
-  pub check-wrong : (length ws ≡ bufferLong → ⊥) → res ≡ outWith (0 ∷ 0 ∷ []) out → back wrongLength ws res
-      ≡ checkCall p s ws d kind size a out
+module _ (p sh ws : List ℕ) (d kind size a : ℕ) (out res : List ℕ) where
+  pub check-no-shape : (length sh ≡ shapeLong → ⊥) → res ≡ outWith (0 ∷ 0 ∷ []) out → back wrongLength ws res
+      ≡ checkCall p sh ws d kind size a out
   unfolding checkCall
-  check-wrong h e = rw (e, ne-eqb (length ws) bufferLong h)
+  check-no-shape h e = rw (e, ne-eqb (length sh) shapeLong h)
+
+  pub check-no-buffer : length sh ≡ shapeLong → (length ws ≡ bufferLong → ⊥) → res ≡ outWith (0 ∷ 0 ∷ []) out
+      → back wrongLength ws res ≡ checkCall p sh ws d kind size a out
+  unfolding checkCall
+  check-no-buffer f h e = rw (e, eq-eqb (length sh) shapeLong f, ne-eqb (length ws) bufferLong h)
 
   -- By the check that was made and what was written of it.
-  pub check-made : length ws ≡ bufferLong → (c : Checked) → c ≡ checkOf p s (bufferOf ws) d kind size a
+  pub check-made : length sh ≡ shapeLong → length ws ≡ bufferLong
+      → (c : Checked) → c ≡ checkOf p (shapeIn sh) (bufferOf ws) d kind size a
       → (n : ℕ) (new : List ℕ)
       → n ≡ verdictNumbers (c .verdict) .refusal → new ≡ bufferWords (c .buffer) → res
       ≡ outWith (verdictResults (c .verdict)) out
-      → back n new res ≡ checkCall p s ws d kind size a out
+      → back n new res ≡ checkCall p sh ws d kind size a out
   unfolding checkCall
-  check-made h c e n new en ew er = rw (en, ew, er, e, eq-eqb (length ws) bufferLong h)
+  check-made f h c e n new en ew er =
+      rw (en, ew, er, e, eq-eqb (length sh) shapeLong f, eq-eqb (length ws) bufferLong h)
 
   -- The same by what the check decided of the words.
-  pub check-by : length ws ≡ bufferLong → (x : Decided) → x ≡ decideOf p s (getD ws 256 0)
-      (firstMatch (bufferOf ws .slots) d a) d kind size a → (n : ℕ) (new : List ℕ)
+  pub check-by : length sh ≡ shapeLong → length ws ≡ bufferLong → (x : Decided) → x ≡ decideOf p (shapeIn sh)
+      (getD ws 256 0) (firstMatch (bufferOf ws .slots) d a) d kind size a → (n : ℕ) (new : List ℕ)
       → n ≡ verdictNumbers (x .verdict) .refusal → new ≡ bufferWords (filledBy (bufferOf ws) (x .fill)) → res
       ≡ outWith (verdictResults (x .verdict)) out
-      → back n new res ≡ checkCall p s ws d kind size a out
-  check-by h x e n new en ew er =
-      check-made h (record { verdict = x .verdict; buffer = filledBy (bufferOf ws) (x .fill) })
-      (rw e (sym (check-decided p s (bufferOf ws) d kind size a))) n new en ew er
+      → back n new res ≡ checkCall p sh ws d kind size a out
+  check-by f h x e n new en ew er =
+      check-made f h (record { verdict = x .verdict; buffer = filledBy (bufferOf ws) (x .fill) })
+      (rw e (sym (check-decided p (shapeIn sh) (bufferOf ws) d kind size a))) n new en ew er
 
 module _ (f : Buffer → Flushed) (ws : List ℕ) where
   pub flush-wrong : (length ws ≡ bufferLong → ⊥) → stateAfter wrongLength ws ≡ flushCall f ws
@@ -71,22 +78,29 @@ module _ (f : Gates → GatesSet) (ws : List ℕ) where
   unfolding gatesCall
   gates-made h r e new ew = rw (ew, e, eq-eqb (length ws) gatesLong h)
 
-module _ (p : List ℕ) (s : Shape) (gs ws : List ℕ) (a t : ℕ) (out res : List ℕ) where
-  pub step-no-gates : (length gs ≡ gatesLong → ⊥) → res ≡ outWith (0 ∷ []) out → back wrongLength ws res
-      ≡ stepCall p s gs ws a t out
+module _ (p sh gs ws : List ℕ) (a t : ℕ) (out res : List ℕ) where
+  pub step-no-shape : (length sh ≡ shapeLong → ⊥) → res ≡ outWith (0 ∷ []) out → back wrongLength ws res
+      ≡ stepCall p sh gs ws a t out
   unfolding stepCall
-  step-no-gates h e = rw (e, ne-eqb (length gs) gatesLong h)
+  step-no-shape h e = rw (e, ne-eqb (length sh) shapeLong h)
 
-  pub step-no-stack : length gs ≡ gatesLong → (length ws ≡ stackLong → ⊥) → res ≡ outWith (0 ∷ []) out
-      → back wrongLength ws res ≡ stepCall p s gs ws a t out
+  pub step-no-gates : length sh ≡ shapeLong → (length gs ≡ gatesLong → ⊥) → res ≡ outWith (0 ∷ []) out
+      → back wrongLength ws res ≡ stepCall p sh gs ws a t out
   unfolding stepCall
-  step-no-stack g h e = rw (e, eq-eqb (length gs) gatesLong g, ne-eqb (length ws) stackLong h)
+  step-no-gates f h e = rw (e, eq-eqb (length sh) shapeLong f, ne-eqb (length gs) gatesLong h)
+
+  pub step-no-stack : length sh ≡ shapeLong → length gs ≡ gatesLong → (length ws ≡ stackLong → ⊥) → res
+      ≡ outWith (0 ∷ []) out → back wrongLength ws res ≡ stepCall p sh gs ws a t out
+  unfolding stepCall
+  step-no-stack f g h e =
+      rw (e, eq-eqb (length sh) shapeLong f, eq-eqb (length gs) gatesLong g, ne-eqb (length ws) stackLong h)
 
   -- By the step that was made and what was written of it.
-  pub step-made : length gs ≡ gatesLong → length ws ≡ stackLong
-      → (r : Step) → r ≡ stepOf p s (gatesOf gs) (stackOf ws) (record { 0 = a }) (record { 0 = t })
+  pub step-made : length sh ≡ shapeLong → length gs ≡ gatesLong → length ws ≡ stackLong
+      → (r : Step) → r ≡ stepOf p (shapeIn sh) (gatesOf gs) (stackOf ws) (record { 0 = a }) (record { 0 = t })
       → (n : ℕ) (new : List ℕ)
       → n ≡ stepNumbers (r .answer) .refusal → new ≡ stackWords (r .stack) → res ≡ outWith (stepResults (r .answer)) out
-      → back n new res ≡ stepCall p s gs ws a t out
+      → back n new res ≡ stepCall p sh gs ws a t out
   unfolding stepCall
-  step-made g h r e n new en ew er = rw (en, ew, er, e, eq-eqb (length gs) gatesLong g, eq-eqb (length ws) stackLong h)
+  step-made f g h r e n new en ew er =
+      rw (en, ew, er, e, eq-eqb (length sh) shapeLong f, eq-eqb (length gs) gatesLong g, eq-eqb (length ws) stackLong h)

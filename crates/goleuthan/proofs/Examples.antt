@@ -1,4 +1,5 @@
--- Words that a caller begins with, and result words where few are lent: what the header says of them, computed.
+-- Words that a caller begins with, shapes, and result words where few are lent: what the header says of them,
+-- computed.
 use Prim.Native.Nat.{ℕ}
 use mathlib.Core.Path.{_≡_, refl}
 use mathlib.Core.List.{[], _∷_, _++_}
@@ -8,6 +9,7 @@ use Rattle.gates.specs.Gates.{held}
 use Rattle.gates.specs.Steps.{emptyStack}
 use Rattle.goleuthan.specs.Rows.{rowsOf}
 use Rattle.goleuthan.specs.Out.{outWith}
+use Rattle.goleuthan.specs.Calls.{shapeIn}
 use Rattle.goleuthan.specs.States.{bufferOf, gatesOf, stackOf}
 
 -- All words 0 is an empty buffer.
@@ -23,6 +25,16 @@ zero-gates = refl
 zero-stack : (d : ℕ) → stackOf (replicate 33 0 ++ d ∷ []) ≡ emptyStack d
 unfolding rowsOf
 zero-stack d = refl
+
+-- The greatest shape of the paper's form; and the same words in another form, or with a V, say no domain.
+full-shape : shapeIn (0 ∷ 4 ∷ 8 ∷ 64 ∷ 0 ∷ []) ≡ record { domains = 4; middles = 8; leaves = 64 }
+full-shape = refl
+
+other-form : shapeIn (1 ∷ 4 ∷ 8 ∷ 64 ∷ 0 ∷ []) .domains ≡ 0
+other-form = refl
+
+some-v : shapeIn (0 ∷ 4 ∷ 8 ∷ 64 ∷ 1 ∷ []) .domains ≡ 0
+some-v = refl
 
 -- Fewer words lent than there are results, as many, and more.
 few-words : outWith (2 ∷ 7 ∷ 3 ∷ []) (9 ∷ []) ≡ 2 ∷ []

@@ -5,7 +5,7 @@ use mathlib.Core.Logic.{_≢_}
 use mathlib.Core.Bool.{Bool, true, false, cond}
 use mathlib.Core.List.{List, [], _∷_}
 use lib.ListN.{length}
-use Rattle.targets.specs.declared.Paint.{Paint}
+use Rattle.plan.specs.Aims.{Aim}
 use Rattle.table.specs.declared.Shape.{Shape}
 use Rattle.table.specs.declared.Made.the-variants.{Done as Fresh, Refused as NotFresh}
 use Rattle.table.specs.declared.Found.{Found}
@@ -20,32 +20,34 @@ use Rattle.listing.specs.declared.Listed.{Listed}
 use Rattle.listing.specs.Listing.{Lists, numbers as listedNumbers, no-shape as list-no-shape}
 use Rattle.listing.specs.Listing.{unsound as list-unsound, listed}
 use Rattle.goleuthan.specs.Out.{outWith, wasCut}
-use Rattle.goleuthan.specs.Calls.{answerNumber, foundResults, answerResults, listedResults, FreshCall}
-use Rattle.goleuthan.specs.Calls.{LookupCall, ChangeCall, TidyCall, ListCall}
+use Rattle.goleuthan.specs.Calls.{shapeIn, answerNumber, foundResults, answerResults, listedResults, FreshCall}
+use Rattle.goleuthan.specs.Calls.{LookupCall, ChangeCall, TidyCall, ListCall, wrong-length, shaped}
 
 -- Making fresh.
-pub fresh-refused : {p : List ℕ} {s : Shape} {n : ℕ} {q : List ℕ} → FreshCall p s n q → n ≢ 0 → q ≡ p
-fresh-refused {p} {s} {q = q} x h = go (fitsOf s (length p)) (x .promise .answer) (x .promise .pool)
+pub fresh-refused : {p sh : List ℕ} {n : ℕ} {q : List ℕ} → FreshCall p sh n q → n ≢ 0 → q ≡ p
+fresh-refused (wrong-length f) h = refl
+fresh-refused {p} {sh} (shaped l made q x) h = go (fitsOf (shapeIn sh) (length p)) (x .answer) (x .pool)
   where
-    go : (t : Bool) → x .made ≡ cond t Fresh (NotFresh 1) → q ≡ cond t (freshPool s) p → q ≡ p
-    go true e k = absurd (h (x .number ∙ ap madeNumber e))
+    go : (t : Bool) → made ≡ cond t Fresh (NotFresh 1) → q ≡ cond t (freshPool (shapeIn sh)) p → q ≡ p
+    go true e k = absurd (h (ap madeNumber e))
     go false e k = k
 
 -- A lookup.
-pub lookup-refused : {p : List ℕ} {s : Shape} {d a n : ℕ} {out res : List ℕ} → LookupCall p s d a out n res → n ≢ 0
+found-zeros : (f : Found) → foundNumbers f .refusal ≢ 0 → foundResults f ≡ 0 ∷ 0 ∷ 0 ∷ []
+found-zeros (Right r w k) real = absurd (real refl)
+found-zeros (NotFound k) real = refl
+
+pub lookup-refused : {p sh : List ℕ} {d a n : ℕ} {out res : List ℕ} → LookupCall p sh d a out n res → n ≢ 0
     → res ≡ outWith (0 ∷ 0 ∷ 0 ∷ []) out
-lookup-refused {out = out} x h = x .results ∙ ap (λ l. outWith l out) (zeros (x .found) (λ e. h (x .number ∙ e)))
-  where
-    zeros : (f : Found) → foundNumbers f .refusal ≢ 0 → foundResults f ≡ 0 ∷ 0 ∷ 0 ∷ []
-    zeros (Right r w k) real = absurd (real refl)
-    zeros (NotFound k) real = refl
+lookup-refused (wrong-length f) h = refl
+lookup-refused {out = out} (shaped l f x) h = ap (λ r. outWith r out) (found-zeros f h)
 
 -- A change or a tidying that is neither done nor cut.
 abbrev Untouched : List ℕ → Answer → List ℕ → Type 0
 Untouched p a q = answerNumber a ≢ 0 → answerNumber a ≢ wasCut → (q ≡ p) × (answerResults a ≡ 0 ∷ [])
 
-region-untouched : {p : List ℕ} {s : Shape} {d : ℕ} {paint : Paint} {n : ℕ} {a : Answer} {q : List ℕ}
-    → ChangesRegion p s d paint n a q → Untouched p a q
+region-untouched : {p : List ℕ} {s : Shape} {A : Aim} {n : ℕ} {a : Answer} {q : List ℕ}
+    → ChangesRegion p s A n a q → Untouched p a q
 region-untouched (unsound f) h k = (refl, refl)
 region-untouched (unsettled o f) h k = (refl, refl)
 region-untouched (no-room o f) h k = (refl, refl)
@@ -66,32 +68,33 @@ tidy-untouched (unsound f o) h k = (refl, refl)
 tidy-untouched (done f o q e) h k = absurd (h refl)
 tidy-untouched (cut f o q e) h k = absurd (k refl)
 
--- The number and the results of a call are its answer's.
-untouched : {p q res : List ℕ} {n : ℕ} (out : List ℕ) (a : Answer) → Untouched p a q → n ≡ answerNumber a → res
-    ≡ outWith (answerResults a) out → n ≢ 0 → n ≢ wasCut
-    → (q ≡ p) × (res ≡ outWith (0 ∷ []) out)
-untouched out a u e r h k =
-    let w = u (λ z. h (e ∙ z)) (λ z. k (e ∙ z)) in (w .0, r ∙ ap (λ l. outWith l out) (w .1))
+-- The results of a call are its answer's.
+untouched : {p q : List ℕ} (out : List ℕ) (a : Answer) → Untouched p a q → answerNumber a ≢ 0 → answerNumber a
+    ≢ wasCut → (q ≡ p) × (outWith (answerResults a) out ≡ outWith (0 ∷ []) out)
+untouched out a u h k = let w = u h k in (w .0, ap (λ l. outWith l out) (w .1))
 
-pub change-refused : {p : List ℕ} {s : Shape} {d start len right allowance n : ℕ} {out q res : List ℕ}
-    → ChangeCall p s d start len right allowance out n q res → n ≢ 0 → n ≢ wasCut → (q ≡ p)
+pub change-refused : {p sh : List ℕ} {d start len right allowance n : ℕ} {out q res : List ℕ}
+    → ChangeCall p sh d start len right allowance out n q res → n ≢ 0 → n ≢ wasCut → (q ≡ p)
     × (res ≡ outWith (0 ∷ []) out)
-change-refused {out = out} x = untouched out (x .answer) (change-untouched (x .promise)) (x .number) (x .results)
+change-refused (wrong-length f) h k = (refl, refl)
+change-refused {out = out} (shaped l a q x) h k = untouched out a (change-untouched x) h k
 
-pub tidy-refused : {p : List ℕ} {s : Shape} {allowance n : ℕ} {out q res : List ℕ}
-    → TidyCall p s allowance out n q res → n ≢ 0 → n ≢ wasCut
+pub tidy-refused : {p sh : List ℕ} {allowance n : ℕ} {out q res : List ℕ}
+    → TidyCall p sh allowance out n q res → n ≢ 0 → n ≢ wasCut
     → (q ≡ p) × (res ≡ outWith (0 ∷ []) out)
-tidy-refused {out = out} x = untouched out (x .answer) (tidy-untouched (x .promise)) (x .number) (x .results)
+tidy-refused (wrong-length f) h k = (refl, refl)
+tidy-refused {out = out} (shaped l a q x) h k = untouched out a (tidy-untouched x) h k
 
 -- A listing.
-pub list-refused : {p : List ℕ} {s : Shape} {from n : ℕ} {runs out shown res : List ℕ}
-    → ListCall p s from runs out n shown res → n ≢ 0
+listing-untouched : {p : List ℕ} {s : Shape} {from : ℕ} {runs shown : List ℕ} {a : Listed} → Lists p s from runs a shown
+    → listedNumbers a .refusal ≢ 0 → (shown ≡ runs) × (listedResults a ≡ 0 ∷ [])
+listing-untouched (list-no-shape f) real = (refl, refl)
+listing-untouched (list-unsound f o) real = (refl, refl)
+listing-untouched (listed f o rs e) real = absurd (real refl)
+
+pub list-refused : {p sh : List ℕ} {from n : ℕ} {runs out shown res : List ℕ}
+    → ListCall p sh from runs out n shown res → n ≢ 0
     → (shown ≡ runs) × (res ≡ outWith (0 ∷ []) out)
-list-refused {p} {s} {from = from} {runs = runs} {out = out} x h =
-    let w = go (x .promise) (λ e. h (x .number ∙ e)) in (w .0, x .results ∙ ap (λ l. outWith l out) (w .1))
-  where
-    go : {a : Listed} {l : List ℕ} → Lists p s from runs a l → listedNumbers a .refusal ≢ 0 → (l ≡ runs)
-        × (listedResults a ≡ 0 ∷ [])
-    go (list-no-shape f) real = (refl, refl)
-    go (list-unsound f o) real = (refl, refl)
-    go (listed f o rs e) real = absurd (real refl)
+list-refused (wrong-length f) h = (refl, refl)
+list-refused {out = out} (shaped l a shown x) h =
+    let w = listing-untouched x h in (w .0, ap (λ r. outWith r out) (w .1))

@@ -37,6 +37,7 @@ use Rattle.theory.proofs.Logic.{and-both}
 use Rattle.gates.proofs.SetLaws.{set-refusal-keeps, remove-refusal-keeps}
 use Rattle.gates.proofs.StepLaws.{step-moves, moves-unless-pass}
 use Rattle.goleuthan.specs.Out.{outWith, wrongLength}
+use Rattle.goleuthan.specs.Calls.{shapeLong, shapeIn}
 use Rattle.goleuthan.specs.States.{bufferLong, bufferOf, bufferWords, gatesLong, gatesOf, gatesWords}
 use Rattle.goleuthan.specs.States.{stackLong, stackOf, stackWords}
 use Rattle.goleuthan.specs.StateCalls.{stateAfter, Back, back, verdictResults, checkedBack, checkCall}
@@ -73,22 +74,25 @@ verdict-zeros (Pass n) h = absurd (h refl)
 verdict-zeros (Deny n) h = absurd (h refl)
 verdict-zeros (Refused n) h = refl
 
-module _ (p : List ℕ) (s : Shape) (ws : List ℕ) (d kind size a : ℕ) (out : List ℕ) where
+module _ (p sh ws : List ℕ) (d kind size a : ℕ) (out : List ℕ) where
   abbrev CheckLeaves : Back → Type 0
   CheckLeaves r = r .number ≢ 0 → (r .state ≡ ws) × (r .out ≡ outWith (0 ∷ 0 ∷ []) out)
 
-  pub check-call-refused : CheckLeaves (checkCall p s ws d kind size a out)
+  abbrev checked : Checked
+  checked = checkOf p (shapeIn sh) (bufferOf ws) d kind size a
+
+  pub check-call-refused : CheckLeaves (checkCall p sh ws d kind size a out)
   unfolding checkCall
-  check-call-refused = go (eqb (length ws) bufferLong) refl
+  check-call-refused = go (eqb (length sh) shapeLong && eqb (length ws) bufferLong) refl
     where
-      go : (t : Bool) → eqb (length ws) bufferLong ≡ t
-          → CheckLeaves (cond t (checkedBack (checkOf p s (bufferOf ws) d kind size a) out)
-          (back wrongLength ws (outWith (0 ∷ 0 ∷ []) out)))
-      go true e h = (
-        ap bufferWords (check-keeps p s (bufferOf ws) d kind size a h)
-            ∙ buffer-words ws (eqb-true (length ws) bufferLong e),
-        ap (λ l. outWith l out) (verdict-zeros (checkOf p s (bufferOf ws) d kind size a .verdict) h),
-      )
+      go : (t : Bool) → (eqb (length sh) shapeLong && eqb (length ws) bufferLong) ≡ t
+          → CheckLeaves (cond t (checkedBack checked out) (back wrongLength ws (outWith (0 ∷ 0 ∷ []) out)))
+      go true e h =
+          let l = and-both (eqb (length sh) shapeLong) (eqb (length ws) bufferLong) e in (
+            ap bufferWords (check-keeps p (shapeIn sh) (bufferOf ws) d kind size a h)
+                ∙ buffer-words ws (eqb-true (length ws) bufferLong (l .1)),
+            ap (λ l. outWith l out) (verdict-zeros (checked .verdict) h),
+          )
       go false e h = (refl, refl)
 
 -- A flush that is refused keeps the buffer.
@@ -132,23 +136,26 @@ step-zeros StepPass h = absurd (h refl)
 step-zeros StepDeny h = absurd (h refl)
 step-zeros (StepRefused n) h = ((λ e. let z : _≡_ {A = ℕ} 0 1 = cc in omega arith), refl)
 
-module _ (p : List ℕ) (s : Shape) (gs ws : List ℕ) (a t : ℕ) (out : List ℕ) where
+module _ (p sh gs ws : List ℕ) (a t : ℕ) (out : List ℕ) where
   abbrev StepLeaves : Back → Type 0
   StepLeaves r = r .number ≢ 0 → (r .state ≡ ws) × (r .out ≡ outWith (0 ∷ []) out)
 
   abbrev step : Step
-  step = stepOf p s (gatesOf gs) (stackOf ws) (record { 0 = a }) (record { 0 = t })
+  step = stepOf p (shapeIn sh) (gatesOf gs) (stackOf ws) (record { 0 = a }) (record { 0 = t })
 
-  pub step-call-refused : StepLeaves (stepCall p s gs ws a t out)
+  abbrev long : Bool
+  long = eqb (length sh) shapeLong && eqb (length gs) gatesLong && eqb (length ws) stackLong
+
+  pub step-call-refused : StepLeaves (stepCall p sh gs ws a t out)
   unfolding stepCall
-  step-call-refused = go (eqb (length gs) gatesLong && eqb (length ws) stackLong) refl
+  step-call-refused = go long refl
     where
-      go : (x : Bool) → (eqb (length gs) gatesLong && eqb (length ws) stackLong) ≡ x
+      go : (x : Bool) → long ≡ x
           → StepLeaves (cond x (steppedBack step out) (back wrongLength ws (outWith (0 ∷ []) out)))
       go true e h =
           let z = step-zeros (step .answer) h in
-          let l = and-both (eqb (length gs) gatesLong) (eqb (length ws) stackLong) e in (
-            ap stackWords (moves-unless-pass (step-moves p s (gatesOf gs) (stackOf ws) (record { 0 = a })
+          let l = and-both (eqb (length sh) shapeLong && eqb (length gs) gatesLong) (eqb (length ws) stackLong) e in (
+            ap stackWords (moves-unless-pass (step-moves p (shapeIn sh) (gatesOf gs) (stackOf ws) (record { 0 = a })
                 (record { 0 = t })) (z .0))
                 ∙ stack-words ws (eqb-true (length ws) stackLong (l .1)),
             ap (λ r. outWith r out) (z .1),

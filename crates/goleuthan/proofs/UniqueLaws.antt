@@ -1,8 +1,7 @@
 -- Each call has one outcome: one number, one pool, and one content of each lent slice. Assumes nothing.
 use Prim.Native.Nat.{ℕ}
-use mathlib.Core.Path.{_≡_, sym, ap, _∙_}
+use mathlib.Core.Path.{_≡_, refl, sym, ap, _∙_}
 use mathlib.Core.List.{List}
-use Rattle.table.specs.declared.Shape.{Shape}
 use Rattle.table.specs.declared.Found.{Found}
 use Rattle.table.specs.Fresh.{madeNumber}
 use Rattle.table.specs.Lookup.{numbers as foundNumbers}
@@ -15,51 +14,61 @@ use Rattle.listing.specs.declared.Listed.{Listed}
 use Rattle.listing.specs.Listing.{numbers as listedNumbers}
 use Rattle.listing.proofs.ListingLaws.{one-listing}
 use Rattle.goleuthan.specs.Out.{outWith}
-use Rattle.goleuthan.specs.Calls.{answerNumber, foundResults, answerResults, listedResults, FreshCall}
-use Rattle.goleuthan.specs.Calls.{LookupCall, ChangeCall, TidyCall, ListCall}
+use Rattle.goleuthan.specs.Calls.{shapeIn, answerNumber, foundResults, answerResults, listedResults, FreshCall}
+use Rattle.goleuthan.specs.Calls.{LookupCall, ChangeCall, TidyCall, ListCall, wrong-length, shaped}
 use Rattle.goleuthan.specs.StateCalls.{Back, StateAfter, back, stateAfter}
 
-module _ {p : List ℕ} {s : Shape} where
-  pub one-fresh-call : {m n : ℕ} {q r : List ℕ} → FreshCall p s m q → FreshCall p s n r → (m ≡ n) × (q ≡ r)
-  one-fresh-call x y =
-      let e = one-fresh (x .promise) (y .promise) in (x .number ∙ ap madeNumber (e .0) ∙ sym (y .number), e .1)
+-- One answer and one pool are one number, one pool and one result.
+answered : {a b : Answer} {q r : List ℕ} (out : List ℕ) → (a ≡ b) × (q ≡ r)
+    → (answerNumber a ≡ answerNumber b) × (q ≡ r) × (outWith (answerResults a) out ≡ outWith (answerResults b) out)
+answered out e = (ap answerNumber (e .0), e .1, ap (λ (a : Answer). outWith (answerResults a) out) (e .0))
 
-  pub one-lookup-call : {d a m n : ℕ} {out t u : List ℕ} → LookupCall p s d a out m t → LookupCall p s d a out n u
+module _ {p sh : List ℕ} where
+  pub one-fresh-call : {m n : ℕ} {q r : List ℕ} → FreshCall p sh m q → FreshCall p sh n r → (m ≡ n) × (q ≡ r)
+  one-fresh-call (wrong-length f) (wrong-length g) = (refl, refl)
+  one-fresh-call (wrong-length f) (shaped h k q x) = absurd (f h)
+  one-fresh-call (shaped h k q x) (wrong-length f) = absurd (f h)
+  one-fresh-call (shaped h k q x) (shaped i l r y) =
+      let e = one-fresh x y in (ap madeNumber (e .0), e .1)
+
+  pub one-lookup-call : {d a m n : ℕ} {out t u : List ℕ} → LookupCall p sh d a out m t → LookupCall p sh d a out n u
       → (m ≡ n) × (t ≡ u)
-  one-lookup-call {out = out} x y =
-      let e = one-lookup (x .promise) (y .promise) in (
-        x .number ∙ ap (λ (f : Found). foundNumbers f .refusal) e ∙ sym (y .number),
-        x .results ∙ ap (λ (f : Found). outWith (foundResults f) out) e ∙ sym (y .results),
+  one-lookup-call (wrong-length f) (wrong-length g) = (refl, refl)
+  one-lookup-call (wrong-length f) (shaped h k x) = absurd (f h)
+  one-lookup-call (shaped h k x) (wrong-length f) = absurd (f h)
+  one-lookup-call {out = out} (shaped h k x) (shaped i l y) =
+      let e = one-lookup x y in (
+        ap (λ (f : Found). foundNumbers f .refusal) e,
+        ap (λ (f : Found). outWith (foundResults f) out) e,
       )
 
   pub one-change-call : {d start len right allowance m n : ℕ} {out q r t u : List ℕ}
-      → ChangeCall p s d start len right allowance out m q t
-      → ChangeCall p s d start len right allowance out n r u → (m ≡ n) × (q ≡ r) × (t ≡ u)
-  one-change-call {out = out} x y =
-      let e = one-change (x .promise) (y .promise) in (
-        x .number ∙ ap answerNumber (e .0) ∙ sym (y .number),
-        e .1,
-        x .results ∙ ap (λ (a : Answer). outWith (answerResults a) out) (e .0) ∙ sym (y .results),
-      )
+      → ChangeCall p sh d start len right allowance out m q t
+      → ChangeCall p sh d start len right allowance out n r u → (m ≡ n) × (q ≡ r) × (t ≡ u)
+  one-change-call (wrong-length f) (wrong-length g) = (refl, refl, refl)
+  one-change-call (wrong-length f) (shaped h k q x) = absurd (f h)
+  one-change-call (shaped h k q x) (wrong-length f) = absurd (f h)
+  one-change-call {out = out} (shaped h k q x) (shaped i l r y) = answered out (one-change x y)
 
-  pub one-tidy-call : {allowance m n : ℕ} {out q r t u : List ℕ} → TidyCall p s allowance out m q t
-      → TidyCall p s allowance out n r u
+  pub one-tidy-call : {allowance m n : ℕ} {out q r t u : List ℕ} → TidyCall p sh allowance out m q t
+      → TidyCall p sh allowance out n r u
       → (m ≡ n) × (q ≡ r) × (t ≡ u)
-  one-tidy-call {out = out} x y =
-      let e = one-tidy (x .promise) (y .promise) in (
-        x .number ∙ ap answerNumber (e .0) ∙ sym (y .number),
-        e .1,
-        x .results ∙ ap (λ (a : Answer). outWith (answerResults a) out) (e .0) ∙ sym (y .results),
-      )
+  one-tidy-call (wrong-length f) (wrong-length g) = (refl, refl, refl)
+  one-tidy-call (wrong-length f) (shaped h k q x) = absurd (f h)
+  one-tidy-call (shaped h k q x) (wrong-length f) = absurd (f h)
+  one-tidy-call {out = out} (shaped h k q x) (shaped i l r y) = answered out (one-tidy x y)
 
-  pub one-list-call : {from m n : ℕ} {runs out q r t u : List ℕ} → ListCall p s from runs out m q t
-      → ListCall p s from runs out n r u
+  pub one-list-call : {from m n : ℕ} {runs out q r t u : List ℕ} → ListCall p sh from runs out m q t
+      → ListCall p sh from runs out n r u
       → (m ≡ n) × (q ≡ r) × (t ≡ u)
-  one-list-call {from = from} {runs = runs} {out = out} x y =
-      let e = one-listing p s from runs (x .promise) (y .promise) in (
-        x .number ∙ ap (λ (l : Listed). listedNumbers l .refusal) (e .0) ∙ sym (y .number),
+  one-list-call (wrong-length f) (wrong-length g) = (refl, refl, refl)
+  one-list-call (wrong-length f) (shaped h k q x) = absurd (f h)
+  one-list-call (shaped h k q x) (wrong-length f) = absurd (f h)
+  one-list-call {from = from} {runs = runs} {out = out} (shaped h k q x) (shaped i l r y) =
+      let e = one-listing p (shapeIn sh) from runs x y in (
+        ap (λ (l : Listed). listedNumbers l .refusal) (e .0),
         e .1,
-        x .results ∙ ap (λ (l : Listed). outWith (listedResults l) out) (e .0) ∙ sym (y .results),
+        ap (λ (l : Listed). outWith (listedResults l) out) (e .0),
       )
 
 -- A check or a step, of which the contract says what comes back whole.

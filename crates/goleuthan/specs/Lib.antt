@@ -1,5 +1,5 @@
--- The definitions that the contracts of the C face cite: result words, the layouts of the lent states, and what each
--- call gives back.
+-- The definitions that the contracts of the C face cite: result words, the layouts of the lent states, what a
+-- lent shape says, and what each call gives back.
 pub mod Out
 pub mod Rows
 pub mod States

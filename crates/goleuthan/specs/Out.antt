@@ -14,7 +14,7 @@ outWith (r ∷ rs) (w ∷ out) = r ∷ outWith rs out
 abbrev pub wasCut : ℕ
 wasCut = 100
 
--- A lent state is of the wrong length.
+-- A lent shape or state is of the wrong length.
 abbrev pub wrongLength : ℕ
 wrongLength = 101
 

@@ -1,11 +1,10 @@
 -- What each call on a lent state gives back: the library's answer for the state that the words say, as words; 101
--- before all else where the words are not as many as the layout has.
+-- before all else where the words of a state, or of the shape lent with it, are not as many as the layout has.
 use Prim.Native.Nat.{ℕ}
 use mathlib.Core.Bool.{cond, _&&_}
 use mathlib.Core.List.{List, [], _∷_}
 use lib.Dec.{eqb}
 use lib.ListN.{length}
-use Rattle.table.specs.declared.Shape.{Shape}
 use Rattle.lookaside.specs.declared.Buffer.{Buffer}
 use Rattle.lookaside.specs.declared.Checked.{Checked}
 use Rattle.lookaside.specs.declared.Flushed.{Flushed}
@@ -20,6 +19,7 @@ use Rattle.gates.specs.declared.Stepped.{Stepped}
 use Rattle.gates.specs.Gates.{setOf, removeOf}
 use Rattle.gates.specs.Steps.{stepOf, numbers as stepNumbers}
 use Rattle.goleuthan.specs.Out.{outWith, wrongLength}
+use Rattle.goleuthan.specs.Calls.{shapeLong, shapeIn}
 use Rattle.goleuthan.specs.States.{bufferLong, gatesLong, stackLong, bufferOf, bufferWords, gatesOf}
 use Rattle.goleuthan.specs.States.{gatesWords, stackOf, stackWords}
 
@@ -49,10 +49,11 @@ abbrev pub checkedBack : Checked → List ℕ → Back
 checkedBack c out = back (verdictNumbers (c .verdict) .refusal) (bufferWords (c .buffer))
     (outWith (verdictResults (c .verdict)) out)
 
--- What gol_check gives back, of the buffer's words `ws`.
-unfoldable pub checkCall : List ℕ → Shape → List ℕ → ℕ → ℕ → ℕ → ℕ → List ℕ → Back
-checkCall p s ws d kind size a out =
-    cond (eqb (length ws) bufferLong) (checkedBack (checkOf p s (bufferOf ws) d kind size a) out)
+-- What gol_check gives back, of the lent shape `sh` and the buffer's words `ws`.
+unfoldable pub checkCall : List ℕ → List ℕ → List ℕ → ℕ → ℕ → ℕ → ℕ → List ℕ → Back
+checkCall p sh ws d kind size a out =
+    cond (eqb (length sh) shapeLong && eqb (length ws) bufferLong)
+    (checkedBack (checkOf p (shapeIn sh) (bufferOf ws) d kind size a) out)
     (back wrongLength ws (outWith (0 ∷ 0 ∷ []) out))
 
 -- A flush that was made, as words.
@@ -104,10 +105,10 @@ abbrev pub steppedBack : Step → List ℕ → Back
 steppedBack r out = back (stepNumbers (r .answer) .refusal) (stackWords (r .stack))
     (outWith (stepResults (r .answer)) out)
 
--- What gol_step gives back, of the gate set's words `gs` and the stack's `ws`, either of which may be of the wrong
--- length.
-unfoldable pub stepCall : List ℕ → Shape → List ℕ → List ℕ → ℕ → ℕ → List ℕ → Back
-stepCall p s gs ws a t out =
-    cond (eqb (length gs) gatesLong && eqb (length ws) stackLong)
-    (steppedBack (stepOf p s (gatesOf gs) (stackOf ws) (record { 0 = a }) (record { 0 = t })) out)
+-- What gol_step gives back, of the lent shape `sh`, the gate set's words `gs` and the stack's `ws`, each of which may
+-- be of the wrong length.
+unfoldable pub stepCall : List ℕ → List ℕ → List ℕ → List ℕ → ℕ → ℕ → List ℕ → Back
+stepCall p sh gs ws a t out =
+    cond (eqb (length sh) shapeLong && eqb (length gs) gatesLong && eqb (length ws) stackLong)
+    (steppedBack (stepOf p (shapeIn sh) (gatesOf gs) (stackOf ws) (record { 0 = a }) (record { 0 = t })) out)
     (back wrongLength ws (outWith (0 ∷ []) out))

@@ -1,30 +1,29 @@
 // The C face: the library's calls on numbers and slices, under plain names. A slice is a pointer and a length in
 // words. Results go into the lent words `out`, as many as fit; include/goleuthan.h says what a caller owes and gets.
 mod results;
+mod shapes;
 mod states;
 
 ghost use mathlib.Core.Path.{_≡_};
 ghost use Rattle.goleuthan.specs.StateCalls.{back, stateAfter, checkCall, flushAllCall, flushDomainCall};
 ghost use Rattle.goleuthan.specs.StateCalls.{flushRegionCall, setSwitchCall, setReturnCall, removeCall};
 ghost use Rattle.goleuthan.specs.StateCalls.{stepCall};
-ghost use Rattle.goleuthan.specs.Calls.{shapeOf, FreshCall, LookupCall, ChangeCall, TidyCall, ListCall};
+ghost use Rattle.goleuthan.specs.Calls.{FreshCall, LookupCall, ChangeCall, TidyCall, ListCall};
 use gates::Gate;
-use table::Shape;
 
-// A lent state is of the wrong length.
+// A lent shape or state is of the wrong length.
 const WRONG_LENGTH: u32 = 101;
 
 // Makes a pool fresh.
 #[no_mangle]
-pub extern "C" fn gol_fresh(pool: &mut [u32], d: u32, m: u32, l: u32) -> u32
-    ensures { λ r. ⌜ FreshCall (now (pool .entry)) (shapeOf d m l) r (now (pool .exit)) ⌝ }
+pub extern "C" fn gol_fresh(pool: &mut [u32], shape: &[u32]) -> u32
+    ensures { λ r. ⌜ FreshCall (now (pool .entry)) (now (shape .entry)) r (now (pool .exit)) ⌝ }
 {
-    let shape = Shape {
-        domains: d,
-        middles: m,
-        leaves: l,
-    };
-    let made = table::fresh(pool, shape);
+    if shape.len() != shapes::SHAPE_WORDS {
+        return WRONG_LENGTH;
+    }
+    let by = shapes::read_shape(shape);
+    let made = table::fresh(pool, by);
     results::made_number(made)
 }
 
@@ -32,23 +31,21 @@ pub extern "C" fn gol_fresh(pool: &mut [u32], d: u32, m: u32, l: u32) -> u32
 #[no_mangle]
 pub extern "C" fn gol_lookup(
     pool: &[u32],
-    d: u32,
-    m: u32,
-    l: u32,
+    shape: &[u32],
     domain: u32,
     address: u32,
     out: &mut [u32],
 ) -> u32
-    ensures { λ r. ⌜ LookupCall (now (pool .entry)) (shapeOf d m l) domain address (now (out .entry)) r
+    ensures { λ r. ⌜ LookupCall (now (pool .entry)) (now (shape .entry)) domain address (now (out .entry)) r
         (now (out .exit)) ⌝ }
 {
-    let shape = Shape {
-        domains: d,
-        middles: m,
-        leaves: l,
-    };
+    if shape.len() != shapes::SHAPE_WORDS {
+        results::three(out, 0, 0, 0);
+        return WRONG_LENGTH;
+    }
+    let by = shapes::read_shape(shape);
     let at = words::byte_addr(address);
-    let found = table::lookup(pool, shape, domain, at);
+    let found = table::lookup(pool, by, domain, at);
     results::give_found(found, out)
 }
 
@@ -56,9 +53,7 @@ pub extern "C" fn gol_lookup(
 #[no_mangle]
 pub extern "C" fn gol_change(
     pool: &mut [u32],
-    d: u32,
-    m: u32,
-    l: u32,
+    shape: &[u32],
     domain: u32,
     start: u32,
     length: u32,
@@ -66,38 +61,31 @@ pub extern "C" fn gol_change(
     allowance: u32,
     out: &mut [u32],
 ) -> u32
-    ensures { λ r. ⌜ ChangeCall (now (pool .entry)) (shapeOf d m l) domain start length right allowance
+    ensures { λ r. ⌜ ChangeCall (now (pool .entry)) (now (shape .entry)) domain start length right allowance
         (now (out .entry)) r (now (pool .exit)) (now (out .exit)) ⌝ }
 {
-    let shape = Shape {
-        domains: d,
-        middles: m,
-        leaves: l,
-    };
+    if shape.len() != shapes::SHAPE_WORDS {
+        results::one(out, 0);
+        return WRONG_LENGTH;
+    }
+    let by = shapes::read_shape(shape);
     let first = words::byte_addr(start);
-    let answer = change::change(pool, shape, domain, first, length, right, allowance);
+    let answer = change::change(pool, by, domain, first, length, right, allowance);
     results::give_answer(answer, out)
 }
 
 // A tidying.
 #[no_mangle]
-pub extern "C" fn gol_tidy(
-    pool: &mut [u32],
-    d: u32,
-    m: u32,
-    l: u32,
-    allowance: u32,
-    out: &mut [u32],
-) -> u32
-    ensures { λ r. ⌜ TidyCall (now (pool .entry)) (shapeOf d m l) allowance (now (out .entry)) r (now (pool .exit))
+pub extern "C" fn gol_tidy(pool: &mut [u32], shape: &[u32], allowance: u32, out: &mut [u32]) -> u32
+    ensures { λ r. ⌜ TidyCall (now (pool .entry)) (now (shape .entry)) allowance (now (out .entry)) r (now (pool .exit))
         (now (out .exit)) ⌝ }
 {
-    let shape = Shape {
-        domains: d,
-        middles: m,
-        leaves: l,
-    };
-    let answer = change::tidy(pool, shape, allowance);
+    if shape.len() != shapes::SHAPE_WORDS {
+        results::one(out, 0);
+        return WRONG_LENGTH;
+    }
+    let by = shapes::read_shape(shape);
+    let answer = change::tidy(pool, by, allowance);
     results::give_answer(answer, out)
 }
 
@@ -105,23 +93,21 @@ pub extern "C" fn gol_tidy(
 #[no_mangle]
 pub extern "C" fn gol_list(
     pool: &[u32],
-    d: u32,
-    m: u32,
-    l: u32,
+    shape: &[u32],
     from: u32,
     runs: &mut [u32],
     out: &mut [u32],
 ) -> u32
-    ensures { λ r. ⌜ ListCall (now (pool .entry)) (shapeOf d m l) from (now (runs .entry)) (now (out .entry)) r
+    ensures { λ r. ⌜ ListCall (now (pool .entry)) (now (shape .entry)) from (now (runs .entry)) (now (out .entry)) r
         (now (runs .exit)) (now (out .exit)) ⌝ }
 {
-    let shape = Shape {
-        domains: d,
-        middles: m,
-        leaves: l,
-    };
+    if shape.len() != shapes::SHAPE_WORDS {
+        results::one(out, 0);
+        return WRONG_LENGTH;
+    }
+    let by = shapes::read_shape(shape);
     let first = from as usize;
-    let listed = listing::list_runs(pool, shape, first, runs);
+    let listed = listing::list_runs(pool, by, first, runs);
     results::give_listed(listed, out)
 }
 
@@ -130,9 +116,7 @@ pub extern "C" fn gol_list(
 #[no_mangle]
 pub extern "C" fn gol_check(
     pool: &[u32],
-    d: u32,
-    m: u32,
-    l: u32,
+    shape: &[u32],
     buffer: &mut [u32],
     domain: u32,
     kind: u32,
@@ -140,22 +124,22 @@ pub extern "C" fn gol_check(
     address: u32,
     out: &mut [u32],
 ) -> u32
-    ensures { λ r. ⌜ back r (now (buffer .exit)) (now (out .exit)) ≡ checkCall (now (pool .entry)) (shapeOf d m l)
+    ensures { λ r. ⌜ back r (now (buffer .exit)) (now (out .exit)) ≡ checkCall (now (pool .entry)) (now (shape .entry))
         (now (buffer .entry)) domain kind size address (now (out .entry)) ⌝ }
 {
+    if shape.len() != shapes::SHAPE_WORDS {
+        results::two(out, 0, 0);
+        return WRONG_LENGTH;
+    }
     if buffer.len() != states::BUFFER_WORDS {
         results::two(out, 0, 0);
         return WRONG_LENGTH;
     }
-    let shape = Shape {
-        domains: d,
-        middles: m,
-        leaves: l,
-    };
+    let by = shapes::read_shape(shape);
     let at = words::byte_addr(address);
     let next = buffer[256];
     let hit = states::find_slot(buffer, domain, at);
-    let decided = lookaside::decide(pool, shape, next, hit, domain, kind, size, at);
+    let decided = lookaside::decide(pool, by, next, hit, domain, kind, size, at);
     let todo = decided.fill;
     states::fill_words(buffer, todo);
     let verdict = decided.verdict;
@@ -269,18 +253,20 @@ pub extern "C" fn gol_remove_gate(d: u32, gates: &mut [u32], domain: u32, addres
 #[no_mangle]
 pub extern "C" fn gol_step(
     pool: &[u32],
-    d: u32,
-    m: u32,
-    l: u32,
+    shape: &[u32],
     gates: &[u32],
     stack: &mut [u32],
     address: u32,
     target: u32,
     out: &mut [u32],
 ) -> u32
-    ensures { λ r. ⌜ back r (now (stack .exit)) (now (out .exit)) ≡ stepCall (now (pool .entry)) (shapeOf d m l)
+    ensures { λ r. ⌜ back r (now (stack .exit)) (now (out .exit)) ≡ stepCall (now (pool .entry)) (now (shape .entry))
         (now (gates .entry)) (now (stack .entry)) address target (now (out .entry)) ⌝ }
 {
+    if shape.len() != shapes::SHAPE_WORDS {
+        results::one(out, 0);
+        return WRONG_LENGTH;
+    }
     if gates.len() != states::GATES_WORDS {
         results::one(out, 0);
         return WRONG_LENGTH;
@@ -289,16 +275,12 @@ pub extern "C" fn gol_step(
         results::one(out, 0);
         return WRONG_LENGTH;
     }
-    let shape = Shape {
-        domains: d,
-        middles: m,
-        leaves: l,
-    };
+    let by = shapes::read_shape(shape);
     let at = words::byte_addr(address);
     let to = words::byte_addr(target);
     let set = states::read_gates(gates);
     let calls = states::read_stack(stack);
-    let step = gates::fetch_step(pool, shape, set, calls, at, to);
+    let step = gates::fetch_step(pool, by, set, calls, at, to);
     let after = step.stack;
     states::write_stack(stack, after);
     let answer = step.answer;

@@ -1,42 +1,39 @@
--- What a change aims at, on covered words and elsewhere.
+-- What an aim aims at, where it covers and elsewhere; and what a change covers.
 use Prim.Native.Nat.{ℕ}
-use mathlib.Core.Path.{_≡_, refl, sym, ap, _∙_}
-use mathlib.Core.Logic.{_⊎_, inl, inr}
-use mathlib.Core.Bool.{Bool, true, false, cond, _&&_}
-use native.Mathlib.Omega.{arith}
-use native.Mathlib.Decide.{ℕ-discrete}
+use mathlib.Core.Path.{_≡_, refl, ap}
+use mathlib.Core.Bool.{true, false, cond}
 use lib.Dec.{eqb}
 use borrow.Author.Tests.{eq-eqb, eqb-true}
 use Rattle.theory.specs.Pool.{rightOf}
-use Rattle.theory.proofs.Logic.{by-cases}
+use Rattle.theory.proofs.Logic.{by-cases, and-both}
 use Rattle.words.specs.Region.{covered}
+use Rattle.words.specs.declared.Region.{Region}
 use Rattle.table.specs.declared.Shape.{Shape}
 use Rattle.table.specs.Map.{formOf}
 use Rattle.targets.specs.declared.Paint.{Paint}
 use Rattle.targets.specs.Paints.{region}
-use Rattle.plan.specs.Aims.{aims, Covered}
+use Rattle.plan.specs.Aims.{Aim, changeAim, aimOf, aimedAt, aims}
 
--- What a change aims at: the right on covered words, and elsewhere what there is.
-module _ (s : Shape) (d : ℕ) (paint : Paint) (P : ℕ → ℕ) where
-  pub aims-covered : (e a : ℕ) → Covered d paint e a → aims s d paint P e a ≡ paint .right
-  aims-covered e a (q, c) = rw (eq-eqb e d q, c) refl
+module _ (s : Shape) (A : Aim) (P : ℕ → ℕ) (e a : ℕ) where
+  pub aimed-covered : A .covers e a ≡ true → aimedAt s A P e a ≡ A .sets e a
+  aimed-covered c = ap (λ b. cond b (A .sets e a) (rightOf (formOf s) P e a)) c
 
-  pub aims-other : (e a : ℕ) → (Covered d paint e a → ⊥) → aims s d paint P e a ≡ rightOf (formOf s) P e a
-  aims-other e a n = ap (λ b. cond b (paint .right) (rightOf (formOf s) P e a))
-      (off (eqb e d) (covered (region paint) a) (λ x y. n (eqb-true e d x, y)))
-    where
-      off : (x y : Bool) → (x ≡ true → y ≡ true → ⊥) → (x && y) ≡ false
-      off true true f = absurd (f refl refl)
-      off true false f = refl
-      off false y f = refl
+  pub aimed-other : A .covers e a ≡ false → aimedAt s A P e a ≡ rightOf (formOf s) P e a
+  aimed-other c = ap (λ b. cond b (A .sets e a) (rightOf (formOf s) P e a)) c
 
--- Whether a right is one that the change sets.
-pub covered-or : (d : ℕ) (paint : Paint) (e a : ℕ) → Covered d paint e a ⊎ (Covered d paint e a → ⊥)
-covered-or d paint e a = elim (ℕ-discrete e d) [
-  | yes q ↦ by-cases (covered (region paint) a) (λ c. inl (q, c))
-      (λ c. inr (λ z. let x : _≡_ {A = Bool} true false = sym (z .1) ∙ c in apart x))
-  | no q ↦ inr (λ z. q (z .0))
-]
-  where
-    apart : _≡_ {A = Bool} true false → ⊥
-    apart e = let z : _≡_ {A = ℕ} 0 1 = cc in omega arith
+-- A change covers the words of its region, in its domain, and no others.
+module _ (d : ℕ) (g : Region) (r e a : ℕ) where
+  pub change-covers : e ≡ d → covered g a ≡ true → changeAim d g r .covers e a ≡ true
+  change-covers q c = rw (eq-eqb e d q, c) refl
+
+  pub covers-change : changeAim d g r .covers e a ≡ true → (e ≡ d) × (covered g a ≡ true)
+  covers-change c = let (x, y) = and-both (eqb e d) (covered g a) c in (eqb-true e d x, y)
+
+  pub change-misses : covered g a ≡ false → changeAim d g r .covers e a ≡ false
+  change-misses c = by-cases (eqb e d) (λ x. rw (x, c) refl) (λ x. rw x refl)
+
+-- A change aims at its right on the words that it covers.
+pub aims-covered : (s : Shape) (d : ℕ) (paint : Paint) (P : ℕ → ℕ) (e a : ℕ)
+    → (e ≡ d) × (covered (region paint) a ≡ true) → aims s d paint P e a ≡ paint .right
+aims-covered s d paint P e a (q, c) =
+    aimed-covered s (aimOf d paint) P e a (change-covers d (region paint) (paint .right) e a q c)

@@ -25,7 +25,7 @@ use Rattle.targets.specs.declared.Paint.{Paint}
 use Rattle.plan.specs.declared.Edge.{Edge}
 use Rattle.plan.specs.declared.Plan.{Plan}
 use Rattle.plan.specs.Plan.{InTable, tableOf as inEdge, rootAfter, after, newWord}
-use Rattle.plan.specs.Aims.{aims}
+use Rattle.plan.specs.Aims.{aimOf, aims}
 use Rattle.plan.specs.Planning.{Regular}
 use Rattle.plan.specs.Goals.{Planned}
 use Rattle.plan.specs.Edges.{firstOf, lastOf, EdgeIs, Edges, Placed}
@@ -235,15 +235,14 @@ pub planned : (s : Shape) (d : ℕ) (paint : Paint) (p : List ℕ) → Fits s (l
     → {middle leaf : ℕ → ℕ} (freeM freeL : ℕ → Bool) → Placed s d paint (words p) 1 freeM middle
     → Placed s d paint (words p) 0 freeL leaf
     → (q : Plan) → Edges s d paint (words p) middle leaf q
-    → Planned s d paint q p (final s middle leaf (aims s d paint (words p))
+    → Planned s (aimOf d paint) q p (final s middle leaf (aims s d paint (words p))
     (words p))
     (keptWord s freeM freeL)
 planned s d paint p fits st bd reg {middle} {leaf} freeM freeL OM OL q E =
     let c : Setting s d paint (words p) middle leaf freeM freeL =
     record { range = fits .range; settled = st; domain = bd; regular = reg; middles = OM; leaves = OL } in
     record {
-      for-domain = E .for-domain;
-      for-paint = E .for-paint;
+      aim = rw (E .for-domain, E .for-paint) refl;
       goal = record {
         sound = st .sound;
         finished = final-finished s (fits .range) (λ e be. aims-rights c e)

@@ -7,19 +7,16 @@ use mathlib.Core.List.{List}
 use lib.ListN.{length}
 use Rattle.theory.specs.Pool.{words}
 use Rattle.table.specs.declared.Shape.{Shape}
-use Rattle.targets.specs.declared.Paint.{Paint}
 use Rattle.plan.specs.declared.Plan.{Plan}
 use Rattle.plan.specs.Plan.{after, newWord}
-use Rattle.plan.specs.Aims.{Goal}
+use Rattle.plan.specs.Aims.{Aim, aimOf, Goal}
 
 -- The plan is right at every word of the pool `p`.
-pub record Planned (s : Shape) (d : ℕ) (paint : Paint) (q : Plan) (p : List ℕ) (Q : ℕ → ℕ) (kept : ℕ → Bool) : Type 0
-  where
-    pub for-domain : q .domain ≡ d
-    pub for-paint : q .paint ≡ paint
-    pub goal : Goal s d paint p Q kept
-    -- From the old content and from the finished one the plan gives the finished one.
-    pub final : (k : ℕ) → k < length p → after q k (words p k) ≡ Q k
-    pub still : (k : ℕ) → k < length p → after q k (Q k) ≡ Q k
-    -- Words that differ are of new tables exactly where they are not kept.
-    pub new : (k : ℕ) → k < length p → Q k ≢ words p k → newWord q k ≡ not (kept k)
+pub record Planned (s : Shape) (A : Aim) (q : Plan) (p : List ℕ) (Q : ℕ → ℕ) (kept : ℕ → Bool) : Type 0 where
+  pub aim : A ≡ aimOf (q .domain) (q .paint)
+  pub goal : Goal s A p Q kept
+  -- From the old content and from the finished one the plan gives the finished one.
+  pub final : (k : ℕ) → k < length p → after q k (words p k) ≡ Q k
+  pub still : (k : ℕ) → k < length p → after q k (Q k) ≡ Q k
+  -- Words that differ are of new tables exactly where they are not kept.
+  pub new : (k : ℕ) → k < length p → Q k ≢ words p k → newWord q k ≡ not (kept k)

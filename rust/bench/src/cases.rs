@@ -47,10 +47,12 @@ pub const CASES: &[Case] = &[
 
 const SMALL: Shape = Shape::new(1, 1, 1);
 const FULL: Shape = Shape::new(4, 8, 64);
+const SMALL_WORDS: &[u32] = &SMALL.words();
+const FULL_WORDS: &[u32] = &FULL.words();
 const ENOUGH: u32 = u32::MAX;
 
 fn set(subject: &impl Subject, pool: &mut [u32], shape: Shape, request: Request) {
-    let number = subject.change(pool, shape, request, ENOUGH, &mut []);
+    let number = subject.change(pool, &shape.words(), request, ENOUGH, &mut []);
     assert_eq!(number, 0, "{request:?}");
 }
 
@@ -74,7 +76,7 @@ fn lookup<S: Subject>(subject: &'static S, address: u32) -> Body {
     let mut out = [0; 3];
     Box::new(move |times| {
         for _ in 0..times {
-            black_box(subject.lookup(black_box(&pool), SMALL, 0, black_box(address), &mut out));
+            black_box(subject.lookup(black_box(&pool), SMALL_WORDS, 0, black_box(address), &mut out));
         }
     })
 }
@@ -100,7 +102,7 @@ fn check<S: Subject>(subject: &'static S, mut buffer: Vec<u32>, blocks: u32) -> 
         for _ in 0..times {
             turn = (turn + 1) % blocks;
             let access = Access { domain: 0, kind: 0, size: 4, address: turn << 22 };
-            black_box(subject.check(black_box(&pool), SMALL, &mut buffer, black_box(access), &mut out));
+            black_box(subject.check(black_box(&pool), SMALL_WORDS, &mut buffer, black_box(access), &mut out));
         }
     })
 }
@@ -138,10 +140,10 @@ fn by_turns<S: Subject>(
     mut requests: [Request; 2],
     calls: u64,
 ) -> Body {
-    let mut out = [0];
+    let (shape, mut out) = (shape.words(), [0]);
     Box::new(move |times| {
         for _ in 0..times * calls {
-            let number = subject.change(&mut pool, shape, black_box(requests[0]), ENOUGH, &mut out);
+            let number = subject.change(&mut pool, &shape, black_box(requests[0]), ENOUGH, &mut out);
             assert_eq!(number, 0);
             requests.swap(0, 1);
         }
@@ -192,7 +194,7 @@ fn change_refused<S: Subject>(subject: &'static S) -> Body {
     let mut out = [0];
     Box::new(move |times| {
         for _ in 0..times {
-            assert_eq!(subject.change(&mut pool, FULL, black_box(more), ENOUGH, &mut out), 8);
+            assert_eq!(subject.change(&mut pool, FULL_WORDS, black_box(more), ENOUGH, &mut out), 8);
         }
     })
 }
@@ -202,13 +204,13 @@ fn tidy_after_cut<S: Subject>(subject: &'static S) -> Body {
     let mut cut = almost_full(subject);
     let page = 0x3F_0000;
     set(subject, &mut cut, FULL, request(0, page + 0x100, 0x100, 1));
-    assert_eq!(subject.change(&mut cut, FULL, request(0, page, 0x300, 1), 4, &mut []), 100);
+    assert_eq!(subject.change(&mut cut, FULL_WORDS, request(0, page, 0x300, 1), 4, &mut []), 100);
     let mut pool = cut.clone();
     let mut out = [0];
     Box::new(move |times| {
         for _ in 0..times {
             pool.copy_from_slice(black_box(&cut));
-            assert_eq!(subject.tidy(&mut pool, FULL, ENOUGH, &mut out), 0);
+            assert_eq!(subject.tidy(&mut pool, FULL_WORDS, ENOUGH, &mut out), 0);
             assert_eq!(out[0], 1);
         }
     })
@@ -220,7 +222,7 @@ fn sound_full<S: Subject>(subject: &'static S) -> Body {
     let mut out = [0];
     Box::new(move |times| {
         for _ in 0..times {
-            assert_eq!(subject.tidy(&mut pool, FULL, ENOUGH, &mut out), 0);
+            assert_eq!(subject.tidy(&mut pool, FULL_WORDS, ENOUGH, &mut out), 0);
             assert_eq!(out[0], 0);
         }
     })
@@ -232,7 +234,7 @@ fn list<S: Subject>(subject: &'static S, room: usize) -> Body {
     let mut out = [0];
     Box::new(move |times| {
         for _ in 0..times {
-            assert_eq!(subject.list(black_box(&pool), FULL, 0, &mut runs, &mut out), 0);
+            assert_eq!(subject.list(black_box(&pool), FULL_WORDS, 0, &mut runs, &mut out), 0);
             assert!(out[0] > 30_000);
         }
     })

@@ -6,6 +6,7 @@ mod programs;
 use crate::subject::{Step, Subject, Twin};
 use model::buffer::Access;
 use model::change::Request;
+use model::face::shape_of;
 use model::shape::Shape;
 use programs::*;
 
@@ -13,6 +14,8 @@ use programs::*;
 #[allow(clippy::type_complexity)]
 #[derive(Clone, Copy)]
 pub struct Wrong {
+    /// The shape that lent words say to it; nothing where they say none.
+    reads: fn(&[u32]) -> Option<Shape>,
     fresh: fn(&mut [u32], Shape) -> u32,
     change: fn(&mut [u32], Shape, Request, u32, &mut [u32]) -> u32,
     tidy: fn(&mut [u32], Shape, u32, &mut [u32]) -> u32,
@@ -28,13 +31,14 @@ pub struct Wrong {
 }
 
 const RIGHT: Wrong = Wrong {
-    fresh: |pool, shape| Twin.fresh(pool, shape),
-    change: |pool, shape, request, allowance, out| Twin.change(pool, shape, request, allowance, out),
-    tidy: |pool, shape, allowance, out| Twin.tidy(pool, shape, allowance, out),
-    lookup: |pool, shape, domain, address, out| Twin.lookup(pool, shape, domain, address, out),
-    check: |pool, shape, buffer, access, out| Twin.check(pool, shape, buffer, access, out),
-    list: |pool, shape, from, runs, out| Twin.list(pool, shape, from, runs, out),
-    step: |pool, shape, step, out| Twin.step(pool, shape, step, out),
+    reads: |shape| shape_of(shape, &[]).ok(),
+    fresh: |pool, shape| Twin.fresh(pool, &shape.words()),
+    change: |pool, shape, request, allowance, out| Twin.change(pool, &shape.words(), request, allowance, out),
+    tidy: |pool, shape, allowance, out| Twin.tidy(pool, &shape.words(), allowance, out),
+    lookup: |pool, shape, domain, address, out| Twin.lookup(pool, &shape.words(), domain, address, out),
+    check: |pool, shape, buffer, access, out| Twin.check(pool, &shape.words(), buffer, access, out),
+    list: |pool, shape, from, runs, out| Twin.list(pool, &shape.words(), from, runs, out),
+    step: |pool, shape, step, out| Twin.step(pool, &shape.words(), step, out),
     flush_all: |buffer| Twin.flush_all(buffer),
     flush_domain: |buffer, domain| Twin.flush_domain(buffer, domain),
     flush_region: |buffer, domain, start, length| Twin.flush_region(buffer, domain, start, length),
@@ -42,33 +46,43 @@ const RIGHT: Wrong = Wrong {
     remove_gate: |d, gates, domain, address| Twin.remove_gate(d, gates, domain, address),
 };
 
+/// A call by the shape that was read; the twin's own answer where none was.
+macro_rules! by_shape {
+    ($wrong:expr, $call:ident, $pool:expr, $shape:expr $(, $more:expr)*) => {
+        match ($wrong.reads)($shape) {
+            Some(shape) => ($wrong.$call)($pool, shape $(, $more)*),
+            None => Twin.$call($pool, $shape $(, $more)*),
+        }
+    };
+}
+
 impl Subject for Wrong {
-    fn fresh(&self, pool: &mut [u32], shape: Shape) -> u32 {
-        (self.fresh)(pool, shape)
+    fn fresh(&self, pool: &mut [u32], shape: &[u32]) -> u32 {
+        by_shape!(self, fresh, pool, shape)
     }
 
-    fn change(&self, pool: &mut [u32], shape: Shape, request: Request, allowance: u32, out: &mut [u32]) -> u32 {
-        (self.change)(pool, shape, request, allowance, out)
+    fn change(&self, pool: &mut [u32], shape: &[u32], request: Request, allowance: u32, out: &mut [u32]) -> u32 {
+        by_shape!(self, change, pool, shape, request, allowance, out)
     }
 
-    fn tidy(&self, pool: &mut [u32], shape: Shape, allowance: u32, out: &mut [u32]) -> u32 {
-        (self.tidy)(pool, shape, allowance, out)
+    fn tidy(&self, pool: &mut [u32], shape: &[u32], allowance: u32, out: &mut [u32]) -> u32 {
+        by_shape!(self, tidy, pool, shape, allowance, out)
     }
 
-    fn lookup(&self, pool: &[u32], shape: Shape, domain: u32, address: u32, out: &mut [u32]) -> u32 {
-        (self.lookup)(pool, shape, domain, address, out)
+    fn lookup(&self, pool: &[u32], shape: &[u32], domain: u32, address: u32, out: &mut [u32]) -> u32 {
+        by_shape!(self, lookup, pool, shape, domain, address, out)
     }
 
-    fn check(&self, pool: &[u32], shape: Shape, buffer: &mut [u32], access: Access, out: &mut [u32]) -> u32 {
-        (self.check)(pool, shape, buffer, access, out)
+    fn check(&self, pool: &[u32], shape: &[u32], buffer: &mut [u32], access: Access, out: &mut [u32]) -> u32 {
+        by_shape!(self, check, pool, shape, buffer, access, out)
     }
 
-    fn list(&self, pool: &[u32], shape: Shape, from: u32, runs: &mut [u32], out: &mut [u32]) -> u32 {
-        (self.list)(pool, shape, from, runs, out)
+    fn list(&self, pool: &[u32], shape: &[u32], from: u32, runs: &mut [u32], out: &mut [u32]) -> u32 {
+        by_shape!(self, list, pool, shape, from, runs, out)
     }
 
-    fn step(&self, pool: &[u32], shape: Shape, step: Step, out: &mut [u32]) -> u32 {
-        (self.step)(pool, shape, step, out)
+    fn step(&self, pool: &[u32], shape: &[u32], step: Step, out: &mut [u32]) -> u32 {
+        by_shape!(self, step, pool, shape, step, out)
     }
 
     fn flush_all(&self, buffer: &mut [u32]) -> u32 {
@@ -136,4 +150,7 @@ pub const ALL: &[Fault] = &[
     ("takes the later of two gates at one place", "steps", Wrong { step: later_gate, ..RIGHT }),
     ("pushes the address for the target", "steps", Wrong { step: pushes_address, ..RIGHT }),
     ("clears the frame that it pops", "steps", Wrong { step: clears_frame, ..RIGHT }),
+    ("looks at no form", "lent shapes", Wrong { reads: form_unseen, ..RIGHT }),
+    ("looks at no V", "lent shapes", Wrong { reads: v_unseen, ..RIGHT }),
+    ("takes the first five words of more", "lent shapes", Wrong { reads: first_five, ..RIGHT }),
 ];

@@ -1,6 +1,6 @@
 //! The comparisons with their seeds, their sizes and the kinds of cases that each must meet.
 
-use crate::compare::{cuts, gates, life, listings, pools, rows, series, slots, Run};
+use crate::compare::{cuts, gates, lent, life, listings, pools, rows, series, slots, Run};
 use crate::given::shapes;
 use crate::subject::Subject;
 use crate::tally::{answers, Tally};
@@ -143,6 +143,24 @@ const SLOT_KINDS: &[&str] = &[
 const STEP_KINDS: &[&str] =
     &["step is refused", "step is denied", "step switches", "step returns", "step passes without a gate"];
 
+const LENT_KINDS: &[&str] = &[
+    "lent shape of 0 words",
+    "lent shape of 1 words",
+    "lent shape of 2 words",
+    "lent shape of 3 words",
+    "lent shape of 4 words",
+    "lent shape of 5 words",
+    "lent shape of 6 words",
+    "lent shape of 7 words",
+    "lent shape of the paper's form",
+    "lent shape with a V",
+    "lent shape of another form",
+    "lent shape of another form with a V",
+    "state of another length",
+    "state of another length, and another form or a V",
+    "state and shape of another length",
+];
+
 pub const ALL: &[Comparison] = &[
     Comparison { name: "rows", seed: 1, body: rows::rows, answers: &[], kinds: &["row of the paper"] },
     Comparison {
@@ -236,6 +254,21 @@ pub const ALL: &[Comparison] = &[
         body: |run| gates::steps(run, 600),
         answers: &[("step", &[0, 1, 2, 6, 10, 15, 16, 17, 18, 101])],
         kinds: STEP_KINDS,
+    },
+    Comparison {
+        name: "lent shapes",
+        seed: 14,
+        body: |run| lent::shapes(run, 400),
+        answers: &[
+            ("fresh by a lent shape", &[0, 1, 101]),
+            ("change by a lent shape", &[0, 1, 2, 3, 4, 5, 6, 7, 8, 100, 101]),
+            ("tidying by a lent shape", &[0, 1, 6, 100, 101]),
+            ("lookup by a lent shape", &[0, 1, 2, 6, 101]),
+            ("listing by a lent shape", &[0, 1, 6, 101]),
+            ("check by a lent shape", &[0, 1, 2, 6, 9, 10, 18, 101]),
+            ("step by a lent shape", &[0, 1, 2, 10, 18, 101]),
+        ],
+        kinds: LENT_KINDS,
     },
 ];
 

@@ -38,6 +38,7 @@ library! {
     slots: "slots",
     gates: "gates",
     steps: "steps",
+    lent_shapes: "lent shapes",
 }
 
 /// All comparisons on the cases of other seeds, by hand: `SEEDS=20 cargo test --release -- --ignored soak`.
@@ -66,12 +67,12 @@ fn cuts_reach_the_words_of_the_fixed_order() {
         let request = requests::near(&mut rng, shape.domains);
         let mut after = pool.clone();
         let mut stores = [0];
-        Twin.change(&mut after, shape, request, u32::MAX, &mut stores);
+        Twin.change(&mut after, &shape.words(), request, u32::MAX, &mut stores);
         for allowance in (0..stores[0]).step_by(1 + stores[0] as usize / 40) {
             let (mut one, mut other) = (pool.clone(), pool.clone());
             let numbers = (
-                Library.change(&mut one, shape, request, allowance, &mut []),
-                Twin.change(&mut other, shape, request, allowance, &mut []),
+                Library.change(&mut one, &shape.words(), request, allowance, &mut []),
+                Twin.change(&mut other, &shape.words(), request, allowance, &mut []),
             );
             assert_eq!(numbers, (CUT, CUT), "{request:x?} with allowance {allowance}");
             assert!(one == other, "{request:x?} with allowance {allowance} reaches other words");

@@ -4,6 +4,9 @@ use std::cell::RefCell;
 use std::io::{Read, Write};
 use std::process::{Child, ChildStdin, ChildStdout, Command, Stdio};
 
+/// How many memories a call may lend.
+const MEMORIES: usize = 5;
+
 /// A memory lent for a call.
 pub enum Lent<'a> {
     In(&'a [u32]),
@@ -25,8 +28,8 @@ struct Service {
     child: Child,
     calls: ChildStdin,
     answers: ChildStdout,
-    /// What the service's four memories hold, so that one that has not changed is not sent again.
-    held: [Vec<u32>; 4],
+    /// What the service's memories hold, so that one that has not changed is not sent again.
+    held: [Vec<u32>; MEMORIES],
     bytes: Vec<u8>,
 }
 
@@ -35,7 +38,7 @@ thread_local! {
 }
 
 /// Makes a call and gives its number.
-pub fn call(function: u32, numbers: &[u32], lent: [Lent; 4]) -> u32 {
+pub fn call(function: u32, numbers: &[u32], lent: [Lent; MEMORIES]) -> u32 {
     SERVICE.with_borrow_mut(|service| {
         let service = service.get_or_insert_with(Service::start);
         service.send(function, numbers, &lent);
@@ -56,13 +59,13 @@ impl Service {
         Service { child, calls, answers, held: Default::default(), bytes: Vec::new() }
     }
 
-    fn send(&mut self, function: u32, numbers: &[u32], lent: &[Lent; 4]) {
+    fn send(&mut self, function: u32, numbers: &[u32], lent: &[Lent; MEMORIES]) {
         let (mut mutable, mut sent) = (0u32, 0u32);
         for (i, memory) in lent.iter().enumerate() {
             mutable |= u32::from(matches!(memory, Lent::Out(_))) << i;
             sent |= u32::from(memory.words() != self.held[i]) << i;
         }
-        let mut head = [0; 17];
+        let mut head = [0; 13 + MEMORIES];
         head[0] = function;
         head[1..1 + numbers.len()].copy_from_slice(numbers);
         head[11] = mutable;
@@ -82,7 +85,7 @@ impl Service {
         self.calls.write_all(&self.bytes).expect("the service takes the call");
     }
 
-    fn receive(&mut self, lent: [Lent; 4]) -> u32 {
+    fn receive(&mut self, lent: [Lent; MEMORIES]) -> u32 {
         let mut number = [0];
         self.read(&mut number);
         for (i, memory) in lent.into_iter().enumerate() {

@@ -76,7 +76,7 @@ impl Slot {
 /// ```
 /// use goleuthan::{Access, LookasideBuffer, Request, Right, Shape, Table, Verdict};
 ///
-/// let shape = Shape { domains: 1, middles: 0, leaves: 0 };
+/// let shape = Shape::new(1, 0, 0);
 /// let mut pool = vec![0; shape.pool_words()];
 /// let mut table = Table::fresh(&mut pool, shape)?;
 /// let mut buffer = LookasideBuffer::empty();

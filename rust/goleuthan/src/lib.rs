@@ -7,7 +7,7 @@
 //! ```
 //! use goleuthan::{Answer, Request, Right, Shape, Table};
 //!
-//! let shape = Shape { domains: 1, middles: 1, leaves: 1 };
+//! let shape = Shape::new(1, 1, 1);
 //! let mut pool = vec![0; shape.pool_words()];
 //! let mut table = Table::fresh(&mut pool, shape)?;
 //! let request = Request { domain: 0, start: 0x1000, length: 64, right: Right::ReadWrite };

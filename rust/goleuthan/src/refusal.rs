@@ -22,7 +22,7 @@ impl Refusal {
 
     fn says(self) -> &'static str {
         match self.0 {
-            1 => "D, M or L is beyond its range, or the pool has another length",
+            1 => "the form or V is not 0, D, M or L is beyond its range, or the pool has another length",
             2 => "a domain is D or more",
             3 => "the right is above 3",
             4 => "the length is 0",

@@ -2,22 +2,52 @@
 
 use crate::{runs, words, CallStack, Gates, LookasideBuffer, Refusal, Run};
 
-/// How many domains, middle places and leaf places a pool has. The pool does not hold these numbers: give each call
-/// those that it was made fresh with.
+/// The shape of a pool: how many domains, middle places and leaf places it has. It is the words that the library knows.
+/// The pool does not hold them: give each call those that it was made fresh with.
 #[derive(Clone, Copy, Debug, PartialEq, Eq, Hash)]
 pub struct Shape {
-    /// 1 to 4.
-    pub domains: u32,
-    /// 0 to 8, of 1,024 words each.
-    pub middles: u32,
-    /// 0 to 64, of 64 words each.
-    pub leaves: u32,
+    words: [u32; 5],
 }
 
+/// The paper's form: eight rights an entry.
+const EIGHTS: u32 = 0;
+
 impl Shape {
+    /// A shape of the paper's form: 1 to 4 domains, 0 to 8 middle places of 1,024 words, 0 to 64 leaf places of 64
+    /// words.
+    pub const fn new(domains: u32, middles: u32, leaves: u32) -> Shape {
+        Shape { words: [EIGHTS, domains, middles, leaves, 0] }
+    }
+
+    /// A shape of given words: form, domains, middle places, leaf places, V. Any form but 0, and any V but 0, is
+    /// refused 1 by every call.
+    pub const fn from_words(words: [u32; 5]) -> Shape {
+        Shape { words }
+    }
+
+    /// The words that the library knows it by.
+    pub fn words(&self) -> &[u32; 5] {
+        &self.words
+    }
+
+    /// How many domains there are.
+    pub fn domains(self) -> u32 {
+        self.words[1]
+    }
+
+    /// How many middle places there are.
+    pub fn middles(self) -> u32 {
+        self.words[2]
+    }
+
+    /// How many leaf places there are.
+    pub fn leaves(self) -> u32 {
+        self.words[3]
+    }
+
     /// The length of a pool of this shape, in words.
     pub fn pool_words(self) -> usize {
-        1024 * self.domains as usize + 1024 * self.middles as usize + 64 * self.leaves as usize
+        1024 * self.domains() as usize + 1024 * self.middles() as usize + 64 * self.leaves() as usize
     }
 }
 
@@ -145,7 +175,7 @@ impl<'a> Table<'a> {
     /// Makes a pool fresh; refusal 1 where it does not have its shape's length. Every lookaside buffer that served the
     /// pool is stale then: empty it.
     pub fn fresh(pool: &'a mut [u32], shape: Shape) -> Result<Table<'a>, Refusal> {
-        Refusal::none_or(words::fresh(pool, shape.domains, shape.middles, shape.leaves))?;
+        Refusal::none_or(words::fresh(pool, shape.words()))?;
         Ok(Table { pool, shape })
     }
 
@@ -167,37 +197,24 @@ impl<'a> Table<'a> {
     /// Gives a domain a right on a region, in at most `allowance` single-word stores. Flush the region afterwards,
     /// done or cut, for the domain in every buffer of this pool.
     pub fn change(&mut self, request: Request, allowance: u32) -> Result<Answer, Refusal> {
-        let Shape { domains, middles, leaves } = self.shape;
         let Request { domain, start, length, right } = request;
         let mut out = [0];
-        let number = words::change(
-            self.pool,
-            domains,
-            middles,
-            leaves,
-            domain,
-            start,
-            length,
-            right as u32,
-            allowance,
-            &mut out,
-        );
+        let number =
+            words::change(self.pool, self.shape.words(), domain, start, length, right as u32, allowance, &mut out);
         answer(number, out[0])
     }
 
     /// Gives up tables that the rights no longer need. No word's right changes, so nothing needs a flush.
     pub fn tidy(&mut self, allowance: u32) -> Result<Answer, Refusal> {
-        let Shape { domains, middles, leaves } = self.shape;
         let mut out = [0];
-        let number = words::tidy(self.pool, domains, middles, leaves, allowance, &mut out);
+        let number = words::tidy(self.pool, self.shape.words(), allowance, &mut out);
         answer(number, out[0])
     }
 
     /// The right that a domain has on the word at an address.
     pub fn lookup(&self, domain: u32, address: u32) -> Result<Found, Refusal> {
-        let Shape { domains, middles, leaves } = self.shape;
         let mut out = [0; 3];
-        Refusal::none_or(words::lookup(self.pool, domains, middles, leaves, domain, address, &mut out))?;
+        Refusal::none_or(words::lookup(self.pool, self.shape.words(), domain, address, &mut out))?;
         Ok(Found { right: Right::of(out[0]), entry: out[1], loads: out[2] })
     }
 
@@ -210,31 +227,28 @@ impl<'a> Table<'a> {
         access: Access,
         address: u32,
     ) -> Result<(Verdict, u32), Refusal> {
-        let Shape { domains, middles, leaves } = self.shape;
         let (kind, size) = access.numbers();
         let buffer = &mut buffer.words;
         let mut out = [0; 2];
-        let number = words::check(self.pool, domains, middles, leaves, buffer, domain, kind, size, address, &mut out);
+        let number = words::check(self.pool, self.shape.words(), buffer, domain, kind, size, address, &mut out);
         Refusal::none_or(number)?;
         Ok((Verdict::of(out[0]), out[1]))
     }
 
     /// One fetch step at an address, through the gates.
     pub fn step(&self, gates: &Gates, stack: &mut CallStack, address: u32, target: u32) -> Result<Verdict, Refusal> {
-        let Shape { domains, middles, leaves } = self.shape;
         let (gates, stack) = (&gates.words, &mut stack.words);
         let mut out = [0];
-        let number = words::step(self.pool, domains, middles, leaves, gates, stack, address, target, &mut out);
+        let number = words::step(self.pool, self.shape.words(), gates, stack, address, target, &mut out);
         Refusal::none_or(number)?;
         Ok(Verdict::of(out[0]))
     }
 
     /// All longest runs of one right other than none, by domain and then address.
     pub fn runs(&self) -> Result<Vec<Run>, Refusal> {
-        let Shape { domains, middles, leaves } = self.shape;
         runs::gather(|from, lent| {
             let mut out = [0];
-            Refusal::none_or(words::list(self.pool, domains, middles, leaves, from, lent, &mut out))?;
+            Refusal::none_or(words::list(self.pool, self.shape.words(), from, lent, &mut out))?;
             Ok(out[0])
         })
     }

@@ -8,13 +8,12 @@
 
 mod c {
     extern "C" {
-        pub fn gol_fresh(pool: *mut u32, words: usize, d: u32, m: u32, l: u32) -> u32;
+        pub fn gol_fresh(pool: *mut u32, words: usize, shape: *const u32, shape_len: usize) -> u32;
         pub fn gol_change(
             pool: *mut u32,
             words: usize,
-            d: u32,
-            m: u32,
-            l: u32,
+            shape: *const u32,
+            shape_len: usize,
             domain: u32,
             start: u32,
             length: u32,
@@ -26,9 +25,8 @@ mod c {
         pub fn gol_tidy(
             pool: *mut u32,
             words: usize,
-            d: u32,
-            m: u32,
-            l: u32,
+            shape: *const u32,
+            shape_len: usize,
             allowance: u32,
             out: *mut u32,
             out_len: usize,
@@ -36,9 +34,8 @@ mod c {
         pub fn gol_lookup(
             pool: *const u32,
             words: usize,
-            d: u32,
-            m: u32,
-            l: u32,
+            shape: *const u32,
+            shape_len: usize,
             domain: u32,
             address: u32,
             out: *mut u32,
@@ -47,9 +44,8 @@ mod c {
         pub fn gol_check(
             pool: *const u32,
             words: usize,
-            d: u32,
-            m: u32,
-            l: u32,
+            shape: *const u32,
+            shape_len: usize,
             buffer: *mut u32,
             buffer_len: usize,
             domain: u32,
@@ -62,9 +58,8 @@ mod c {
         pub fn gol_list(
             pool: *const u32,
             words: usize,
-            d: u32,
-            m: u32,
-            l: u32,
+            shape: *const u32,
+            shape_len: usize,
             from: u32,
             runs: *mut u32,
             runs_len: usize,
@@ -74,9 +69,8 @@ mod c {
         pub fn gol_step(
             pool: *const u32,
             words: usize,
-            d: u32,
-            m: u32,
-            l: u32,
+            shape: *const u32,
+            shape_len: usize,
             gates: *const u32,
             gates_len: usize,
             stack: *mut u32,
@@ -103,16 +97,14 @@ mod c {
 }
 
 /// Makes the pool fresh: no domain has a right anywhere.
-pub fn fresh(pool: &mut [u32], d: u32, m: u32, l: u32) -> u32 {
-    unsafe { c::gol_fresh(pool.as_mut_ptr(), pool.len(), d, m, l) }
+pub fn fresh(pool: &mut [u32], shape: &[u32]) -> u32 {
+    unsafe { c::gol_fresh(pool.as_mut_ptr(), pool.len(), shape.as_ptr(), shape.len()) }
 }
 
 /// Gives a domain a right on a region. Result: the number of words written.
 pub fn change(
     pool: &mut [u32],
-    d: u32,
-    m: u32,
-    l: u32,
+    shape: &[u32],
     domain: u32,
     start: u32,
     length: u32,
@@ -120,29 +112,30 @@ pub fn change(
     allowance: u32,
     out: &mut [u32],
 ) -> u32 {
+    let (shape, shape_len) = (shape.as_ptr(), shape.len());
     let (words, out_len) = (pool.len(), out.len());
     let (pool, out) = (pool.as_mut_ptr(), out.as_mut_ptr());
-    unsafe { c::gol_change(pool, words, d, m, l, domain, start, length, right, allowance, out, out_len) }
+    unsafe { c::gol_change(pool, words, shape, shape_len, domain, start, length, right, allowance, out, out_len) }
 }
 
 /// Makes a sound pool settled. Result: the number of words written.
-pub fn tidy(pool: &mut [u32], d: u32, m: u32, l: u32, allowance: u32, out: &mut [u32]) -> u32 {
+pub fn tidy(pool: &mut [u32], shape: &[u32], allowance: u32, out: &mut [u32]) -> u32 {
+    let (shape, shape_len) = (shape.as_ptr(), shape.len());
     let (words, out_len) = (pool.len(), out.len());
-    unsafe { c::gol_tidy(pool.as_mut_ptr(), words, d, m, l, allowance, out.as_mut_ptr(), out_len) }
+    unsafe { c::gol_tidy(pool.as_mut_ptr(), words, shape, shape_len, allowance, out.as_mut_ptr(), out_len) }
 }
 
 /// The right of a word. Results: the right, the deciding entry, the loads made.
-pub fn lookup(pool: &[u32], d: u32, m: u32, l: u32, domain: u32, address: u32, out: &mut [u32]) -> u32 {
+pub fn lookup(pool: &[u32], shape: &[u32], domain: u32, address: u32, out: &mut [u32]) -> u32 {
+    let (shape, shape_len) = (shape.as_ptr(), shape.len());
     let (words, out_len) = (pool.len(), out.len());
-    unsafe { c::gol_lookup(pool.as_ptr(), words, d, m, l, domain, address, out.as_mut_ptr(), out_len) }
+    unsafe { c::gol_lookup(pool.as_ptr(), words, shape, shape_len, domain, address, out.as_mut_ptr(), out_len) }
 }
 
 /// Checks an access through a lookaside buffer. Results: 1 for pass or 0 for deny, the loads made.
 pub fn check(
     pool: &[u32],
-    d: u32,
-    m: u32,
-    l: u32,
+    shape: &[u32],
     buffer: &mut [u32],
     domain: u32,
     kind: u32,
@@ -150,33 +143,38 @@ pub fn check(
     address: u32,
     out: &mut [u32],
 ) -> u32 {
+    let (shape, shape_len) = (shape.as_ptr(), shape.len());
     let (words, buffer_len, out_len) = (pool.len(), buffer.len(), out.len());
     let (pool, buffer, out) = (pool.as_ptr(), buffer.as_mut_ptr(), out.as_mut_ptr());
-    unsafe { c::gol_check(pool, words, d, m, l, buffer, buffer_len, domain, kind, size, address, out, out_len) }
+    unsafe {
+        c::gol_check(pool, words, shape, shape_len, buffer, buffer_len, domain, kind, size, address, out, out_len)
+    }
 }
 
 /// Lists runs of one right from a run number on, four words a run. Result: the number of runs in all.
-pub fn list(pool: &[u32], d: u32, m: u32, l: u32, from: u32, runs: &mut [u32], out: &mut [u32]) -> u32 {
+pub fn list(pool: &[u32], shape: &[u32], from: u32, runs: &mut [u32], out: &mut [u32]) -> u32 {
+    let (shape, shape_len) = (shape.as_ptr(), shape.len());
     let (words, runs_len, out_len) = (pool.len(), runs.len(), out.len());
     let (pool, runs, out) = (pool.as_ptr(), runs.as_mut_ptr(), out.as_mut_ptr());
-    unsafe { c::gol_list(pool, words, d, m, l, from, runs, runs_len, out, out_len) }
+    unsafe { c::gol_list(pool, words, shape, shape_len, from, runs, runs_len, out, out_len) }
 }
 
 /// One fetch step. Result: 1 for pass, 0 for deny.
 pub fn step(
     pool: &[u32],
-    d: u32,
-    m: u32,
-    l: u32,
+    shape: &[u32],
     gates: &[u32],
     stack: &mut [u32],
     address: u32,
     target: u32,
     out: &mut [u32],
 ) -> u32 {
+    let (shape, shape_len) = (shape.as_ptr(), shape.len());
     let (words, gates_len, stack_len, out_len) = (pool.len(), gates.len(), stack.len(), out.len());
     let (pool, gates, stack, out) = (pool.as_ptr(), gates.as_ptr(), stack.as_mut_ptr(), out.as_mut_ptr());
-    unsafe { c::gol_step(pool, words, d, m, l, gates, gates_len, stack, stack_len, address, target, out, out_len) }
+    unsafe {
+        c::gol_step(pool, words, shape, shape_len, gates, gates_len, stack, stack_len, address, target, out, out_len)
+    }
 }
 
 /// Empties every slot of a buffer.

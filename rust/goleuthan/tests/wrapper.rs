@@ -3,7 +3,7 @@
 use goleuthan::{Access, Answer, CallStack, Found, Frame, Gate, GateKind, Gates, Level, LookasideBuffer};
 use goleuthan::{Request, Right, Run, Shape, Slot, Table, Verdict};
 
-const SHAPE: Shape = Shape { domains: 2, middles: 1, leaves: 1 };
+const SHAPE: Shape = Shape::new(2, 1, 1);
 
 fn request(domain: u32, start: u32, length: u32, right: Right) -> Request {
     Request { domain, start, length, right }
@@ -18,6 +18,19 @@ fn a_pool_of_another_length_is_refused() {
     let mut pool = vec![7; SHAPE.pool_words() - 1];
     assert_eq!(number(Table::fresh(&mut pool, SHAPE)), 1);
     assert!(pool.iter().all(|word| *word == 7));
+}
+
+#[test]
+fn a_shape_of_another_form_or_with_a_v_is_refused() {
+    assert_eq!(SHAPE.words(), &[0, 2, 1, 1, 0]);
+    assert_eq!(Shape::from_words(*SHAPE.words()), SHAPE);
+    for place in [0, 4] {
+        let mut words = *SHAPE.words();
+        words[place] = 1;
+        let mut pool = vec![7; SHAPE.pool_words()];
+        assert_eq!(number(Table::fresh(&mut pool, Shape::from_words(words))), 1);
+        assert!(pool.iter().all(|word| *word == 7));
+    }
 }
 
 #[test]
@@ -39,7 +52,7 @@ fn changes_lookups_and_runs() {
 
 #[test]
 fn more_runs_than_are_listed_at_once() {
-    let shape = Shape { domains: 1, middles: 1, leaves: 1 };
+    let shape = Shape::new(1, 1, 1);
     let mut pool = vec![0; shape.pool_words()];
     let mut table = Table::fresh(&mut pool, shape).unwrap();
     for word in 0..200 {
@@ -53,7 +66,7 @@ fn more_runs_than_are_listed_at_once() {
 
 #[test]
 fn every_word_of_64_leaves_a_run() {
-    let shape = Shape { domains: 1, middles: 1, leaves: 64 };
+    let shape = Shape::new(1, 1, 64);
     let mut pool = vec![0; shape.pool_words()];
     Table::fresh(&mut pool, shape).unwrap();
     pool[0] = 1024;

@@ -9,6 +9,7 @@
 pub mod access;
 pub mod buffer;
 pub mod change;
+pub mod face;
 pub mod gates;
 pub mod listing;
 pub mod program;

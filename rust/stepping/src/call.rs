@@ -23,8 +23,8 @@ impl Call {
     /// Makes the call straight away. It neither allocates nor panics.
     pub fn make(&self, pool: &mut [u32], out: &mut [u32]) -> u32 {
         match self.work {
-            Work::Change(request) => Library.change(pool, self.shape, request, self.allowance, out),
-            Work::Tidying => Library.tidy(pool, self.shape, self.allowance, out),
+            Work::Change(request) => Library.change(pool, &self.shape.words(), request, self.allowance, out),
+            Work::Tidying => Library.tidy(pool, &self.shape.words(), self.allowance, out),
         }
     }
 

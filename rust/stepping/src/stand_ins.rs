@@ -78,7 +78,7 @@ fn written_back_after(call: &Call, _: &Script, pool: &mut [u32], out: &mut [u32]
 fn other_change_first(call: &Call, _: &Script, pool: &mut [u32], out: &mut [u32]) -> u32 {
     if let (Work::Change(asked), u32::MAX) = (call.work, call.allowance) {
         for right in [3, 0] {
-            Library.change(pool, call.shape, Request { right, ..asked }, u32::MAX, &mut []);
+            Library.change(pool, &call.shape.words(), Request { right, ..asked }, u32::MAX, &mut []);
         }
     }
     call.make(pool, out)

@@ -49,7 +49,7 @@ fn any_lookup(rng: &mut Rng, pool: &[u32], shape: Shape) -> Lookup {
 }
 
 fn library(asked: &Lookup, pool: &[u32], out: &mut [u32]) -> u32 {
-    Library.lookup(pool, asked.shape, asked.domain, asked.address, out)
+    Library.lookup(pool, &asked.shape.words(), asked.domain, asked.address, out)
 }
 
 fn accept(tally: &Tally, kinds: &[String]) {
@@ -96,14 +96,14 @@ fn a_check_loads_the_words_of_the_walk_or_none() {
         let mut buffer = vec![0; BUFFER_WORDS];
         for name in ["first check", "second check"] {
             let lent = &mut buffer.clone()[..];
-            let made = loads(pool, |pool, out| Library.check(pool, shape, lent, access, &mut out[..2]));
+            let made = loads(pool, |pool, out| Library.check(pool, &shape.words(), lent, access, &mut out[..2]));
             let made = made.unwrap_or_else(|told| panic!("{told}"));
             let hit = name == "second check" && made.number == 0;
             let words = if hit { Vec::new() } else { walk(pool, shape, domain, access.address) };
             assert_eq!(made.touched, words, "{name}: {access:x?} of {shape:?}");
             assert!(made.number != 0 || made.results[1] == words.len() as u32, "{access:x?} of {shape:?} miscounts");
             tally.met(&format!("{name} answers {} after {} loads", made.number, words.len()));
-            Library.check(pool, shape, &mut buffer, access, &mut []);
+            Library.check(pool, &shape.words(), &mut buffer, access, &mut []);
         }
     });
     let kinds = [1, 2, 3].map(|n| format!("first check answers 0 after {n} loads"));
@@ -120,7 +120,7 @@ fn a_step_loads_the_words_of_the_walk() {
         let (gates, mut stack) = (vec![0; GATES_WORDS], vec![0; STACK_WORDS]);
         stack[STACK_WORDS - 1] = domain;
         let step = Step { gates: &gates, stack: &mut stack, address: address & !3, target: 0 };
-        let made = loads(pool, |pool, out| Library.step(pool, shape, step, &mut out[..1]));
+        let made = loads(pool, |pool, out| Library.step(pool, &shape.words(), step, &mut out[..1]));
         let made = made.unwrap_or_else(|told| panic!("{told}"));
         assert_eq!(made.touched, walk(pool, shape, domain, address), "a step at {address:#x} of {shape:?}");
         tally.met(&format!("step answers {} after {} loads", made.number, made.touched.len()));

@@ -25,7 +25,7 @@ use shape::Shape;
 
 /// A change or tidying was cut.
 pub const CUT: u32 = 100;
-/// A lent state has the wrong length.
+/// A lent shape or state has the wrong length.
 pub const LENGTH: u32 = 101;
 
 /// Writes as many results as fit, zeros for a refusal, and gives the number.
@@ -38,8 +38,8 @@ fn deliver<const N: usize>(out: &mut [u32], answer: Result<[u32; N], u32>) -> u3
 }
 
 #[inline(never)]
-pub fn fresh(pool: &mut [u32], d: u32, m: u32, l: u32) -> u32 {
-    match Shape::fitting(pool, d, m, l) {
+pub fn fresh(pool: &mut [u32], shape: &[u32]) -> u32 {
+    match Shape::fitting(pool, shape) {
         Ok(shape) => {
             let (roots, places) = pool.split_at_mut(shape.first_middle());
             roots.fill(0x8000_0000);
@@ -54,9 +54,7 @@ pub fn fresh(pool: &mut [u32], d: u32, m: u32, l: u32) -> u32 {
 #[allow(clippy::too_many_arguments)]
 pub fn change(
     pool: &mut [u32],
-    d: u32,
-    m: u32,
-    l: u32,
+    shape: &[u32],
     domain: u32,
     start: u32,
     length: u32,
@@ -64,7 +62,7 @@ pub fn change(
     allowance: u32,
     out: &mut [u32],
 ) -> u32 {
-    change_ordered(pool, d, m, l, domain, start, length, right, allowance, out, SAFE_ORDER)
+    change_ordered(pool, shape, domain, start, length, right, allowance, out, SAFE_ORDER)
 }
 
 /// [`change`] with its phases in any order, so that tests can see what an unsafe order does. With enough allowance it
@@ -73,9 +71,7 @@ pub fn change(
 #[allow(clippy::too_many_arguments)]
 pub fn change_ordered(
     pool: &mut [u32],
-    d: u32,
-    m: u32,
-    l: u32,
+    shape: &[u32],
     domain: u32,
     start: u32,
     length: u32,
@@ -85,21 +81,21 @@ pub fn change_ordered(
     order: [Phase; 3],
 ) -> u32 {
     let request = Request { domain, start, length, right };
-    let answer = Shape::fitting(pool, d, m, l)
+    let answer = Shape::fitting(pool, shape)
         .and_then(|shape| change::change(pool, shape, request, allowance, order))
         .map(|stores| [stores]);
     deliver(out, answer)
 }
 
 #[inline(never)]
-pub fn tidy(pool: &mut [u32], d: u32, m: u32, l: u32, allowance: u32, out: &mut [u32]) -> u32 {
-    let answer = Shape::fitting(pool, d, m, l).and_then(|shape| tidy::tidy(pool, shape, allowance));
+pub fn tidy(pool: &mut [u32], shape: &[u32], allowance: u32, out: &mut [u32]) -> u32 {
+    let answer = Shape::fitting(pool, shape).and_then(|shape| tidy::tidy(pool, shape, allowance));
     deliver(out, answer.map(|stores| [stores]))
 }
 
 #[inline(never)]
-pub fn lookup(pool: &[u32], d: u32, m: u32, l: u32, domain: u32, address: u32, out: &mut [u32]) -> u32 {
-    let answer = Shape::fitting(pool, d, m, l).and_then(|shape| lookup::lookup(pool, shape, domain, address));
+pub fn lookup(pool: &[u32], shape: &[u32], domain: u32, address: u32, out: &mut [u32]) -> u32 {
+    let answer = Shape::fitting(pool, shape).and_then(|shape| lookup::lookup(pool, shape, domain, address));
     deliver(out, answer.map(|found| [found.right, found.entry, found.loads]))
 }
 
@@ -107,9 +103,7 @@ pub fn lookup(pool: &[u32], d: u32, m: u32, l: u32, domain: u32, address: u32, o
 #[allow(clippy::too_many_arguments)]
 pub fn check(
     pool: &[u32],
-    d: u32,
-    m: u32,
-    l: u32,
+    shape: &[u32],
     buffer: &mut [u32],
     domain: u32,
     kind: u32,
@@ -118,7 +112,7 @@ pub fn check(
     out: &mut [u32],
 ) -> u32 {
     let answer = match buffer.try_into() {
-        Ok(buffer) => Shape::fitting(pool, d, m, l)
+        Ok(buffer) => Shape::fitting(pool, shape)
             .and_then(|shape| buffer::check(pool, shape, buffer, domain, kind, size, address)),
         Err(_) => Err(LENGTH),
     };
@@ -126,8 +120,8 @@ pub fn check(
 }
 
 #[inline(never)]
-pub fn list(pool: &[u32], d: u32, m: u32, l: u32, from: u32, runs: &mut [u32], out: &mut [u32]) -> u32 {
-    let answer = Shape::fitting(pool, d, m, l).and_then(|shape| listing::list(pool, shape, from, runs));
+pub fn list(pool: &[u32], shape: &[u32], from: u32, runs: &mut [u32], out: &mut [u32]) -> u32 {
+    let answer = Shape::fitting(pool, shape).and_then(|shape| listing::list(pool, shape, from, runs));
     deliver(out, answer.map(|count| [count]))
 }
 
@@ -135,9 +129,7 @@ pub fn list(pool: &[u32], d: u32, m: u32, l: u32, from: u32, runs: &mut [u32], o
 #[allow(clippy::too_many_arguments)]
 pub fn step(
     pool: &[u32],
-    d: u32,
-    m: u32,
-    l: u32,
+    shape: &[u32],
     gates: &[u32],
     stack: &mut [u32],
     address: u32,
@@ -146,7 +138,7 @@ pub fn step(
 ) -> u32 {
     let answer = match (gates.try_into(), stack.try_into()) {
         (Ok(gates), Ok(stack)) => {
-            Shape::fitting(pool, d, m, l).and_then(|shape| step::step(pool, shape, gates, stack, address, target))
+            Shape::fitting(pool, shape).and_then(|shape| step::step(pool, shape, gates, stack, address, target))
         }
         _ => Err(LENGTH),
     };

@@ -1,5 +1,7 @@
 //! The shape of a pool, and its places.
 
+use crate::LENGTH;
+
 pub const TABLE: usize = 1024;
 pub const LEAF: usize = 64;
 
@@ -11,9 +13,13 @@ pub struct Shape {
 }
 
 impl Shape {
-    /// The shape, if it is in range and the pool has its length; refusal 1.
-    pub fn fitting(pool: &[u32], d: u32, m: u32, l: u32) -> Result<Shape, u32> {
-        let in_range = (1..=4).contains(&d) && m <= 8 && l <= 64;
+    /// The shape that lent words say: 101 where they are not five; 1 unless the form is the paper's, it is in range and
+    /// the pool has its length.
+    pub fn fitting(pool: &[u32], words: &[u32]) -> Result<Shape, u32> {
+        let &[form, d, m, l, v] = words else {
+            return Err(LENGTH);
+        };
+        let in_range = form == 0 && v == 0 && (1..=4).contains(&d) && m <= 8 && l <= 64;
         if in_range && pool.len() == (1024 * (d + m) + 64 * l) as usize {
             Ok(Shape { d, m, l })
         } else {

@@ -1,14 +1,15 @@
 -- `change::make_stores` meets its contract: each turn of the loop starts between two stores of the work.
 use native.Mathlib.Omega.{arith}
 use borrow.Author.Needs.{needs}
+use Rattle.plan.specs.Aims.{aimOf}
 use Rattle.change.proofs.RunLaws.{Midst, midst-begin, midst-looks, midst-told, midst-on, found-store}
 use Rattle.change.proofs.RunLaws.{found-none, ends-left, ends-done, ends-cut, next-due}
 use Rattle.change.proofs.make_stores.Statement.{statement}
 use Rattle.change.proofs.make_stores.Tie as tie
 
 abbrev Inv-loop : tie.InvT-loop
-Inv-loop pool₀ shape owners domain paint work allowance left₀ from₀ pool left from = Midst shape owners domain paint
-    work pool₀ allowance from pool left
+Inv-loop pool₀ shape owners domain paint work allowance left₀ from₀ pool left from = Midst shape owners
+    (aimOf domain paint) work pool₀ allowance from pool left
 
 abbrev μ-loop : tie.MeasureT-loop
 μ-loop pool₀ shape owners domain paint work allowance left₀ from₀ pool left from = left

@@ -1,5 +1,6 @@
 -- `change::put` meets its contract.
 use mathlib.Core.Path.{_≡_, refl, sym, ap, _∙_}
+use Rattle.plan.specs.Aims.{aimOf}
 use Rattle.change.proofs.CutLaws.{put-cuts}
 use borrow.Author.Needs.{needs}
 use Rattle.change.proofs.put.Statement.{statement}
@@ -19,7 +20,7 @@ same-length c = search needs
 
 returns : tie.Need-returns
 returns c = let a = c .before .before .args in
-    rw (c .pool-index .ensures) (refl, put-cuts (a .shape) (a .domain) (a .paint) (c .before .before .pre))
+    rw (c .pool-index .ensures) (refl, put-cuts (a .shape) (aimOf (a .domain) (a .paint)) (c .before .before .pre))
 
 pub put-spec : {M : Type 1} → statement M
 put-spec = tie.close (tie.spec pool-index-requires mul-pool slice-write-pool same-length returns)

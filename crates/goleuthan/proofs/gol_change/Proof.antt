@@ -1,9 +1,22 @@
 -- `goleuthan::gol_change` meets its contract. Assumes nothing.
 use mathlib.Core.Path.{ap}
 use Rattle.words.specs.declared.ByteAddr.{ByteAddr}
+use Rattle.goleuthan.specs.Calls.{wrong-length, shaped}
 use borrow.Author.Needs.{needs}
 use Rattle.goleuthan.proofs.gol_change.Statement.{statement}
 use Rattle.goleuthan.proofs.gol_change.Tie as tie
+
+one-requires : tie.Need-one-requires
+one-requires c κs = search needs
+
+same-length : tie.Need-same-length
+same-length c = search needs
+
+returns : tie.Need-returns
+returns c = rw (c .before .before .one .ensures) (wrong-length (c .before .before .before .before .if1 .taken))
+
+read-shape-requires : tie.Need-read-shape-requires
+read-shape-requires c κs = search needs
 
 byte-addr-requires : tie.Need-byte-addr-requires
 byte-addr-requires c κs = search needs
@@ -14,30 +27,33 @@ change-requires c κs = search needs
 give-answer-requires : tie.Need-give-answer-requires
 give-answer-requires c κs = search needs
 
-same-length : tie.Need-same-length
-same-length c = search needs
-
 same-length-2 : tie.Need-same-length-2
 same-length-2 c = search needs
 
-returns : tie.Need-returns
-returns c =
+same-length-3 : tie.Need-same-length-3
+same-length-3 c = search needs
+
+returns-2 : tie.Need-returns-2
+returns-2 c =
     let e = ap (λ (x : ByteAddr). x .0)
     (c .before .before .before .before .before .before .before .before .byte-addr .ensures) in
-    record {
-      answer = c .before .before .before .before .before .before .change .result;
-      promise = rw e at (c .before .before .before .before .before .before .change .ensures);
-      number = c .before .before .give-answer .ensures .0;
-      results = c .before .before .give-answer .ensures .1;
-    }
+    rw (c .before .before .give-answer .ensures .0, c .before .before .give-answer .ensures .1)
+    (shaped (c .before .before .before .before .before .before .before .before .before .before .if1 .left)
+    (c .before .before .before .before .before .before .change .result) _
+    (rw (c .before .before .before .before .before .before .before .before .before .read-shape .ensures, e)
+    at (c .before .before .before .before .before .before .change .ensures)))
 
 pub gol-change-spec : {M : Type 1} → statement M
 gol-change-spec =
     tie.close
     (tie.spec
+    one-requires
+    same-length
+    returns
+    read-shape-requires
     byte-addr-requires
     change-requires
     give-answer-requires
-    same-length
     same-length-2
-    returns)
+    same-length-3
+    returns-2)

@@ -1,9 +1,22 @@
 -- `goleuthan::gol_lookup` meets its contract. Assumes nothing.
 use mathlib.Core.Path.{ap}
 use Rattle.words.specs.declared.ByteAddr.{ByteAddr}
+use Rattle.goleuthan.specs.Calls.{wrong-length, shaped}
 use borrow.Author.Needs.{needs}
 use Rattle.goleuthan.proofs.gol_lookup.Statement.{statement}
 use Rattle.goleuthan.proofs.gol_lookup.Tie as tie
+
+three-requires : tie.Need-three-requires
+three-requires c κs = search needs
+
+same-length : tie.Need-same-length
+same-length c = search needs
+
+returns : tie.Need-returns
+returns c = rw (c .before .before .three .ensures) (wrong-length (c .before .before .before .before .if1 .taken))
+
+read-shape-requires : tie.Need-read-shape-requires
+read-shape-requires c κs = search needs
 
 byte-addr-requires : tie.Need-byte-addr-requires
 byte-addr-requires c κs = search needs
@@ -14,19 +27,28 @@ lookup-requires c κs = search needs
 give-found-requires : tie.Need-give-found-requires
 give-found-requires c κs = search needs
 
-same-length : tie.Need-same-length
-same-length c = search needs
+same-length-2 : tie.Need-same-length-2
+same-length-2 c = search needs
 
-returns : tie.Need-returns
-returns c =
+returns-2 : tie.Need-returns-2
+returns-2 c =
     let e = ap (λ (x : ByteAddr). x .0) (c .before .before .before .before .before .byte-addr .ensures) in
-    record {
-      found = c .before .before .before .before .lookup .result;
-      promise = rw e at (c .before .before .before .before .lookup .ensures);
-      number = c .before .before .give-found .ensures .0;
-      results = c .before .before .give-found .ensures .1;
-    }
+    rw (c .before .before .give-found .ensures .0, c .before .before .give-found .ensures .1)
+    (shaped (c .before .before .before .before .before .before .before .if1 .left)
+    (c .before .before .before .before .lookup .result)
+    (rw (c .before .before .before .before .before .before .read-shape .ensures, e)
+    at (c .before .before .before .before .lookup .ensures)))
 
 pub gol-lookup-spec : {M : Type 1} → statement M
 gol-lookup-spec =
-    tie.close (tie.spec byte-addr-requires lookup-requires give-found-requires same-length returns)
+    tie.close
+    (tie.spec
+    three-requires
+    same-length
+    returns
+    read-shape-requires
+    byte-addr-requires
+    lookup-requires
+    give-found-requires
+    same-length-2
+    returns-2)

@@ -78,7 +78,7 @@ pub fn every_cut(run: &mut Run, before: &State, after: &State, request: Request)
         let what = format!("{request:x?} on {:?} with allowance {allowance} of {count}", before.shape);
         let mut pool = before.words.clone();
         let mut out = vec![MARK; 2];
-        let number = run.subject.change(&mut pool, before.shape, request, allowance, &mut out);
+        let number = run.subject.change(&mut pool, &before.shape.words(), request, allowance, &mut out);
         run.tally.answered("change with an allowance", number);
         Expected::stores(count, allowance).held(&what, number, &out)?;
         let cut = held_cut(&what, before, after, allowance, &pool)?;
@@ -162,7 +162,7 @@ pub fn every_tidying_cut(run: &mut Run, after_what: &str, before: &State) -> Res
         let what = format!("tidying with allowance {allowance} of {count} after {after_what}");
         let mut pool = before.words.clone();
         let mut out = vec![MARK; 2];
-        let number = run.subject.tidy(&mut pool, before.shape, allowance, &mut out);
+        let number = run.subject.tidy(&mut pool, &before.shape.words(), allowance, &mut out);
         run.tally.answered("tidying with an allowance", number);
         Expected::stores(count, allowance).held(&what, number, &out)?;
         let cut = held_cut(&what, before, &after, allowance, &pool)?;
@@ -179,7 +179,7 @@ fn again(run: &mut Run, what: &str, cut: &State, after: &State, request: Request
     let what = format!("again {what}");
     let (_, tidied) = tidy(&cut.words, cut.shape).expect("a cut is sound");
     let mut pool = cut.words.clone();
-    run.subject.tidy(&mut pool, cut.shape, u32::MAX, &mut []);
+    run.subject.tidy(&mut pool, &cut.shape.words(), u32::MAX, &mut []);
     same_words(&what, &pool, &tidied.words)?;
     lookups(run, &pool, cut, request)?;
     let finished = finished_change(run, &mut pool, tidied, request)?;

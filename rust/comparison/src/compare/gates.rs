@@ -127,7 +127,7 @@ fn one_step(run: &mut Run, pool: &[u32], shape: Shape, gates: &[u32], stack: &mu
     let depth = must.depth;
     let answer = must.step(pool, shape, &held, address, target);
     let mut out = run.lend();
-    let number = run.subject.step(pool, shape, Step { gates, stack, address, target }, &mut out);
+    let number = run.subject.step(pool, &shape.words(), Step { gates, stack, address, target }, &mut out);
     run.tally.answered("step", number);
     let what = format!("step at {address:#x} with target {target:#x} as {shape:?}");
     Expected::new(answer.map(|pass| [u32::from(pass)])).held(&what, number, &out)?;
@@ -149,7 +149,7 @@ fn wrong_state_lengths(run: &mut Run, pool: &[u32], shape: Shape) -> Result<(), 
     let must = stack.clone();
     let mut out = run.lend();
     let step = Step { gates: &gates, stack: &mut stack, address: 0, target: 0 };
-    let number = run.subject.step(pool, shape, step, &mut out);
+    let number = run.subject.step(pool, &shape.words(), step, &mut out);
     run.tally.answered("step", number);
     Expected::new::<1>(Err(LENGTH)).held("step with a state of another length", number, &out)?;
     same_words("a stack of another length", &stack, &must)

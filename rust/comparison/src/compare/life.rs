@@ -61,7 +61,7 @@ impl Life {
 
     fn tidy(&mut self, run: &mut Run) -> Result<(), Difference> {
         let allowance = if run.rng.once_in(2) { u32::MAX } else { run.rng.below(2) };
-        let number = run.subject.tidy(&mut self.pool, self.shape, allowance, &mut []);
+        let number = run.subject.tidy(&mut self.pool, &self.shape.words(), allowance, &mut []);
         hold!(number == 0 || number == CUT, "life: a tidying answers {number}");
         run.tally.met(if number == 0 { "life: tidied" } else { "life: a tidying is cut" });
         self.hold_words(run, None)
@@ -93,7 +93,7 @@ impl Life {
         if region.is_ok() {
             self.checks_in(run, request)?;
         }
-        let number = run.subject.change(&mut self.pool, self.shape, request, allowance, &mut []);
+        let number = run.subject.change(&mut self.pool, &self.shape.words(), request, allowance, &mut []);
         hold!(number != 1 && number != 6, "life: {request:x?} answers {number}");
         if number == 0 || number == CUT {
             let region = region.expect("it was not refused");
@@ -106,8 +106,8 @@ impl Life {
         }
         if number == 7 {
             run.tally.met("life: refused 7 after a cut");
-            run.subject.tidy(&mut self.pool, self.shape, u32::MAX, &mut []);
-            let again = run.subject.change(&mut self.pool.clone(), self.shape, request, allowance, &mut []);
+            run.subject.tidy(&mut self.pool, &self.shape.words(), u32::MAX, &mut []);
+            let again = run.subject.change(&mut self.pool.clone(), &self.shape.words(), request, allowance, &mut []);
             hold!(again != 7, "life: refused 7 after a tidying");
         }
         self.hold_words(run, Some(request))
@@ -134,7 +134,7 @@ impl Life {
     fn one_check(&mut self, run: &mut Run, domain: u32, address: u32) -> Result<(), Difference> {
         let access = Access { domain, kind: run.rng.below(3), size: 4, address };
         let mut out = [MARK; 2];
-        let number = run.subject.check(&self.pool, self.shape, &mut self.buffer, access, &mut out);
+        let number = run.subject.check(&self.pool, &self.shape.words(), &mut self.buffer, access, &mut out);
         let found = lookup(&self.pool, self.shape, access.domain, address);
         let (Ok(found), Ok(kind)) = (found, kind_of(access.kind, access.size)) else {
             crate::differ!("life: a walk of the pool meets a bad entry");

@@ -40,7 +40,7 @@ fn one_listing(run: &mut Run, pool: &[u32], shape: Shape) -> Result<(), Differen
     };
     let mut runs = vec![MARK; length];
     let mut out = run.lend();
-    let number = run.subject.list(pool, shape, from, &mut runs, &mut out);
+    let number = run.subject.list(pool, &shape.words(), from, &mut runs, &mut out);
     run.tally.answered("listing", number);
     let what = format!("listing of {shape:?} from {from} into {length} words of {total} runs");
     Expected::new(answer.as_ref().map(|_| [total]).map_err(|refusal| *refusal)).held(&what, number, &out)?;
@@ -50,7 +50,7 @@ fn one_listing(run: &mut Run, pool: &[u32], shape: Shape) -> Result<(), Differen
 }
 
 /// The lent words after a listing: whole runs from a number on, and marks.
-fn part(listed: &[Listed], from: u32, length: usize) -> Vec<u32> {
+pub(super) fn part(listed: &[Listed], from: u32, length: usize) -> Vec<u32> {
     let wanted = listed.iter().skip(from as usize).take(length / 4);
     let mut words: Vec<u32> = wanted.flat_map(|run| [run.domain, run.first, run.last, run.right]).collect();
     words.resize(length, MARK);

@@ -2,6 +2,7 @@
 
 pub mod cuts;
 pub mod gates;
+pub mod lent;
 pub mod life;
 pub mod listings;
 pub mod pools;

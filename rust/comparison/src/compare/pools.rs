@@ -76,7 +76,7 @@ fn wrong_length(run: &mut Run, pool: &[u32], shape: Shape) -> Result<(), Differe
     }
     run.tally.met("pool of another length");
     let mut copy = other.clone();
-    let number = run.subject.fresh(&mut copy, shape);
+    let number = run.subject.fresh(&mut copy, &shape.words());
     run.tally.answered("fresh", number);
     hold!(number == 1 && copy == other, "fresh of {} words as {shape:?}: answers {number}", other.len());
     calls(run, &other, shape)
@@ -89,7 +89,7 @@ fn one_change(run: &mut Run, pool: &[u32], shape: Shape) -> Result<(), Differenc
     let allowance = if run.rng.once_in(3) { run.rng.below(2000) } else { u32::MAX };
     let mut copy = pool.to_vec();
     let mut out = run.lend();
-    let number = run.subject.change(&mut copy, shape, request, allowance, &mut out);
+    let number = run.subject.change(&mut copy, &shape.words(), request, allowance, &mut out);
     run.tally.answered("change of any pool", number);
     let what = format!("{request:x?} of any pool as {shape:?}");
     held_stores(&what, change(pool, shape, request), allowance, number, &out, pool, &copy)
@@ -99,13 +99,13 @@ fn one_tidying(run: &mut Run, pool: &[u32], shape: Shape) -> Result<(), Differen
     let allowance = if run.rng.once_in(3) { run.rng.below(4) } else { u32::MAX };
     let mut copy = pool.to_vec();
     let mut out = run.lend();
-    let number = run.subject.tidy(&mut copy, shape, allowance, &mut out);
+    let number = run.subject.tidy(&mut copy, &shape.words(), allowance, &mut out);
     run.tally.answered("tidying of any pool", number);
     let what = format!("tidying of any pool as {shape:?}");
     held_stores(&what, tidy(pool, shape), allowance, number, &out, pool, &copy)
 }
 
-fn held_stores(
+pub(super) fn held_stores(
     what: &str,
     answer: Result<(State, State), u32>,
     allowance: u32,
@@ -135,7 +135,7 @@ fn one_lookup(run: &mut Run, pool: &[u32], shape: Shape) -> Result<(), Differenc
     let address = requests::address(&mut run.rng);
     let domain = if run.rng.once_in(12) { run.rng.pick(&[4, 7, u32::MAX]) } else { run.rng.below(4) };
     let mut out = run.lend();
-    let number = run.subject.lookup(pool, shape, domain, address, &mut out);
+    let number = run.subject.lookup(pool, &shape.words(), domain, address, &mut out);
     run.tally.answered("lookup in any pool", number);
     let found = lookup(pool, shape, domain, address).map(|found| [found.right, found.entry, found.loads]);
     let what = format!("lookup of {address:#x} in domain {domain} of any pool as {shape:?}");

@@ -18,25 +18,25 @@ impl Row<'_> {
     fn fresh(subject: &dyn Subject, middles: u32, leaves: u32) -> Row<'_> {
         let shape = Shape::new(1, middles, leaves);
         let mut pool = vec![MARK; shape.length()];
-        subject.fresh(&mut pool, shape);
+        subject.fresh(&mut pool, &shape.words());
         Row { subject, shape, pool }
     }
 
     fn set(&mut self, start: u32, length: u32, right: u32, allowance: u32) -> (u32, u32) {
         let mut out = [MARK];
         let request = Request { domain: 0, start, length, right };
-        (self.subject.change(&mut self.pool, self.shape, request, allowance, &mut out), out[0])
+        (self.subject.change(&mut self.pool, &self.shape.words(), request, allowance, &mut out), out[0])
     }
 
     fn tidy(&mut self) -> (u32, u32) {
         let mut out = [MARK];
-        (self.subject.tidy(&mut self.pool, self.shape, u32::MAX, &mut out), out[0])
+        (self.subject.tidy(&mut self.pool, &self.shape.words(), u32::MAX, &mut out), out[0])
     }
 
     /// The number, the right and the loads.
     fn lookup(&self, address: u32) -> (u32, u32, u32) {
         let mut out = [MARK; 3];
-        let number = self.subject.lookup(&self.pool, self.shape, 0, address, &mut out);
+        let number = self.subject.lookup(&self.pool, &self.shape.words(), 0, address, &mut out);
         (number, out[0], out[2])
     }
 }

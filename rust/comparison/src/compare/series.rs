@@ -49,7 +49,7 @@ pub fn request(run: &mut Run, shape: Shape, last: Option<Request>) -> Request {
 /// A pool of random words, made fresh.
 pub fn fresh(run: &mut Run, shape: Shape) -> Result<Vec<u32>, Difference> {
     let mut pool: Vec<u32> = (0..shape.length()).map(|_| run.rng.word()).collect();
-    let number = run.subject.fresh(&mut pool, shape);
+    let number = run.subject.fresh(&mut pool, &shape.words());
     run.tally.answered("fresh", number);
     hold!(number == 0, "fresh {shape:?}: answers {number}");
     same_words(&format!("fresh {shape:?}"), &pool, &shape.fresh())?;
@@ -66,7 +66,7 @@ pub fn finished_change(run: &mut Run, pool: &mut [u32], state: State, request: R
         _ => u32::MAX,
     };
     let mut out = run.lend();
-    let number = run.subject.change(pool, shape, request, allowance, &mut out);
+    let number = run.subject.change(pool, &shape.words(), request, allowance, &mut out);
     run.tally.answered("change", number);
     let what = format!("{request:x?} in a series on {shape:?}");
     Expected::new(count.map(|count| [count]).map_err(|refusal| *refusal)).held(&what, number, &out)?;
@@ -102,7 +102,7 @@ pub fn lookups(run: &mut Run, pool: &[u32], state: &State, request: Request) -> 
 
 fn one_lookup(run: &mut Run, pool: &[u32], state: &State, domain: u32, address: u32) -> Result<(), Difference> {
     let mut out = vec![MARK; 4];
-    let number = run.subject.lookup(pool, state.shape, domain, address, &mut out);
+    let number = run.subject.lookup(pool, &state.shape.words(), domain, address, &mut out);
     let what = format!("lookup of {address:#x} in domain {domain} of {:?}", state.shape);
     let right = state.rights[domain as usize].at(address / 4);
     hold!(number == 0 && out[0] == right, "{what}: answers {number} and right {}, must be {right}", out[0]);

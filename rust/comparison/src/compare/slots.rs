@@ -48,7 +48,7 @@ fn one_check(run: &mut Run, pool: &[u32], shape: Shape, buffer: &mut [u32]) -> R
     let mut must = Buffer::from_words(buffer);
     let answer = must.check(pool, shape, access);
     let mut out = run.lend();
-    let number = run.subject.check(pool, shape, buffer, access, &mut out);
+    let number = run.subject.check(pool, &shape.words(), buffer, access, &mut out);
     run.tally.answered("check", number);
     let what = format!("{access:x?} as {shape:?}");
     let results = answer.map(|verdict| [u32::from(verdict.pass), verdict.loads]);
@@ -97,7 +97,7 @@ fn wrong_lengths(run: &mut Run, pool: &[u32], shape: Shape) -> Result<(), Differ
     let shape = if run.rng.once_in(2) { shapes::wrong(&mut run.rng, shape) } else { shape };
     let access = Access { domain: run.rng.below(5), kind: 0, size: 4, address: 0 };
     let mut out = run.lend();
-    let number = run.subject.check(pool, shape, &mut words, access, &mut out);
+    let number = run.subject.check(pool, &shape.words(), &mut words, access, &mut out);
     run.tally.answered("check", number);
     Expected::new::<2>(Err(LENGTH)).held("check with a buffer of another length", number, &out)?;
     let flushes = [

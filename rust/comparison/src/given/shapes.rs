@@ -1,4 +1,4 @@
-//! Shapes: every class of them, and ones out of range.
+//! Shapes: every class of them, ones out of range, and lent words that say one or none.
 
 use crate::rng::Rng;
 use model::shape::Shape;
@@ -63,4 +63,20 @@ pub fn wrong(rng: &mut Rng, right: Shape) -> Shape {
         7 => Shape::new(0, middles + domains, leaves),
         _ => Shape::new(rng.word(), rng.word(), rng.word()),
     }
+}
+
+/// The words of a lent shape: of a shape that is mostly right, with another form or a V by turns, and in any length
+/// from 0 to 7 words.
+pub fn lent(rng: &mut Rng, right: Shape) -> Vec<u32> {
+    let said = if rng.once_in(4) { wrong(rng, right) } else { right };
+    let mut words = said.words().to_vec();
+    for place in [0, 4] {
+        if rng.once_in(3) {
+            words[place] = rng.pick(&[1, 2, 5, 1 << 31, u32::MAX]);
+        }
+    }
+    if rng.once_in(2) {
+        words.resize(rng.index(8), 0);
+    }
+    words
 }
