@@ -31,6 +31,18 @@ CALLS = {
     "goleuthan/src/lib.rt": re.findall(r"fn (gol_\w+)", open("crates/goleuthan/src/lib.rt").read()),
 }
 
+# The only thing that such a call may require: that lent words are as many as a state has. The C face answers 101
+# where they are not, and requires nothing. The one store is called by the loop alone.
+LENT = r"Is(?:Buffer|Gates|Stack) \(now \w+\)"
+NOT_BY_USERS = {"put"}
+
+
+def requires_more(name, said):
+    """Whether the contract of a call requires more than the length of lent words."""
+    clauses = re.findall(r"requires \{ ⌜ (.*?) ⌝ \}", said, re.S)
+    allowed = r"" if name.startswith("gol_") else LENT + r"(?: × " + LENT + r")*"
+    return name not in NOT_BY_USERS and any(not re.fullmatch(allowed, clause) for clause in clauses)
+
 
 def declared():
     """Every name that the tree declares: definitions, laws, fields; in code functions, types, variants, constants."""
@@ -115,6 +127,8 @@ def reading(text):
             if said is None:
                 faults.append(f"there is no function {name} in {file}")
                 continue
+            if requires_more(name, said):
+                faults.append(f"{name} in {file} requires more than the length of lent words")
             rests = {taken[word] for word in re.findall(r"[^\s(){}⌜⌝.,]+", said) if word in taken}
             faults += [f"the contract of {name} rests on {other}, which is inner" for other in sorted(rests & inner)]
     in_proofs = [f for f in list(SPECS) if re.search(r"use Rattle·\w+(?:·proofs)?\.proofs\.", SPECS[f])]

@@ -57,19 +57,20 @@ BARE = {
     ("goleuthan", "gol_step", "address"): "a number from C",
     ("goleuthan", "gol_step", "target"): "a number from C",
     ("goleuthan", "give_word", "at"): "a word of the results",
-    ("goleuthan", "slot_at", "at"): "a word of a lent state",
-    ("goleuthan", "put_slot", "at"): "a word of a lent state",
-    ("goleuthan", "gate_at", "at"): "a word of a lent state",
-    ("goleuthan", "put_gate", "at"): "a word of a lent state",
-    ("goleuthan", "frame_at", "at"): "a word of a lent state",
-    ("goleuthan", "put_frame", "at"): "a word of a lent state",
+    ("lookaside", "slot_at", "at"): "a word of a lent state",
+    ("lookaside", "put_slot", "at"): "a word of a lent state",
+    ("gates", "gate_at", "at"): "a word of a lent state",
+    ("gates", "put_gate", "at"): "a word of a lent state",
+    ("gates", "move_gate", "at"): "a word of a lent state",
+    ("gates", "frame_at", "at"): "a word of a lent state",
+    ("gates", "put_frame", "at"): "a word of a lent state",
 }
 
 # Functions whose name says so and that give a bare number: (crate, function) with what it is.
 GIVES_NUMBER = {
     ("targets", "paint_word"): "a leaf entry",
     ("change", "final_word"): "what a pool word is to hold",
-    ("goleuthan", "gate_word"): "a word of a lent state",
+    ("gates", "gate_word"): "a word of a lent state",
     ("goleuthan", "in_one_word"): "a count",
 }
 SAYS_WORD = re.compile(r"(?:^|_)(?:word|addr|address|start)$")

@@ -14,7 +14,7 @@ use Rattle.theory.proofs.Logic.{by-cases}
 use Rattle.words.specs.Rights.{rightAt}
 use Rattle.words.specs.Region.{regionOf, covered}
 use Rattle.words.proofs.RightsLaws.{eight-right}
-use Rattle.table.specs.declared.Found.the-variants.{Right}
+use Rattle.table.specs.declared.Found.the-variants.{By}
 use Rattle.table.specs.Shape.{Fits}
 use Rattle.table.specs.Map.{addresses, formOf}
 use Rattle.table.specs.Fresh.{freshPool}
@@ -56,12 +56,12 @@ module _ {n : ℕ} {x : List ℕ} (c : CutAt (shape 1 1) (changeAim 0 in-leaf 2)
 
   cut-looks : NoneOrTwo x (shape 1 1) 0x1000 0x103F
   cut-looks a ba =
-      let (w, k, e) = sound-lookup x (shape 1 1) 0 a (c .sound) (rw (c .long) fresh-fit) (omega arith) in (
-        rightOf (formOf (shape 1 1)) (words x) 0 a,
-        w,
-        k,
-        finds x (shape 1 1) a (Right (rightOf (formOf (shape 1 1)) (words x) 0 a) w k) e,
-        cut-right a ba,
+      let (y, e, q) = sound-lookup x (shape 1 1) 0 a (c .sound) (rw (c .long) fresh-fit) (omega arith) in (
+        y .right,
+        y .entry,
+        y .loads,
+        finds x (shape 1 1) a (By y) e,
+        rw q (cut-right a ba),
       )
 
 leaf-cut : (x : List ℕ) × WasCut (shape 1 1) (changeAim 0 in-leaf 2) fresh 1025 x

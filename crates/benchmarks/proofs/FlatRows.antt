@@ -18,7 +18,8 @@ use Rattle.words.specs.Region.{rounded, regionOf, covered}
 use Rattle.words.specs.declared.Region.{Region}
 use Rattle.words.specs.declared.Rounded.the-variants.{Covers}
 use Rattle.words.proofs.RightsLaws.{eight-right}
-use Rattle.table.specs.declared.Found.the-variants.{Right, Refused}
+use Rattle.table.specs.declared.Deciding.{Deciding}
+use Rattle.table.specs.declared.Found.the-variants.{By, Refused}
 use Rattle.table.specs.declared.Made.the-variants.{Done as Made}
 use Rattle.table.specs.Shape.{Fits}
 use Rattle.table.specs.Map.{addresses, formOf}
@@ -44,6 +45,9 @@ use Rattle.benchmarks.proofs.RowLaws.{aims-fresh, change-done}
 use Rattle.benchmarks.proofs.FlatLaws.{flat-finished, flat-right, first-part}
 
 -- Row 1: the root word decides.
+abbrev none : Deciding
+none = record { right = 0; entry = 2147483648; loads = 1 }
+
 module _ (M L : ℕ) (f : Fits (shape M L) (length (freshPool (shape M L)))) (a : ℕ) where
   abbrev P : ℕ → ℕ
   P = words (freshPool (shape M L))
@@ -54,14 +58,15 @@ module _ (M L : ℕ) (f : Fits (shape M L) (length (freshPool (shape M L)))) (a 
   root-word : P k ≡ 2147483648
   root-word = fresh-word (shape M L) k ∙ ap (λ t. cond t 2147483648 0) (lt-ltb k 1024 (omega arith))
 
-  pub fresh-lookup : lookupOf (freshPool (shape M L)) (shape M L) 0 a ≡ Right 0 2147483648 1
+  pub fresh-lookup : lookupOf (freshPool (shape M L)) (shape M L) 0 a ≡ By none
   fresh-lookup =
       lookup-walks (freshPool (shape M L)) (shape M L) 0 a (fits-test (shape M L) (length (freshPool (shape M L))) f)
       (omega arith)
       ∙ ap (foundAt (formOf (shape M L)) P a) (walk-stops (formOf (shape M L)) P a 2 k (rw root-word refl)
       (rw root-word refl))
-      ∙ ap (λ w. Right (rightAt w (a / 524288 % 8)) w 1) root-word
-      ∙ ap (λ x. Right x 2147483648 1) (eight-right 0 (a / 524288 % 8) (omega arith) (number-below 2 a))
+      ∙ ap (λ w. By (record { right = rightAt w (a / 524288 % 8); entry = w; loads = 1 })) root-word
+      ∙ ap (λ x. By (record { right = x; entry = 2147483648; loads = 1 }))
+      (eight-right 0 (a / 524288 % 8) (omega arith) (number-below 2 a))
 
 pub row-1 : AnyAddress
 row-1 M L p f =
@@ -72,7 +77,7 @@ row-1 M L p f =
       some = (Made, freshPool s, made);
       each = λ r q m.
           let (e, z) = one-fresh m made in
-          rw (e, z) (refl, refl, λ a ba. finds (freshPool s) s a (Right 0 2147483648 1) (fresh-lookup M L g a));
+          rw (e, z) (refl, refl, λ a ba. finds (freshPool s) s a (By none) (fresh-lookup M L g a));
     }
 
 -- Row 12: the zero word leads to pool word 0, which is no place.

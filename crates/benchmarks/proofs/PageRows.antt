@@ -7,7 +7,7 @@ use Rattle.theory.specs.Walk.{walk}
 use Rattle.words.specs.Rights.{pack}
 use Rattle.words.specs.Region.{rounded, regionOf}
 use Rattle.words.specs.declared.Region.{Region}
-use Rattle.table.specs.declared.Found.the-variants.{Right}
+use Rattle.table.specs.declared.Found.the-variants.{By}
 use Rattle.table.specs.Wants.{any}
 use Rattle.table.specs.Fresh.{freshPool}
 use Rattle.table.proofs.WantLaws.{wants-leaf}
@@ -47,10 +47,10 @@ row-2 n h = always-change (leaf-set n h) (refl, refl)
 pub row-3 : LooksAround
 unfolding listed after walk
 row-3 n h = always-change (leaf-set n h) (
-  finds leaf-pool (shape 1 1) 0x103F (Right 2 0xAAAAAAAA 3) refl,
-  finds leaf-pool (shape 1 1) 0x1040 (Right 0 0 3) refl,
-  finds leaf-pool (shape 1 1) 0x2000 (Right 0 0x80000000 2) refl,
-  finds leaf-pool (shape 1 1) 0x400000 (Right 0 0x80000000 1) refl,
+  finds leaf-pool (shape 1 1) 0x103F (By (record { right = 2; entry = 0xAAAAAAAA; loads = 3 })) refl,
+  finds leaf-pool (shape 1 1) 0x1040 (By (record { right = 0; entry = 0; loads = 3 })) refl,
+  finds leaf-pool (shape 1 1) 0x2000 (By (record { right = 0; entry = 0x80000000; loads = 2 })) refl,
+  finds leaf-pool (shape 1 1) 0x400000 (By (record { right = 0; entry = 0x80000000; loads = 1 })) refl,
 )
 
 -- Row 6: a middle table alone.

@@ -13,8 +13,9 @@ use Rattle.theory.specs.Pool.{words, SoundPool, entry}
 use Rattle.theory.specs.Settled.{Together}
 use Rattle.theory.proofs.WalkLaws.{decides-low, together-decides}
 use Rattle.table.specs.declared.Shape.{Shape}
+use Rattle.table.specs.declared.Deciding.{Deciding}
 use Rattle.table.specs.declared.Found.{Found}
-use Rattle.table.specs.declared.Found.the-variants.{Right, Refused as NotFound}
+use Rattle.table.specs.declared.Found.the-variants.{By, Refused as NotFound}
 use Rattle.table.specs.Shape.{Fits, fitsOf}
 use Rattle.table.specs.Map.{addresses, formOf}
 use Rattle.table.specs.Lookup.{foundAt, lookupOf}
@@ -46,7 +47,7 @@ Clear p s t = (d a : ℕ) → d < s .domains → a < addresses → matches t d a
 abbrev pub AllClear : List ℕ → Shape → Buffer → Type 0
 AllClear p s b = (i : ℕ) → Clear p s (getD (b .slots) i emptySlot)
 
-pub not-six : {r w n : ℕ} → Right r w n ≡ NotFound 6 → ⊥
+pub not-six : {x : Deciding} → By x ≡ NotFound 6 → ⊥
 not-six e = let z : _≡_ {A = ℕ} 0 1 = cc in omega arith
 
 empty-clear : (p : List ℕ) (s : Shape) → Clear p s emptySlot
@@ -64,15 +65,16 @@ emptied-clear p s i = rw (empty-at 64 i) (empty-clear p s)
 -- In a sound pool every slot is clear.
 pub sound-clear : (p : List ℕ) (s : Shape) → SoundPool (formOf s) (words p) → Fits s (length p) → (b : Buffer)
     → AllClear p s b
-sound-clear p s q f b i d a hd ha m e = let (w, n, z) = sound-lookup p s d a q f hd in not-six (sym z ∙ e)
+sound-clear p s q f b i d a hd ha m e = let (x, z, _) = sound-lookup p s d a q f hd in not-six (sym z ∙ e)
 
 -- What a lookup keeps is clear: on its whole block the walk ends at the same entry.
-kept-clear : (p : List ℕ) (s : Shape) (d a r w n : ℕ) → fitsOf s (length p) ≡ true → lookupOf p s d a ≡ Right r w n
-    → Clear p s (slotFor d a w n)
-kept-clear p s d a r w n ok e f c hf hc m six =
-    let g = match-is (slotFor d a w n) f c m in
+kept-clear : (p : List ℕ) (s : Shape) (d a : ℕ) (x : Deciding) → fitsOf s (length p) ≡ true → lookupOf p s d a ≡ By x
+    → Clear p s (slotFor d a (x .entry) (x .loads))
+kept-clear p s d a x ok e f c hf hc m six =
+    let n = x .loads in
+    let g = match-is (slotFor d a (x .entry) n) f c m in
     let q = sym (round-count (blockBytes n) (a / blockBytes n) c (g .from) (g .to)) in
-    let (h, k, z, _, _, o) = right-found p s d a r w n e in
+    let (h, k, z, _, _, o) = right-found p s d a x e in
     let lo = decides-low (formOf s) (words p) a (λ v. refl) 2 (entry (formOf s) d a) z in
     let y : heightOf n ≡ h = omega arith in
     let t : Together (formOf s) h a c = rw y at (block-together s (heightOf n) a c q) in
@@ -127,7 +129,8 @@ module _ (p : List ℕ) (s : Shape) (b : Buffer) (g : AllClear p s b) where
 
   walked-clear : (d kind a : ℕ) → fitsOf s (length p) ≡ true → (f : Found) → lookupOf p s d a ≡ f
       → AllClear p s (walked f b d kind a .buffer)
-  walked-clear d kind a ok (Right r w n) e = filled-clear (b .next) (slotFor d a w n) (kept-clear p s d a r w n ok e)
+  walked-clear d kind a ok (By x) e = filled-clear (b .next) (slotFor d a (x .entry) (x .loads))
+      (kept-clear p s d a x ok e)
   walked-clear d kind a ok (NotFound n) e = g
 
   answered-clear : (d kind a : ℕ) → fitsOf s (length p) ≡ true → (h : Hit)

@@ -14,8 +14,9 @@ use Rattle.words.specs.declared.Region.{Region}
 use Rattle.words.specs.declared.Rounded.{Rounded}
 use Rattle.words.specs.declared.Rounded.the-variants.{Covers, Refused as NoRegion}
 use Rattle.table.specs.declared.Shape.{Shape}
+use Rattle.table.specs.declared.Deciding.{Deciding}
 use Rattle.table.specs.declared.Found.{Found}
-use Rattle.table.specs.declared.Found.the-variants.{Right, Refused as NotFound}
+use Rattle.table.specs.declared.Found.the-variants.{By, Refused as NotFound}
 use Rattle.table.specs.Shape.{Fits}
 use Rattle.table.specs.Map.{addresses, formOf}
 use Rattle.table.specs.Lookup.{lookupOf}
@@ -49,11 +50,12 @@ use Rattle.demands.proofs.ClearLaws.{change-clear, tidy-clear, check-si
 -- A lookup in a sound pool finds exactly the right that the table holds, in one to three loads.
 pub lookup-exact : (p : List ℕ) (s : Shape) (d a : ℕ) → SoundPool (formOf s) (words p) → Fits s (length p)
     → d < s .domains
-    → (w : ℕ) × (n : ℕ) × (lookupOf p s d a ≡ Right (rightOf (formOf s) (words p) d a) w n) × (1 ≤ n) × (n ≤ 3)
+    → (x : Deciding) × (lookupOf p s d a ≡ By x) × (x .right ≡ rightOf (formOf s) (words p) d a) × (1 ≤ x .loads)
+    × (x .loads ≤ 3)
 lookup-exact p s d a q f h =
-    let (w, n, e) = sound-lookup p s d a q f h in
-    let (lo, hi) = right-loads p s d a _ w n e in
-    (w, n, e, lo, hi)
+    let (x, e, o) = sound-lookup p s d a q f h in
+    let (lo, hi) = right-loads p s d a x e in
+    (x, e, o, lo, hi)
 
 -- What a change leaves as it was: all but the places that it may have altered.
 
@@ -160,7 +162,7 @@ watched-sees (flushed-region w d start len) =
     let o = watched-sees w in pointed-sees o _ (rounded-sees o (regionOf start len) d)
 
 six-or-not : (f : Found) → (f ≡ NotFound 6) ⊎ (f ≢ NotFound 6)
-six-or-not (Right r w n) = inr not-six
+six-or-not (By x) = inr not-six
 six-or-not (NotFound n) = elim (ℕ-discrete n 6) [ yes e ↦ inl (ap NotFound e) | no e ↦ inr (λ q. e (cc)) ]
 
 -- Demand 2. Where no change is left without its flush, a check says what it says with an emptied buffer, by a walk;
@@ -193,9 +195,5 @@ pub series-verdict : {s : Shape} {p : List ℕ} {b : Buffer} {x : Places} {h : H
     → (n : ℕ) × (n ≤ 3) × (checkOf p s b d kind size a .verdict ≡ verdictOf kind (rightOf (formOf s) (words p) d a) n)
 series-verdict {s} {p} {b} {x} y w d kind size a hd ha z e =
     let o = series-holds y in
-    let six = found (sound-lookup p s d a (o .sound) (o .fits) hd) in
-    check-right p s x d kind size a z ha six b (watched-sees w .agrees) e
-  where
-    found : (w : ℕ) × (n : ℕ) × (lookupOf p s d a ≡ Right (rightOf (formOf s) (words p) d a) w n)
-        → lookupOf p s d a ≢ NotFound 6
-    found (w, n, q) c = not-six (sym q ∙ c)
+    let (_, found, _) = sound-lookup p s d a (o .sound) (o .fits) hd in
+    check-right p s x d kind size a z ha (λ six. not-six (sym found ∙ six)) b (watched-sees w .agrees) e

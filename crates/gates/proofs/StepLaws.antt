@@ -13,8 +13,9 @@ use lib.ListN.{length, getD, take, drop, length-set}
 use lib.Seq.{take-set-le, drop-set-lt, getD-set-same, getD-set-other}
 use Rattle.words.specs.declared.ByteAddr.{ByteAddr}
 use Rattle.table.specs.declared.Shape.{Shape}
+use Rattle.table.specs.declared.Deciding.{Deciding}
 use Rattle.table.specs.declared.Found.{Found}
-use Rattle.table.specs.declared.Found.the-variants.{Right, Refused as NotFound}
+use Rattle.table.specs.declared.Found.the-variants.{By, Refused as NotFound}
 use Rattle.table.specs.Shape.{fitsOf}
 use Rattle.table.specs.Lookup.{lookupOf}
 use Rattle.gates.specs.declared.Gate.the-variants.{Switch, Return}
@@ -141,20 +142,21 @@ step-verdict p s G k a t h =
     (step-refused p s G k a t (eqb-false (refusal p s G k a t) 0 y)))))
 
 -- A fetch passes exactly where the lookup finds the right 3.
-pub fetch-passes : (p : List ℕ) (s : Shape) (a d : ℕ) → fetchOf p s a d ≡ Pass → (w : ℕ) × (n : ℕ)
-    × (lookupOf p s d a ≡ Right 3 w n)
+pub fetch-passes : (p : List ℕ) (s : Shape) (a d : ℕ) → fetchOf p s a d ≡ Pass → (x : Deciding)
+    × (lookupOf p s d a ≡ By x) × (x .right ≡ 3)
 unfolding fetchOf
 fetch-passes p s a d = by (lookupOf p s d a)
   where
-    by : (f : Found) → verdict f ≡ Pass → (w : ℕ) × (n : ℕ) × (f ≡ Right 3 w n)
-    by (Right r w n) e =
-        by-cases (eqb r 3) (λ q. (w, n, ap (λ x. Right x w n) (eqb-true r 3 q)))
+    by : (f : Found) → verdict f ≡ Pass → (x : Deciding) × (f ≡ By x) × (x .right ≡ 3)
+    by (By y) e =
+        by-cases (eqb (y .right) 3) (λ q. (y, refl, eqb-true (y .right) 3 q))
         (λ q. let z : Deny ≡ Pass = rw q at e in let x : _≡_ {A = ℕ} 0 1 = cc in absurd (omega arith))
     by (NotFound m) e = let x : _≡_ {A = ℕ} 0 1 = cc in absurd (omega arith)
 
-pub fetch-on-3 : (p : List ℕ) (s : Shape) (a d w n : ℕ) → lookupOf p s d a ≡ Right 3 w n → fetchOf p s a d ≡ Pass
+pub fetch-on-3 : (p : List ℕ) (s : Shape) (a d : ℕ) (x : Deciding) → lookupOf p s d a ≡ By x → x .right ≡ 3
+    → fetchOf p s a d ≡ Pass
 unfolding fetchOf
-fetch-on-3 p s a d w n e = ap verdict e
+fetch-on-3 p s a d x e q = rw (e, q)
 
 module _ {t : ByteAddr} {k : CallStack} where
   -- A deny or a refusal leaves the current domain and the stack as they were.

@@ -3,3 +3,4 @@ pub mod Lists
 pub mod Gates
 pub mod Steps
 pub mod Moves
+pub mod Layout

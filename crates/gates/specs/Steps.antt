@@ -7,7 +7,7 @@ use lib.Dec.{eqb, ltb}
 use Rattle.words.specs.declared.ByteAddr.{ByteAddr}
 use Rattle.table.specs.declared.Shape.{Shape}
 use Rattle.table.specs.declared.Found.{Found}
-use Rattle.table.specs.declared.Found.the-variants.{Right, Refused as NotFound}
+use Rattle.table.specs.declared.Found.the-variants.{By, Refused as NotFound}
 use Rattle.table.specs.Shape.{fitsOf}
 use Rattle.table.specs.Lookup.{lookupOf}
 use Rattle.table.specs.Access.{passesOf, fetch}
@@ -90,7 +90,7 @@ stepRefusal n s G k a t =
 
 -- A fetch passes or is denied by the right found; a lookup that is refused refuses it.
 abbrev pub verdict : Found → Stepped
-verdict (Right r w n) = cond (passesOf fetch r) Pass Deny
+verdict (By x) = cond (passesOf fetch (x .right)) Pass Deny
 verdict (NotFound n) = Refused n
 
 -- The fetch of the word at the address `a`, checked in the domain `d` by a walk of the pool.

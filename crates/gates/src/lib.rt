@@ -1,10 +1,14 @@
-// Gates, the call stack and one fetch step: how a program passes from one domain into another and comes home.
+// Gates, the call stack and one fetch step: how a program passes from one domain into another and comes home. Gate set
+// and stack are worked on in the words that are lent for them.
+mod layout;
 mod places;
 mod steps;
 
 ghost use mathlib.Core.Path.{_≡_};
 ghost use Rattle.gates.specs.Gates.{noGates, setOf, removeOf};
 ghost use Rattle.gates.specs.Steps.{emptyStack, stepOf};
+ghost use Rattle.gates.specs.Layout.{IsGates, IsStack, gatesOf, gatesWords, stackOf, stackWords};
+ghost use Rattle.gates.specs.Layout.{SetAs, SteppedAs};
 use table::Shape;
 use words::ByteAddr;
 
@@ -12,6 +16,19 @@ use words::ByteAddr;
 pub const MAX_GATES: u32 = 64;
 
 pub const MAX_DEPTH: u32 = 16;
+
+// The words of a gate set: 64 gates of three, then the count.
+pub const GATES_WORDS: usize = 193;
+
+// The words of a call stack: 16 frames of two, then the depth, then the current domain.
+pub const STACK_WORDS: usize = 34;
+
+// Which word of a gate set is the count, and which of a stack the depth and the current domain.
+const COUNT: usize = 192;
+
+const DEPTH: usize = 32;
+
+const CURRENT: usize = 33;
 
 // What a gate does: it switches to a destination domain, or it returns.
 pub enum Gate {
@@ -26,13 +43,14 @@ pub struct GateAt {
     pub gate: Gate,
 }
 
-// A gate set. The gates held are the first `count`; a place past them keeps what it held and is never looked at.
+// What the words of a gate set say. The gates held are the first `count`; a place past them keeps what it held and is
+// never looked at.
 pub struct Gates {
     pub places: [GateAt; 64],
     pub count: u32,
 }
 
-// Setting or removing a gate: the number of the refusal, 0 for none, and the set afterwards.
+// Setting or removing a gate as contracts tell it: the number of the refusal, 0 for none, and the set afterwards.
 pub struct GatesSet {
     pub refusal: u32,
     pub gates: Gates,
@@ -50,8 +68,8 @@ pub struct Frame {
     pub back: ByteAddr,
 }
 
-// A call stack with the current domain. The frames in use are the first `depth`; a popped one keeps its words and is
-// never looked at.
+// What the words of a call stack say, with the current domain. The frames in use are the first `depth`; a popped one
+// keeps its words and is never looked at.
 pub struct CallStack {
     pub frames: [Frame; 16],
     pub depth: u32,
@@ -65,15 +83,16 @@ pub enum Stepped {
     Refused(u32),
 }
 
-// A step: its answer, and the stack afterwards.
+// A step as contracts tell it: its answer, and the stack afterwards.
 pub struct Step {
     pub answer: Stepped,
     pub stack: CallStack,
 }
 
-// A set that holds no gate.
-pub fn no_gates() -> Gates
-    ensures { λ r. ⌜ r ≡ noGates ⌝ }
+// A set that holds no gate, whatever its words were.
+pub fn no_gates(gates: &mut [u32])
+    requires { ⌜ IsGates (now gates) ⌝ }
+    ensures { λ _. ⌜ now (gates .exit) ≡ gatesWords noGates ⌝ }
 {
     let address = words::byte_addr(0);
     let gate = Gate::Return;
@@ -82,36 +101,43 @@ pub fn no_gates() -> Gates
         address,
         gate,
     };
-    let places = [idle; 64];
-    Gates { places, count: 0 }
+    let mut i: usize = 0;
+    while i < 64 {
+        layout::put_gate(gates, 3 * i, idle);
+        i += 1;
+    }
+    gates[COUNT] = 0;
 }
 
-// A stack with no frame, in a domain.
-pub fn call_stack(domain: u32) -> CallStack
-    ensures { λ r. ⌜ r ≡ emptyStack domain ⌝ }
+// A stack with no frame, in a domain, whatever its words were.
+pub fn call_stack(stack: &mut [u32], domain: u32)
+    requires { ⌜ IsStack (now stack) ⌝ }
+    ensures { λ _. ⌜ now (stack .exit) ≡ stackWords (emptyStack domain) ⌝ }
 {
     let back = words::byte_addr(0);
     let idle = Frame { domain: 0, back };
-    let frames = [idle; 16];
-    CallStack {
-        frames,
-        depth: 0,
-        current: domain,
+    let mut i: usize = 0;
+    while i < 16 {
+        layout::put_frame(stack, 2 * i, idle);
+        i += 1;
     }
+    stack[DEPTH] = 0;
+    stack[CURRENT] = domain;
 }
 
-// Sets a gate: in the place of the one that stands there, else last.
-pub fn set_gate(domains: u32, gates: Gates, domain: u32, address: ByteAddr, gate: Gate) -> GatesSet
-    ensures { λ r. ⌜ r ≡ setOf domains gates domain address gate ⌝ }
+// Sets a gate: in the place of the one that stands there, else last. One gate is stored, and the count.
+pub fn set_gate(domains: u32, gates: &mut [u32], domain: u32, address: ByteAddr, gate: Gate) -> u32
+    requires { ⌜ IsGates (now gates) ⌝ }
+    ensures { λ r. ⌜ SetAs (setOf domains (gatesOf (now (gates .entry))) domain address gate) r (now (gates .exit)) ⌝ }
 {
-    let count = gates.count;
+    let count = gates[COUNT];
     let refusal = places::place_refusal(domains, count, domain, gate, address);
     if refusal != 0 {
-        return GatesSet { refusal, gates };
+        return refusal;
     }
     let own = places::leads_to(gate, domain);
     if own {
-        return GatesSet { refusal: 14, gates };
+        return 14;
     }
     let place = places::place_of(gates, domain, address);
     let last = count as usize;
@@ -121,64 +147,57 @@ pub fn set_gate(domains: u32, gates: Gates, domain: u32, address: ByteAddr, gate
         gate,
     };
     if place < last {
-        let replaced = places::put_gate(gates, place, g, count);
-        return GatesSet {
-            refusal: 0,
-            gates: replaced,
-        };
+        places::store_gate(gates, place, g, count);
+        return 0;
     }
     if count == MAX_GATES {
-        return GatesSet { refusal: 12, gates };
+        return 12;
     }
-    let added = places::put_gate(gates, last, g, count + 1);
-    GatesSet {
-        refusal: 0,
-        gates: added,
-    }
+    places::store_gate(gates, last, g, count + 1);
+    0
 }
 
-// Removes the gate that stands there, the earlier of two.
-pub fn remove_gate(domains: u32, gates: Gates, domain: u32, address: ByteAddr) -> GatesSet
-    ensures { λ r. ⌜ r ≡ removeOf domains gates domain address ⌝ }
+// Removes the gate that stands there, the earlier of two. The later ones move down.
+pub fn remove_gate(domains: u32, gates: &mut [u32], domain: u32, address: ByteAddr) -> u32
+    requires { ⌜ IsGates (now gates) ⌝ }
+    ensures { λ r. ⌜ SetAs (removeOf domains (gatesOf (now (gates .entry))) domain address) r (now (gates .exit)) ⌝ }
 {
-    let count = gates.count;
+    let count = gates[COUNT];
     // A return gate has no destination that could be refused, and a removal names none.
     let no_destination = Gate::Return;
     let refusal = places::place_refusal(domains, count, domain, no_destination, address);
     if refusal != 0 {
-        return GatesSet { refusal, gates };
+        return refusal;
     }
     let place = places::place_of(gates, domain, address);
     let last = count as usize;
     if place < last {
-        let removed = places::close_up(gates, place);
-        return GatesSet {
-            refusal: 0,
-            gates: removed,
-        };
+        places::close_up(gates, place);
+        return 0;
     }
-    GatesSet { refusal: 13, gates }
+    13
 }
 
 // One fetch step: by a switch gate into its destination, by a return gate back to the caller, else within the current
-// domain.
+// domain. It stores a frame, the depth and the current domain where it calls, and the last two where it returns.
 pub fn fetch_step(
     pool: &[u32],
     shape: Shape,
-    gates: Gates,
-    stack: CallStack,
+    gates: &[u32],
+    stack: &mut [u32],
     address: ByteAddr,
     target: ByteAddr,
-) -> Step
-    ensures { λ r. ⌜ r ≡ stepOf (now (pool .entry)) shape gates stack address target ⌝ }
+) -> Stepped
+    requires { ⌜ IsGates (now gates) × IsStack (now stack) ⌝ }
+    ensures { λ r. ⌜ SteppedAs (stepOf (now (pool .entry)) shape (gatesOf (now (gates .entry)))
+        (stackOf (now (stack .entry))) address target) r (now (stack .exit)) ⌝ }
 {
     let long = pool.len();
     let refusal = steps::step_refusal(long, shape, gates, stack, address, target);
     if refusal != 0 {
-        let answer = Stepped::Refused(refusal);
-        return Step { answer, stack };
+        return Stepped::Refused(refusal);
     }
-    let current = stack.current;
+    let current = stack[CURRENT];
     let here = places::gate_here(gates, current, address);
     match here {
         Here::Nothing => steps::plain_step(pool, shape, stack, address),

@@ -1,13 +1,15 @@
 // The gates held: which one stands at a place, what setting and removing refuse, and the stores that they make.
 ghost use mathlib.Core.Path.{_≡_};
 ghost use Prim.Native.Nat.{_<_, _≤_};
-ghost use lib.ListN.{set};
-ghost use Rattle.gates.specs.Gates.{standsAt, placeOf, gateOf, leadsBelow, leadsTo, placeRefusal, without};
+ghost use Rattle.gates.specs.Gates.{standsAt, placeOf, gateOf, leadsBelow, leadsTo, placeRefusal};
+ghost use Rattle.gates.specs.Gates.{stored, without};
+ghost use Rattle.gates.specs.Layout.{IsGates, gatesOf, gatesWords};
+use crate::COUNT;
 use crate::Gate;
 use crate::GateAt;
-use crate::Gates;
 use crate::Here;
 use crate::MAX_GATES;
+use crate::layout;
 use words::ByteAddr;
 
 // Whether a switch leads below D; a return leads nowhere of its own.
@@ -76,15 +78,15 @@ fn stands_at(g: GateAt, domain: u32, address: ByteAddr) -> bool
 }
 
 // The place of the first gate that stands there, or the count. The earlier of two counts because the search goes up.
-pub(crate) fn place_of(gates: Gates, domain: u32, address: ByteAddr) -> usize
-    requires { ⌜ gates .count ≤ 64 ⌝ }
-    ensures { λ r. ⌜ r ≡ placeOf gates domain (address .0) ⌝ }
+pub(crate) fn place_of(ws: &[u32], domain: u32, address: ByteAddr) -> usize
+    requires { ⌜ IsGates (now ws) × (gatesOf (now ws) .count ≤ 64) ⌝ }
+    ensures { λ r. ⌜ r ≡ placeOf (gatesOf (now (ws .entry))) domain (address .0) ⌝ }
 {
-    let n = gates.count;
+    let n = ws[COUNT];
     let count = n as usize;
     let mut i: usize = 0;
     while i < count {
-        let g = gates.places[i];
+        let g = layout::gate_at(ws, 3 * i);
         let here = stands_at(g, domain, address);
         if here {
             return i;
@@ -94,15 +96,15 @@ pub(crate) fn place_of(gates: Gates, domain: u32, address: ByteAddr) -> usize
     count
 }
 
-pub(crate) fn gate_here(gates: Gates, domain: u32, address: ByteAddr) -> Here
-    requires { ⌜ gates .count ≤ 64 ⌝ }
-    ensures { λ r. ⌜ r ≡ gateOf gates domain (address .0) ⌝ }
+pub(crate) fn gate_here(ws: &[u32], domain: u32, address: ByteAddr) -> Here
+    requires { ⌜ IsGates (now ws) × (gatesOf (now ws) .count ≤ 64) ⌝ }
+    ensures { λ r. ⌜ r ≡ gateOf (gatesOf (now (ws .entry))) domain (address .0) ⌝ }
 {
-    let n = gates.count;
+    let n = ws[COUNT];
     let count = n as usize;
-    let place = place_of(gates, domain, address);
+    let place = place_of(ws, domain, address);
     if place < count {
-        let g = gates.places[place];
+        let g = layout::gate_at(ws, 3 * place);
         let gate = g.gate;
         return Here::Stands(gate);
     }
@@ -110,32 +112,27 @@ pub(crate) fn gate_here(gates: Gates, domain: u32, address: ByteAddr) -> Here
 }
 
 // One gate stored, and the count.
-pub(crate) fn put_gate(gates: Gates, place: usize, g: GateAt, count: u32) -> Gates
-    requires { ⌜ place < 64 ⌝ }
-    ensures { λ r. ⌜ r ≡ record { places = set (gates .places) place g; count = count } ⌝ }
+pub(crate) fn store_gate(ws: &mut [u32], place: usize, g: GateAt, count: u32)
+    requires { ⌜ IsGates (now ws) × (place < 64) ⌝ }
+    ensures { λ _. ⌜ now (ws .exit) ≡ gatesWords (stored (gatesOf (now (ws .entry))) place g count) ⌝ }
 {
-    let mut s = gates;
-    s.places[place] = g;
-    s.count = count;
-    s
+    layout::put_gate(ws, 3 * place, g);
+    ws[COUNT] = count;
 }
 
 // The later gates move down over a place; the place of the last keeps what it held.
-pub(crate) fn close_up(gates: Gates, place: usize) -> Gates
-    requires { ⌜ (place < gates .count) × (gates .count ≤ 64) ⌝ }
-    ensures { λ r. ⌜ r ≡ without gates place ⌝ }
+pub(crate) fn close_up(ws: &mut [u32], place: usize)
+    requires { ⌜ IsGates (now ws) × (place < gatesOf (now ws) .count) × (gatesOf (now ws) .count ≤ 64) ⌝ }
+    ensures { λ _. ⌜ now (ws .exit) ≡ gatesWords (without (gatesOf (now (ws .entry))) place) ⌝ }
 {
-    let n = gates.count;
+    let n = ws[COUNT];
     let left = n - 1;
     let last = left as usize;
-    let mut s = gates;
     let mut i = place;
     while i < last {
         let j = i + 1;
-        let next = s.places[j];
-        s.places[i] = next;
+        layout::move_gate(ws, 3 * i, 3 * j);
         i = j;
     }
-    s.count = left;
-    s
+    ws[COUNT] = left;
 }

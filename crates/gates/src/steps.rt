@@ -6,14 +6,16 @@ ghost use Rattle.gates.specs.Lists.{every};
 ghost use Rattle.gates.specs.Gates.{held};
 ghost use Rattle.gates.specs.Steps.{inUse, frameBelow, gateBelow, domainsKnown, stepRefusal, fetchOf, isPass};
 ghost use Rattle.gates.specs.Steps.{plainStep, switchStep, givenBack, returnStep};
-use crate::CallStack;
+ghost use Rattle.gates.specs.Layout.{IsGates, IsStack, gatesOf, stackOf, stackWords, SteppedAs};
+use crate::COUNT;
+use crate::CURRENT;
+use crate::DEPTH;
 use crate::Frame;
 use crate::GateAt;
-use crate::Gates;
 use crate::MAX_DEPTH;
 use crate::MAX_GATES;
-use crate::Step;
 use crate::Stepped;
+use crate::layout;
 use crate::places::leads_below;
 use table::Found;
 use table::Shape;
@@ -30,15 +32,15 @@ fn gate_below(g: GateAt, domains: u32) -> bool
     leads_below(gate, domains)
 }
 
-fn gates_below(gates: Gates, domains: u32) -> bool
-    requires { ⌜ gates .count ≤ 64 ⌝ }
-    ensures { λ r. ⌜ r ≡ every (gateBelow domains) (held gates) ⌝ }
+fn gates_below(ws: &[u32], domains: u32) -> bool
+    requires { ⌜ IsGates (now ws) × (gatesOf (now ws) .count ≤ 64) ⌝ }
+    ensures { λ r. ⌜ r ≡ every (gateBelow domains) (held (gatesOf (now (ws .entry)))) ⌝ }
 {
-    let n = gates.count;
+    let n = ws[COUNT];
     let count = n as usize;
     let mut i: usize = 0;
     while i < count {
-        let g = gates.places[i];
+        let g = layout::gate_at(ws, 3 * i);
         let known = gate_below(g, domains);
         if !known {
             return false;
@@ -48,15 +50,15 @@ fn gates_below(gates: Gates, domains: u32) -> bool
     true
 }
 
-fn frames_below(stack: CallStack, domains: u32) -> bool
-    requires { ⌜ stack .depth ≤ 16 ⌝ }
-    ensures { λ r. ⌜ r ≡ every (frameBelow domains) (inUse stack) ⌝ }
+fn frames_below(ws: &[u32], domains: u32) -> bool
+    requires { ⌜ IsStack (now ws) × (stackOf (now ws) .depth ≤ 16) ⌝ }
+    ensures { λ r. ⌜ r ≡ every (frameBelow domains) (inUse (stackOf (now (ws .entry)))) ⌝ }
 {
-    let n = stack.depth;
+    let n = ws[DEPTH];
     let depth = n as usize;
     let mut i: usize = 0;
     while i < depth {
-        let f = stack.frames[i];
+        let f = layout::frame_at(ws, 2 * i);
         let domain = f.domain;
         if domain >= domains {
             return false;
@@ -67,11 +69,12 @@ fn frames_below(stack: CallStack, domains: u32) -> bool
 }
 
 // Whether every domain that a step could enter is below D.
-fn domains_known(gates: Gates, stack: CallStack, domains: u32) -> bool
-    requires { ⌜ (gates .count ≤ 64) × (stack .depth ≤ 16) ⌝ }
-    ensures { λ r. ⌜ r ≡ domainsKnown gates stack domains ⌝ }
+fn domains_known(gates: &[u32], stack: &[u32], domains: u32) -> bool
+    requires { ⌜ IsGates (now gates) × (gatesOf (now gates) .count ≤ 64) ⌝ }
+    requires { ⌜ IsStack (now stack) × (stackOf (now stack) .depth ≤ 16) ⌝ }
+    ensures { λ r. ⌜ r ≡ domainsKnown (gatesOf (now (gates .entry))) (stackOf (now (stack .entry))) domains ⌝ }
 {
-    let current = stack.current;
+    let current = stack[CURRENT];
     if current >= domains {
         return false;
     }
@@ -86,22 +89,24 @@ fn domains_known(gates: Gates, stack: CallStack, domains: u32) -> bool
 pub(crate) fn step_refusal(
     long: usize,
     shape: Shape,
-    gates: Gates,
-    stack: CallStack,
+    gates: &[u32],
+    stack: &[u32],
     address: ByteAddr,
     target: ByteAddr,
 ) -> u32
-    ensures { λ r. ⌜ r ≡ stepRefusal long shape gates stack (address .0) (target .0) ⌝ }
+    requires { ⌜ IsGates (now gates) × IsStack (now stack) ⌝ }
+    ensures { λ r. ⌜ r ≡ stepRefusal long shape (gatesOf (now (gates .entry))) (stackOf (now (stack .entry)))
+        (address .0) (target .0) ⌝ }
 {
     let fits = table::shape_fits(shape, long);
     if !fits {
         return 1;
     }
-    let count = gates.count;
+    let count = gates[COUNT];
     if count > MAX_GATES {
         return 18;
     }
-    let depth = stack.depth;
+    let depth = stack[DEPTH];
     if depth > MAX_DEPTH {
         return 18;
     }
@@ -128,11 +133,8 @@ fn fetch(pool: &[u32], shape: Shape, domain: u32, address: ByteAddr) -> Stepped
     let found = table::lookup(pool, shape, domain, address);
     match found {
         Found::Refused(n) => Stepped::Refused(n),
-        Found::Right {
-            right,
-            entry: _,
-            loads: _,
-        } => {
+        Found::By(by) => {
+            let right = by.right;
             let good = table::passes(table::FETCH, right);
             if good {
                 return Stepped::Pass;
@@ -153,119 +155,99 @@ fn is_pass(answer: Stepped) -> bool
 }
 
 // A frame goes on the stack, and the destination becomes current.
-fn push(stack: CallStack, f: Frame, to: u32) -> CallStack
-    requires { ⌜ stack .depth < 16 ⌝ }
-    ensures { λ r. ⌜ r ≡ record {
-      frames = set (stack .frames) (stack .depth) f;
-      depth = stack .depth + 1;
-      current =
-          to;
-    } ⌝ }
+fn push(ws: &mut [u32], f: Frame, to: u32)
+    requires { ⌜ IsStack (now ws) × (stackOf (now ws) .depth < 16) ⌝ }
+    ensures { λ _. ⌜ now (ws .exit) ≡ stackWords (record {
+      frames = set (stackOf (now (ws .entry)) .frames) (stackOf (now (ws .entry)) .depth) f;
+      depth = stackOf (now (ws .entry)) .depth + 1;
+      current = to;
+    }) ⌝ }
 {
-    let depth = stack.depth;
+    let depth = ws[DEPTH];
     let at = depth as usize;
-    let mut s = stack;
-    s.frames[at] = f;
-    s.depth = depth + 1;
-    s.current = to;
-    s
+    layout::put_frame(ws, 2 * at, f);
+    ws[DEPTH] = depth + 1;
+    ws[CURRENT] = to;
 }
 
-pub(crate) fn plain_step(pool: &[u32], shape: Shape, stack: CallStack, address: ByteAddr) -> Step
-    ensures { λ r. ⌜ r ≡ plainStep (fetchOf (now (pool .entry)) shape (address .0)) stack ⌝ }
+pub(crate) fn plain_step(pool: &[u32], shape: Shape, stack: &[u32], address: ByteAddr) -> Stepped
+    requires { ⌜ IsStack (now stack) ⌝ }
+    ensures { λ r. ⌜ r ≡ plainStep (fetchOf (now (pool .entry)) shape (address .0)) (stackOf (now (stack .entry)))
+        .answer ⌝ }
 {
-    let current = stack.current;
-    let answer = fetch(pool, shape, current, address);
-    Step { answer, stack }
+    let current = stack[CURRENT];
+    fetch(pool, shape, current, address)
 }
 
 pub(crate) fn switch_step(
     pool: &[u32],
     shape: Shape,
-    stack: CallStack,
+    stack: &mut [u32],
     to: u32,
     address: ByteAddr,
     target: ByteAddr,
-) -> Step
-    ensures { λ r. ⌜ r ≡ switchStep (fetchOf (now (pool .entry)) shape (address .0)) stack to target ⌝ }
+) -> Stepped
+    requires { ⌜ IsStack (now stack) ⌝ }
+    ensures { λ r. ⌜ SteppedAs (switchStep (fetchOf (now (pool .entry)) shape (address .0))
+        (stackOf (now (stack .entry))) to target) r (now (stack .exit)) ⌝ }
 {
-    let caller = stack.current;
-    let depth = stack.depth;
+    let caller = stack[CURRENT];
+    let depth = stack[DEPTH];
     if depth >= MAX_DEPTH {
-        let full = Stepped::Refused(15);
-        return Step {
-            answer: full,
-            stack,
-        };
+        return Stepped::Refused(15);
     }
     let answer = fetch(pool, shape, to, address);
     let enters = is_pass(answer);
     if !enters {
-        return Step { answer, stack };
+        return answer;
     }
     let f = Frame {
         domain: caller,
         back: target,
     };
-    let entered = push(stack, f, to);
-    let pass = Stepped::Pass;
-    Step {
-        answer: pass,
-        stack: entered,
-    }
+    push(stack, f, to);
+    Stepped::Pass
 }
 
 // The top frame is popped where its return address is the target, and its domain becomes current.
-fn give_back(stack: CallStack, target: ByteAddr) -> Step
-    requires { ⌜ stack .depth ≤ 16 ⌝ }
-    ensures { λ r. ⌜ r ≡ givenBack stack target ⌝ }
+fn give_back(stack: &mut [u32], target: ByteAddr) -> Stepped
+    requires { ⌜ IsStack (now stack) × (stackOf (now stack) .depth ≤ 16) ⌝ }
+    ensures { λ r. ⌜ SteppedAs (givenBack (stackOf (now (stack .entry))) target) r (now (stack .exit)) ⌝ }
 {
-    let depth = stack.depth;
+    let depth = stack[DEPTH];
     if depth == 0 {
-        let empty = Stepped::Refused(16);
-        return Step {
-            answer: empty,
-            stack,
-        };
+        return Stepped::Refused(16);
     }
     let left = depth - 1;
     let at = left as usize;
-    let f = stack.frames[at];
+    let f = layout::frame_at(stack, 2 * at);
     let b = f.back;
     let back = words::addr_number(b);
     let asked = words::addr_number(target);
     if back != asked {
-        let differs = Stepped::Refused(17);
-        return Step {
-            answer: differs,
-            stack,
-        };
+        return Stepped::Refused(17);
     }
-    let mut s = stack;
-    s.depth = left;
-    s.current = f.domain;
-    let pass = Stepped::Pass;
-    Step {
-        answer: pass,
-        stack: s,
-    }
+    stack[DEPTH] = left;
+    stack[CURRENT] = f.domain;
+    Stepped::Pass
 }
 
 pub(crate) fn return_step(
     pool: &[u32],
     shape: Shape,
-    stack: CallStack,
+    stack: &mut [u32],
     address: ByteAddr,
     target: ByteAddr,
-) -> Step
-    requires { ⌜ stack .depth ≤ 16 ⌝ }
-    ensures { λ r. ⌜ r ≡ returnStep (fetchOf (now (pool .entry)) shape (address .0)) stack target ⌝ }
+) -> Stepped
+    requires { ⌜ IsStack (now stack) × (stackOf (now stack) .depth ≤ 16) ⌝ }
+    ensures { λ r. ⌜ SteppedAs (returnStep (fetchOf (now (pool .entry)) shape (address .0))
+        (stackOf (now (stack .entry))) target) r (now (stack .exit)) ⌝ }
 {
-    let current = stack.current;
+    let current = stack[CURRENT];
     let answer = fetch(pool, shape, current, address);
     let leaves = is_pass(answer);
     if !leaves {
-        return Step { answer, stack };
+        return answer;
     }
     give_back(stack, target)
 }

@@ -1,24 +1,21 @@
 -- Laws of the calls on lent states: a shape or a state of the wrong length, and all of their layouts'. Assumes nothing.
 use Prim.Native.Nat.{ℕ}
-use mathlib.Core.Path.{_≡_, sym}
+use mathlib.Core.Path.{_≡_}
 use mathlib.Core.List.{List, [], _∷_}
 use borrow.Author.Tests.{eq-eqb, ne-eqb}
-use lib.ListN.{length, getD}
+use lib.ListN.{length}
 use Rattle.lookaside.specs.declared.Buffer.{Buffer}
-use Rattle.lookaside.specs.declared.Checked.{Checked}
 use Rattle.lookaside.specs.declared.Flushed.{Flushed}
-use Rattle.lookaside.specs.declared.Decided.{Decided}
-use Rattle.lookaside.specs.Slots.{firstMatch}
-use Rattle.lookaside.specs.Check.{checkOf, decideOf, filledBy, numbers as verdictNumbers}
-use Rattle.lookaside.proofs.CheckLaws.{check-decided}
+use Rattle.lookaside.specs.declared.Verdict.{Verdict}
+use Rattle.lookaside.specs.Check.{checkOf, numbers as verdictNumbers}
+use Rattle.lookaside.specs.Layout.{bufferLong, bufferOf, CheckedAs, FlushedAs}
 use Rattle.gates.specs.declared.Gates.{Gates}
 use Rattle.gates.specs.declared.GatesSet.{GatesSet}
-use Rattle.gates.specs.declared.Step.{Step}
+use Rattle.gates.specs.declared.Stepped.{Stepped}
 use Rattle.gates.specs.Steps.{stepOf, numbers as stepNumbers}
+use Rattle.gates.specs.Layout.{gatesLong, gatesOf, stackLong, stackOf, SetAs, SteppedAs}
 use Rattle.goleuthan.specs.Out.{outWith, wrongLength}
 use Rattle.goleuthan.specs.Calls.{shapeLong, shapeIn}
-use Rattle.goleuthan.specs.States.{bufferLong, bufferOf, bufferWords, gatesLong, gatesOf, gatesWords}
-use Rattle.goleuthan.specs.States.{stackLong, stackOf, stackWords}
 use Rattle.goleuthan.specs.StateCalls.{stateAfter, back, verdictResults, checkCall, flushCall, gatesCall}
 use Rattle.goleuthan.specs.StateCalls.{stepResults, stepCall}
 
@@ -34,25 +31,13 @@ module _ (p sh ws : List ℕ) (d kind size a : ℕ) (out res : List ℕ) where
   check-no-buffer f h e = rw (e, eq-eqb (length sh) shapeLong f, ne-eqb (length ws) bufferLong h)
 
   -- By the check that was made and what was written of it.
-  pub check-made : length sh ≡ shapeLong → length ws ≡ bufferLong
-      → (c : Checked) → c ≡ checkOf p (shapeIn sh) (bufferOf ws) d kind size a
-      → (n : ℕ) (new : List ℕ)
-      → n ≡ verdictNumbers (c .verdict) .refusal → new ≡ bufferWords (c .buffer) → res
-      ≡ outWith (verdictResults (c .verdict)) out
+  pub check-made : length sh ≡ shapeLong → length ws ≡ bufferLong → (v : Verdict) (new : List ℕ)
+      → CheckedAs (checkOf p (shapeIn sh) (bufferOf ws) d kind size a) v new → (n : ℕ)
+      → n ≡ verdictNumbers v .refusal → res ≡ outWith (verdictResults v) out
       → back n new res ≡ checkCall p sh ws d kind size a out
   unfolding checkCall
-  check-made f h c e n new en ew er =
-      rw (en, ew, er, e, eq-eqb (length sh) shapeLong f, eq-eqb (length ws) bufferLong h)
-
-  -- The same by what the check decided of the words.
-  pub check-by : length sh ≡ shapeLong → length ws ≡ bufferLong → (x : Decided) → x ≡ decideOf p (shapeIn sh)
-      (getD ws 256 0) (firstMatch (bufferOf ws .slots) d a) d kind size a → (n : ℕ) (new : List ℕ)
-      → n ≡ verdictNumbers (x .verdict) .refusal → new ≡ bufferWords (filledBy (bufferOf ws) (x .fill)) → res
-      ≡ outWith (verdictResults (x .verdict)) out
-      → back n new res ≡ checkCall p sh ws d kind size a out
-  check-by f h x e n new en ew er =
-      check-made f h (record { verdict = x .verdict; buffer = filledBy (bufferOf ws) (x .fill) })
-      (rw e (sym (check-decided p (shapeIn sh) (bufferOf ws) d kind size a))) n new en ew er
+  check-made f h v new (ev, ew) n en er =
+      rw (en, er, ew, ev, eq-eqb (length sh) shapeLong f, eq-eqb (length ws) bufferLong h)
 
 module _ (f : Buffer → Flushed) (ws : List ℕ) where
   pub flush-wrong : (length ws ≡ bufferLong → ⊥) → stateAfter wrongLength ws ≡ flushCall f ws
@@ -60,11 +45,10 @@ module _ (f : Buffer → Flushed) (ws : List ℕ) where
   flush-wrong h = rw (ne-eqb (length ws) bufferLong h)
 
   -- By the flush that was made.
-  pub flush-made : length ws ≡ bufferLong → (r : Flushed) → r ≡ f (bufferOf ws) → (new : List ℕ) → new
-      ≡ bufferWords (r .buffer)
-      → stateAfter (r .refusal) new ≡ flushCall f ws
+  pub flush-made : length ws ≡ bufferLong → (n : ℕ) (new : List ℕ) → FlushedAs (f (bufferOf ws)) n new
+      → stateAfter n new ≡ flushCall f ws
   unfolding flushCall
-  flush-made h r e new ew = rw (ew, e, eq-eqb (length ws) bufferLong h)
+  flush-made h n new (en, ew) = rw (en, ew, eq-eqb (length ws) bufferLong h)
 
 module _ (f : Gates → GatesSet) (ws : List ℕ) where
   pub gates-wrong : (length ws ≡ gatesLong → ⊥) → stateAfter wrongLength ws ≡ gatesCall f ws
@@ -72,11 +56,10 @@ module _ (f : Gates → GatesSet) (ws : List ℕ) where
   gates-wrong h = rw (ne-eqb (length ws) gatesLong h)
 
   -- By the setting or removal that was made.
-  pub gates-made : length ws ≡ gatesLong → (r : GatesSet) → r ≡ f (gatesOf ws) → (new : List ℕ) → new
-      ≡ gatesWords (r .gates)
-      → stateAfter (r .refusal) new ≡ gatesCall f ws
+  pub gates-made : length ws ≡ gatesLong → (n : ℕ) (new : List ℕ) → SetAs (f (gatesOf ws)) n new
+      → stateAfter n new ≡ gatesCall f ws
   unfolding gatesCall
-  gates-made h r e new ew = rw (ew, e, eq-eqb (length ws) gatesLong h)
+  gates-made h n new (en, ew) = rw (en, ew, eq-eqb (length ws) gatesLong h)
 
 module _ (p sh gs ws : List ℕ) (a t : ℕ) (out res : List ℕ) where
   pub step-no-shape : (length sh ≡ shapeLong → ⊥) → res ≡ outWith (0 ∷ []) out → back wrongLength ws res
@@ -97,10 +80,10 @@ module _ (p sh gs ws : List ℕ) (a t : ℕ) (out res : List ℕ) where
 
   -- By the step that was made and what was written of it.
   pub step-made : length sh ≡ shapeLong → length gs ≡ gatesLong → length ws ≡ stackLong
-      → (r : Step) → r ≡ stepOf p (shapeIn sh) (gatesOf gs) (stackOf ws) (record { 0 = a }) (record { 0 = t })
-      → (n : ℕ) (new : List ℕ)
-      → n ≡ stepNumbers (r .answer) .refusal → new ≡ stackWords (r .stack) → res ≡ outWith (stepResults (r .answer)) out
+      → (r : Stepped) (new : List ℕ)
+      → SteppedAs (stepOf p (shapeIn sh) (gatesOf gs) (stackOf ws) (record { 0 = a }) (record { 0 = t })) r new
+      → (n : ℕ) → n ≡ stepNumbers r .refusal → res ≡ outWith (stepResults r) out
       → back n new res ≡ stepCall p sh gs ws a t out
   unfolding stepCall
-  step-made f g h r e n new en ew er =
-      rw (en, ew, er, e, eq-eqb (length sh) shapeLong f, eq-eqb (length gs) gatesLong g, eq-eqb (length ws) stackLong h)
+  step-made f g h r new (ea, ew) n en er =
+      rw (en, er, ew, ea, eq-eqb (length sh) shapeLong f, eq-eqb (length gs) gatesLong g, eq-eqb (length ws) stackLong h)

@@ -7,10 +7,11 @@ use lib.ListN.{replicate}
 use Rattle.lookaside.specs.Slots.{emptyBuffer}
 use Rattle.gates.specs.Gates.{held}
 use Rattle.gates.specs.Steps.{emptyStack}
-use Rattle.goleuthan.specs.Rows.{rowsOf}
+use Rattle.rows.specs.Rows.{rowsOf}
 use Rattle.goleuthan.specs.Out.{outWith}
 use Rattle.goleuthan.specs.Calls.{shapeIn}
-use Rattle.goleuthan.specs.States.{bufferOf, gatesOf, stackOf}
+use Rattle.lookaside.specs.Layout.{bufferOf}
+use Rattle.gates.specs.Layout.{gatesOf, stackOf}
 
 -- All words 0 is an empty buffer.
 zero-buffer : bufferOf (replicate 257 0) ≡ emptyBuffer

@@ -20,10 +20,9 @@ use Rattle.gates.specs.Gates.{maxGates, noGate, placeOf, leadsBelow, leadsTo, p
 use Rattle.gates.specs.Gates.{stored, setAtPlace, setOf, without, removeOf}
 use Rattle.theory.proofs.Logic.{and-both}
 use Rattle.gates.proofs.ListLaws.{none-refuses}
-use Rattle.goleuthan.specs.Rows.{rowsOf}
-use Rattle.goleuthan.specs.States.{returnWord, gateIn, gateAt, gatesOf, gatesWords}
-use Rattle.goleuthan.proofs.RowLaws.{length-rows}
-use Rattle.goleuthan.proofs.StateLaws.{gates-again}
+use Rattle.rows.specs.Rows.{rowsOf}
+use Rattle.gates.specs.Layout.{returnWord, gateSaid, gateAt, gatesOf, gatesWords}
+use Rattle.gates.proofs.LayoutLaws.{gates-said, gates-again}
 
 -- Every element of a list is as `P` says.
 module _ {A : Type 0} (P : A → Type 0) where
@@ -70,7 +69,7 @@ RealAt g = Real (g .gate)
 return-real : Real Return
 return-real e = let z : _≡_ {A = ℕ} 0 1 = cc in omega arith
 
-gate-real : (w : ℕ) → Real (gateIn w)
+gate-real : (w : ℕ) → Real (gateSaid w)
 gate-real w = go (eqb w returnWord) refl
   where
     go : (t : Bool) → eqb w returnWord ≡ t → Real (cond t Return (Switch w))
@@ -87,7 +86,7 @@ words-say G h = gates-again G (h .long) (λ i l. all-at RealAt (G .places) noGat
 
 pub read-words : (ws : List ℕ) → HasWords (gatesOf ws)
 read-words ws = record {
-  long = length-rows 64 (λ i. gateAt ws (3 * i));
+  long = gates-said ws;
   real = all-rows RealAt (λ i. gateAt ws (3 * i)) (λ i. gate-real (getD ws (3 * i + 2) 0)) 64;
 }
 

@@ -1,8 +1,5 @@
 -- The laws of result words, of lent shapes and of the states' words, and that each call has one outcome.
 pub mod OutLaws
-pub mod RowLaws
-pub mod StateLaws
-pub mod FillLaws
 pub mod CallLaws
 pub mod UniqueLaws
 pub mod ShapeLaws

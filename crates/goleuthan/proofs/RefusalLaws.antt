@@ -9,7 +9,7 @@ use Rattle.plan.specs.Aims.{Aim}
 use Rattle.table.specs.declared.Shape.{Shape}
 use Rattle.table.specs.declared.Made.the-variants.{Done as Fresh, Refused as NotFresh}
 use Rattle.table.specs.declared.Found.{Found}
-use Rattle.table.specs.declared.Found.the-variants.{Right, Refused as NotFound}
+use Rattle.table.specs.declared.Found.the-variants.{By, Refused as NotFound}
 use Rattle.table.specs.Shape.{fitsOf}
 use Rattle.table.specs.Fresh.{freshPool, madeNumber}
 use Rattle.table.specs.Lookup.{numbers as foundNumbers}
@@ -34,7 +34,7 @@ fresh-refused {p} {sh} (shaped l made q x) h = go (fitsOf (shapeIn sh) (length p
 
 -- A lookup.
 found-zeros : (f : Found) → foundNumbers f .refusal ≢ 0 → foundResults f ≡ 0 ∷ 0 ∷ 0 ∷ []
-found-zeros (Right r w k) real = absurd (real refl)
+found-zeros (By x) real = absurd (real refl)
 found-zeros (NotFound k) real = refl
 
 pub lookup-refused : {p sh : List ℕ} {d a n : ℕ} {out res : List ℕ} → LookupCall p sh d a out n res → n ≢ 0

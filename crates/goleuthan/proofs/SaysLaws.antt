@@ -1,6 +1,6 @@
 -- A series of calls on one state is the library's series: the words that a call leaves say the state that the
 -- library's call leaves. Assumes nothing.
-use Prim.Native.Nat.{ℕ, _*_}
+use Prim.Native.Nat.{ℕ}
 use mathlib.Core.Path.{_≡_, refl, _∙_, ap}
 use mathlib.Core.Bool.{Bool, true, false, cond}
 use mathlib.Core.List.{List}
@@ -23,20 +23,14 @@ use Rattle.gates.specs.declared.Step.{Step}
 use Rattle.gates.specs.Moves.{Moves, stays, calls, returns}
 use Rattle.gates.specs.Steps.{stepOf}
 use Rattle.gates.proofs.StepLaws.{step-moves}
-use Rattle.goleuthan.specs.States.{slotAt, bufferOf, bufferWords, frameAt, stackOf, stackWords}
-use Rattle.goleuthan.proofs.RowLaws.{length-rows}
-use Rattle.goleuthan.proofs.StateLaws.{buffer-again, stack-again}
+use Rattle.lookaside.specs.Layout.{bufferOf, bufferWords}
+use Rattle.lookaside.proofs.LayoutLaws.{slots-said, buffer-again}
+use Rattle.gates.specs.Layout.{stackOf, stackWords}
+use Rattle.gates.proofs.LayoutLaws.{frames-said, stack-again}
 use Rattle.lookaside.specs.declared.Fill.{Fill}
 use Rattle.lookaside.specs.declared.Fill.the-variants.{Keep, Put}
 use Rattle.lookaside.specs.Slots.{firstMatch}
 use Rattle.lookaside.proofs.CheckLaws.{check-decided}
-
--- A buffer that words say has 64 slots, and a stack 16 frames.
-slots-said : (ws : List ℕ) → length (bufferOf ws .slots) ≡ 64
-slots-said ws = length-rows 64 (λ i. slotAt ws (4 * i))
-
-frames-said : (ws : List ℕ) → length (stackOf ws .frames) ≡ 16
-frames-said ws = length-rows 16 (λ i. frameAt ws (2 * i))
 
 -- A check keeps the number of slots.
 after-slots : (b : Buffer) (x : Fill) → length (filledBy b x .slots) ≡ length (b .slots)

@@ -18,7 +18,8 @@ use Rattle.listing.specs.declared.Listed.the-variants.{Refused as NotListed}
 use Rattle.listing.specs.Listing.{no-shape as list-no-shape}
 use Rattle.lookaside.specs.Check.{refusalOf, checkOf}
 use Rattle.gates.specs.Steps.{stepRefusal, stepOf}
-use Rattle.goleuthan.specs.States.{bufferLong, gatesLong, stackLong}
+use Rattle.lookaside.specs.Layout.{bufferLong}
+use Rattle.gates.specs.Layout.{gatesLong, stackLong}
 use Rattle.goleuthan.specs.Calls.{shapeLong, eights, shapeIn, FreshCall, LookupCall, ChangeCall, TidyCall}
 use Rattle.goleuthan.specs.Calls.{ListCall, wrong-length, shaped}
 use Rattle.goleuthan.specs.StateCalls.{checkCall, stepCall}

@@ -12,7 +12,7 @@ use lib.ListN.{length}
 use Rattle.words.specs.declared.ByteAddr.{ByteAddr}
 use Rattle.table.specs.declared.Shape.{Shape}
 use Rattle.table.specs.declared.Found.{Found}
-use Rattle.table.specs.declared.Found.the-variants.{Right, Refused as NotFound}
+use Rattle.table.specs.declared.Found.the-variants.{By, Refused as NotFound}
 use Rattle.table.specs.Access.{passesOf}
 use Rattle.table.specs.Lookup.{lookupOf}
 use Rattle.lookaside.specs.declared.Buffer.{Buffer}
@@ -38,12 +38,13 @@ use Rattle.gates.proofs.SetLaws.{set-refusal-keeps, remove-refusal-keeps}
 use Rattle.gates.proofs.StepLaws.{step-moves, moves-unless-pass}
 use Rattle.goleuthan.specs.Out.{outWith, wrongLength}
 use Rattle.goleuthan.specs.Calls.{shapeLong, shapeIn}
-use Rattle.goleuthan.specs.States.{bufferLong, bufferOf, bufferWords, gatesLong, gatesOf, gatesWords}
-use Rattle.goleuthan.specs.States.{stackLong, stackOf, stackWords}
 use Rattle.goleuthan.specs.StateCalls.{stateAfter, Back, back, verdictResults, checkedBack, checkCall}
 use Rattle.goleuthan.specs.StateCalls.{flushedKept, flushCall, gatesKept, gatesCall, stepResults, steppedBack}
 use Rattle.goleuthan.specs.StateCalls.{stepCall}
-use Rattle.goleuthan.proofs.StateLaws.{buffer-words, gates-words, stack-words}
+use Rattle.lookaside.specs.Layout.{bufferLong, bufferOf, bufferWords}
+use Rattle.lookaside.proofs.LayoutLaws.{buffer-words}
+use Rattle.gates.specs.Layout.{gatesLong, gatesOf, gatesWords, stackLong, stackOf, stackWords}
+use Rattle.gates.proofs.LayoutLaws.{gates-words, stack-words}
 use Rattle.goleuthan.proofs.SaysLaws.{Flushes, refuses, empties}
 
 -- A check that is refused keeps the buffer.
@@ -52,9 +53,9 @@ module _ (p : List ℕ) (s : Shape) (b : Buffer) (d kind size a : ℕ) where
   Keeps c = verdictNumbers (c .verdict) .refusal ≢ 0 → c .buffer ≡ b
 
   walk-keeps : (f : Found) → Keeps (walked f b d kind a)
-  walk-keeps (Right r w n) h = absurd (go (passesOf kind r) h)
+  walk-keeps (By x) h = absurd (go (passesOf kind (x .right)) h)
     where
-      go : (t : Bool) → verdictNumbers (cond t (Pass n) (Deny n)) .refusal ≢ 0 → ⊥
+      go : (t : Bool) → verdictNumbers (cond t (Pass (x .loads)) (Deny (x .loads))) .refusal ≢ 0 → ⊥
       go true k = k refl
       go false k = k refl
   walk-keeps (NotFound n) h = refl

@@ -11,6 +11,7 @@ use Rattle.lookaside.specs.declared.Flushed.{Flushed}
 use Rattle.lookaside.specs.declared.Verdict.{Verdict}
 use Rattle.lookaside.specs.Check.{checkOf, numbers as verdictNumbers}
 use Rattle.lookaside.specs.Flushes.{flushedWhole, flushedDomain, flushedRegion}
+use Rattle.lookaside.specs.Layout.{bufferLong, bufferOf, bufferWords}
 use Rattle.gates.specs.declared.Gates.{Gates}
 use Rattle.gates.specs.declared.Gate.the-variants.{Switch, Return}
 use Rattle.gates.specs.declared.GatesSet.{GatesSet}
@@ -18,10 +19,9 @@ use Rattle.gates.specs.declared.Step.{Step}
 use Rattle.gates.specs.declared.Stepped.{Stepped}
 use Rattle.gates.specs.Gates.{setOf, removeOf}
 use Rattle.gates.specs.Steps.{stepOf, numbers as stepNumbers}
+use Rattle.gates.specs.Layout.{gatesLong, gatesOf, gatesWords, stackLong, stackOf, stackWords}
 use Rattle.goleuthan.specs.Out.{outWith, wrongLength}
 use Rattle.goleuthan.specs.Calls.{shapeLong, shapeIn}
-use Rattle.goleuthan.specs.States.{bufferLong, gatesLong, stackLong, bufferOf, bufferWords, gatesOf}
-use Rattle.goleuthan.specs.States.{gatesWords, stackOf, stackWords}
 
 -- What a call on a state leaves: the number, and the words of the state.
 pub record StateAfter : Type 0 where

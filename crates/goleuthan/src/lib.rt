@@ -2,7 +2,6 @@
 // words. Results go into the lent words `out`, as many as fit; include/goleuthan.h says what a caller owes and gets.
 mod results;
 mod shapes;
-mod states;
 
 ghost use mathlib.Core.Path.{_≡_};
 ghost use Rattle.goleuthan.specs.StateCalls.{back, stateAfter, checkCall, flushAllCall, flushDomainCall};
@@ -131,18 +130,13 @@ pub extern "C" fn gol_check(
         results::two(out, 0, 0);
         return WRONG_LENGTH;
     }
-    if buffer.len() != states::BUFFER_WORDS {
+    if buffer.len() != lookaside::BUFFER_WORDS {
         results::two(out, 0, 0);
         return WRONG_LENGTH;
     }
     let by = shapes::read_shape(shape);
     let at = words::byte_addr(address);
-    let next = buffer[256];
-    let hit = states::find_slot(buffer, domain, at);
-    let decided = lookaside::decide(pool, by, next, hit, domain, kind, size, at);
-    let todo = decided.fill;
-    states::fill_words(buffer, todo);
-    let verdict = decided.verdict;
+    let verdict = lookaside::check(pool, by, buffer, domain, kind, size, at);
     results::give_verdict(verdict, out)
 }
 
@@ -151,14 +145,10 @@ pub extern "C" fn gol_check(
 pub extern "C" fn gol_flush_all(buffer: &mut [u32]) -> u32
     ensures { λ r. ⌜ stateAfter r (now (buffer .exit)) ≡ flushAllCall (now (buffer .entry)) ⌝ }
 {
-    if buffer.len() != states::BUFFER_WORDS {
+    if buffer.len() != lookaside::BUFFER_WORDS {
         return WRONG_LENGTH;
     }
-    let held = states::read_buffer(buffer);
-    let flushed = lookaside::flush_all(held);
-    let after = flushed.buffer;
-    states::write_buffer(buffer, after);
-    flushed.refusal
+    lookaside::flush_all(buffer)
 }
 
 // Empties the slots of a domain.
@@ -166,14 +156,10 @@ pub extern "C" fn gol_flush_all(buffer: &mut [u32]) -> u32
 pub extern "C" fn gol_flush_domain(buffer: &mut [u32], domain: u32) -> u32
     ensures { λ r. ⌜ stateAfter r (now (buffer .exit)) ≡ flushDomainCall (now (buffer .entry)) domain ⌝ }
 {
-    if buffer.len() != states::BUFFER_WORDS {
+    if buffer.len() != lookaside::BUFFER_WORDS {
         return WRONG_LENGTH;
     }
-    let held = states::read_buffer(buffer);
-    let flushed = lookaside::flush_domain(held, domain);
-    let after = flushed.buffer;
-    states::write_buffer(buffer, after);
-    flushed.refusal
+    lookaside::flush_domain(buffer, domain)
 }
 
 // Empties the slots of a domain whose block meets a region.
@@ -181,15 +167,11 @@ pub extern "C" fn gol_flush_domain(buffer: &mut [u32], domain: u32) -> u32
 pub extern "C" fn gol_flush_region(buffer: &mut [u32], domain: u32, start: u32, length: u32) -> u32
     ensures { λ r. ⌜ stateAfter r (now (buffer .exit)) ≡ flushRegionCall (now (buffer .entry)) domain start length ⌝ }
 {
-    if buffer.len() != states::BUFFER_WORDS {
+    if buffer.len() != lookaside::BUFFER_WORDS {
         return WRONG_LENGTH;
     }
-    let held = states::read_buffer(buffer);
     let first = words::byte_addr(start);
-    let flushed = lookaside::flush_region(held, domain, first, length);
-    let after = flushed.buffer;
-    states::write_buffer(buffer, after);
-    flushed.refusal
+    lookaside::flush_region(buffer, domain, first, length)
 }
 
 // Sets a switch gate.
@@ -204,16 +186,12 @@ pub extern "C" fn gol_set_switch_gate(
     ensures { λ r. ⌜ stateAfter r (now (gates .exit)) ≡ setSwitchCall d (now (gates .entry)) domain address
         destination ⌝ }
 {
-    if gates.len() != states::GATES_WORDS {
+    if gates.len() != gates::GATES_WORDS {
         return WRONG_LENGTH;
     }
-    let set = states::read_gates(gates);
     let at = words::byte_addr(address);
     let gate = Gate::Switch(destination);
-    let done = gates::set_gate(d, set, domain, at, gate);
-    let after = done.gates;
-    states::write_gates(gates, after);
-    done.refusal
+    gates::set_gate(d, gates, domain, at, gate)
 }
 
 // Sets a return gate.
@@ -221,16 +199,12 @@ pub extern "C" fn gol_set_switch_gate(
 pub extern "C" fn gol_set_return_gate(d: u32, gates: &mut [u32], domain: u32, address: u32) -> u32
     ensures { λ r. ⌜ stateAfter r (now (gates .exit)) ≡ setReturnCall d (now (gates .entry)) domain address ⌝ }
 {
-    if gates.len() != states::GATES_WORDS {
+    if gates.len() != gates::GATES_WORDS {
         return WRONG_LENGTH;
     }
-    let set = states::read_gates(gates);
     let at = words::byte_addr(address);
     let gate = Gate::Return;
-    let done = gates::set_gate(d, set, domain, at, gate);
-    let after = done.gates;
-    states::write_gates(gates, after);
-    done.refusal
+    gates::set_gate(d, gates, domain, at, gate)
 }
 
 // Removes a gate.
@@ -238,15 +212,11 @@ pub extern "C" fn gol_set_return_gate(d: u32, gates: &mut [u32], domain: u32, ad
 pub extern "C" fn gol_remove_gate(d: u32, gates: &mut [u32], domain: u32, address: u32) -> u32
     ensures { λ r. ⌜ stateAfter r (now (gates .exit)) ≡ removeCall d (now (gates .entry)) domain address ⌝ }
 {
-    if gates.len() != states::GATES_WORDS {
+    if gates.len() != gates::GATES_WORDS {
         return WRONG_LENGTH;
     }
-    let set = states::read_gates(gates);
     let at = words::byte_addr(address);
-    let done = gates::remove_gate(d, set, domain, at);
-    let after = done.gates;
-    states::write_gates(gates, after);
-    done.refusal
+    gates::remove_gate(d, gates, domain, at)
 }
 
 // One fetch step, by the gates and the call stack.
@@ -267,22 +237,17 @@ pub extern "C" fn gol_step(
         results::one(out, 0);
         return WRONG_LENGTH;
     }
-    if gates.len() != states::GATES_WORDS {
+    if gates.len() != gates::GATES_WORDS {
         results::one(out, 0);
         return WRONG_LENGTH;
     }
-    if stack.len() != states::STACK_WORDS {
+    if stack.len() != gates::STACK_WORDS {
         results::one(out, 0);
         return WRONG_LENGTH;
     }
     let by = shapes::read_shape(shape);
     let at = words::byte_addr(address);
     let to = words::byte_addr(target);
-    let set = states::read_gates(gates);
-    let calls = states::read_stack(stack);
-    let step = gates::fetch_step(pool, by, set, calls, at, to);
-    let after = step.stack;
-    states::write_stack(stack, after);
-    let answer = step.answer;
+    let answer = gates::fetch_step(pool, by, gates, stack, at, to);
     results::give_step(answer, out)
 }

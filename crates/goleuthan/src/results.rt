@@ -76,11 +76,10 @@ pub fn give_found(found: Found, out: &mut [u32]) -> u32
         × (now (out .exit) ≡ outWith (foundResults found) (now (out .entry))) ⌝ }
 {
     match found {
-        Found::Right {
-            right,
-            entry,
-            loads,
-        } => {
+        Found::By(by) => {
+            let right = by.right;
+            let entry = by.entry;
+            let loads = by.loads;
             three(out, right, entry, loads);
             0
         }

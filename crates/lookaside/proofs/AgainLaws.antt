@@ -11,7 +11,8 @@ use borrow.Author.Tests.{eq-eqb}
 use Rattle.theory.specs.Pool.{words, entry}
 use Rattle.theory.proofs.WalkLaws.{decides-low, decides-says}
 use Rattle.table.specs.declared.Shape.{Shape}
-use Rattle.table.specs.declared.Found.the-variants.{Right, Refused as NotFound}
+use Rattle.table.specs.declared.Deciding.{Deciding}
+use Rattle.table.specs.declared.Found.the-variants.{By, Refused as NotFound}
 use Rattle.table.specs.Map.{formOf}
 use Rattle.table.specs.Lookup.{lookupOf}
 use Rattle.table.proofs.LookupLaws.{right-found, right-loads}
@@ -33,13 +34,15 @@ good-entry s (suc zero) w l g n = rw n at g
 good-entry s (suc (suc zero)) w l g n = rw n at g
 good-entry s (suc (suc (suc h))) w l g n = absurd (omega arith)
 
-filling-matches : (p : List ℕ) (s : Shape) (d a r w n : ℕ) → lookupOf p s d a ≡ Right r w n
-    → matches (slotFor d a w n) d a ≡ true
-filling-matches p s d a r w n e =
-    let (h, k, z, _, q, o) = right-found p s d a r w n e in
+filling-matches : (p : List ℕ) (s : Shape) (d a : ℕ) (x : Deciding) → lookupOf p s d a ≡ By x
+    → matches (slotFor d a (x .entry) (x .loads)) d a ≡ true
+filling-matches p s d a x e =
+    let w = x .entry in
+    let n = x .loads in
+    let (h, k, z, _, q, o) = right-found p s d a x e in
     let hi = decides-low (formOf s) (words p) a (λ v. refl) 2 (entry (formOf s) d a) z in
     let y = decides-says (formOf s) (λ v. refl) (words p) d a z in
-    let (lo, up) = right-loads p s d a r w n e in
+    let (lo, up) = right-loads p s d a x e in
     let g : goodEntry n w ≡ true =
     ap (λ m. goodEntry m w) o ∙ ap (λ v. goodEntry (3 - h) v) q ∙ good-entry s h (words p k) hi (y .good) (y .rights) in
     rw (match-test (slotFor d a w n) d a refl (range-level n lo up), eq-eqb _ _ refl, g)
@@ -69,7 +72,8 @@ check-again p s b d kind size a l e sound = rw (check-answered p s b d kind size
         × (firstMatch (answered h p s b d kind a .buffer .slots) d a ≡ At t)
     go (At t) h = (t, h)
     go Miss h = ⊎-elim (λ k. absurd (sound k))
-        (λ k. let (r, w, n, q) = k in
-        let (t, u) = first-set (b .slots) (b .next) d a (slotFor d a w n) l (filling-matches p s d a r w n q) in
+        (λ k. let (x, q) = k in
+        let (t, u) = first-set (b .slots) (b .next) d a (slotFor d a (x .entry) (x .loads)) l
+        (filling-matches p s d a x q) in
         (t, ap (λ f. firstMatch (walked f b d kind a .buffer .slots) d a) q ∙ u))
         (lookup-cases p s d a (ok .fits) (ok .domain))

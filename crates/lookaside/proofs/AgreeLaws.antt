@@ -13,8 +13,9 @@ use Rattle.words.specs.declared.Region.{Region}
 use Rattle.words.specs.Region.{covered}
 use Rattle.theory.specs.Settled.{Together}
 use Rattle.table.specs.declared.Shape.{Shape}
+use Rattle.table.specs.declared.Deciding.{Deciding}
 use Rattle.table.specs.declared.Found.{Found}
-use Rattle.table.specs.declared.Found.the-variants.{Right, Refused as NotFound}
+use Rattle.table.specs.declared.Found.the-variants.{By, Refused as NotFound}
 use Rattle.table.specs.Map.{addresses, block, size, formOf}
 use Rattle.table.specs.Lookup.{lookupOf}
 use Rattle.table.proofs.LookupLaws.{right-block}
@@ -141,20 +142,21 @@ pub block-together : (s : Shape) (h a c : ℕ) → a / block h ≡ c / block h �
 block-together s h a c e i lo hi =
     ap (λ q. q % size i) (block-count h i a lo ∙ ap (λ q. q / (block i / block h)) e ∙ sym (block-count h i c lo))
 
-filling-agrees : (p : List ℕ) (s : Shape) (d a r w n : ℕ) (x : Places) → lookupOf p s d a ≡ Right r w n
-    → SlotAgrees (s .domains) (rightsOf s p) x (slotFor d a w n)
-filling-agrees p s d a r w n x e f c hf hc z m =
-    let g = match-is (slotFor d a w n) f c m in
+filling-agrees : (p : List ℕ) (s : Shape) (d a : ℕ) (y : Deciding) (x : Places) → lookupOf p s d a ≡ By y
+    → SlotAgrees (s .domains) (rightsOf s p) x (slotFor d a (y .entry) (y .loads))
+filling-agrees p s d a y x e f c hf hc z m =
+    let n = y .loads in
+    let g = match-is (slotFor d a (y .entry) n) f c m in
     let q : a / blockBytes n ≡ c / blockBytes n = sym
     (round-count (blockBytes n) (a / blockBytes n) c (g .from) (g .to)) in
-    sym (right-block p s d a r w n e c hc (block-together s (heightOf n) a c q)) ∙ ap (λ y. rightsOf s p y c)
+    sym (right-block p s d a y e c hc (block-together s (heightOf n) a c q)) ∙ ap (λ v. rightsOf s p v c)
     (g .domain)
 
 walked-agrees : (p : List ℕ) (s : Shape) (x : Places) (b : Buffer) (d kind a : ℕ) (f : Found) → lookupOf p s d a ≡ f
     → AgreesBut (s .domains) (rightsOf s p) x b → AgreesBut (s .domains) (rightsOf s p) x (walked f b d kind a .buffer)
-walked-agrees p s x b d kind a (Right r w n) e g =
-    each-set (SlotAgrees (s .domains) (rightsOf s p) x) (b .slots) (b .next) (slotFor d a w n) g
-    (filling-agrees p s d a r w n x e)
+walked-agrees p s x b d kind a (By y) e g =
+    each-set (SlotAgrees (s .domains) (rightsOf s p) x) (b .slots) (b .next)
+    (slotFor d a (y .entry) (y .loads)) g (filling-agrees p s d a y x e)
 walked-agrees p s x b d kind a (NotFound n) e g = g
 
 answered-agrees : (p : List ℕ) (s : Shape) (x : Places) (b : Buffer) (d kind a : ℕ) (h : Hit)

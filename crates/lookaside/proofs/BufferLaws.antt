@@ -6,7 +6,7 @@ use mathlib.Core.List.{List, [], _∷_, map}
 use native.Mathlib.Nat.{not-suc-le-zero, le-of-suc-le-suc}
 use native.Mathlib.Numerals.{add-one}
 use native.Mathlib.Omega.{arith}
-use lib.ListN.{length, getD, drop, set, drop-of-length-le, length-map}
+use lib.ListN.{length, getD, drop, set, drop-of-length-le}
 use lib.Seq.{drop-cons}
 use Rattle.lookaside.specs.declared.Slot.{Slot}
 use Rattle.lookaside.specs.declared.Buffer.{Buffer}
@@ -58,6 +58,11 @@ module _ {A : Type 0} (f : A → A) where
   map-to-all zero (x ∷ xs) h = absurd (not-suc-le-zero h)
   map-to-all (suc i) (x ∷ xs) h = ap (_∷_ (f x)) (map-to-all i xs (le-of-suc-le-suc h))
 
+  pub length-map-to : (i : ℕ) (l : List A) → length (mapTo i l) ≡ length l
+  length-map-to i [] = refl
+  length-map-to zero (x ∷ xs) = refl
+  length-map-to (suc i) (x ∷ xs) = ap suc (length-map-to i xs)
+
   -- The element that the loop reads is still the old one.
   map-to-at : (i : ℕ) (l : List A) (d : A) → getD (mapTo i l) i d ≡ getD l i d
   map-to-at i [] d = refl
@@ -72,15 +77,6 @@ module _ {A : Type 0} (f : A → A) where
   -- One turn of the loop, from the list `g` that it has and the element `t` that was made of `g`'s.
   pub map-to-turn : (i : ℕ) (l g : List A) (d t : A) → g ≡ mapTo i l → t ≡ f (getD g i d) → set g i t ≡ mapTo (i + 1) l
   map-to-turn i l g d t e h = rw (h, e, map-to-at i l d, add-one) (map-to-set i l d)
-
--- What owning a struct tells of a field that is an array of structs: `search (needs, unmapped)` finds that the list
--- has the array's length.
-pub unmapped : {X Y : Type 0} (f : X → Y) (l : List X) (n : ℕ) → length (map f l) ≡ n → length l ≡ n
-unmapped f l n p = sym (length-map l f) ∙ p
-
--- A buffer is made of its fields.
-pub buffer-is : (b : Buffer) (l : List Slot) (n : ℕ) → b .slots ≡ l → b .next ≡ n → b ≡ record { slots = l; next = n }
-buffer-is b l n p q = λ i. record { slots = p i; next = q i }
 
 -- There is one emptied buffer.
 pub one-emptied : (q r : Buffer) → q ≡ emptyBuffer → r ≡ emptyBuffer → q ≡ r

@@ -11,13 +11,13 @@ use lib.Dec.{eqb, ltb}
 use borrow.Author.Tests.{eq-eqb, ne-eqb, lt-ltb, le-ltb, eqb-true, ltb-true}
 use Rattle.table.specs.declared.Shape.{Shape}
 use Rattle.table.specs.declared.Found.{Found}
-use Rattle.table.specs.declared.Found.the-variants.{Right, Refused as NotFound}
+use Rattle.table.specs.declared.Found.the-variants.{By, Refused as NotFound}
 use Rattle.table.specs.Shape.{fitsOf}
 use Rattle.table.specs.Lookup.{lookupOf}
 use Rattle.table.specs.Access.{load, store, fetch}
 use Rattle.lookaside.specs.declared.Buffer.{Buffer}
 use Rattle.lookaside.specs.declared.Checked.{Checked}
-use Rattle.lookaside.specs.declared.Decided.{Decided}
+use Rattle.lookaside.specs.declared.Ruling.{Ruling}
 use Rattle.lookaside.specs.declared.Fill.the-variants.{Keep, Put}
 use Rattle.lookaside.specs.declared.Slot.{Slot}
 use Rattle.lookaside.specs.declared.Verdict.the-variants.{Refused}
@@ -135,7 +135,7 @@ module _ (p : List ℕ) (s : Shape) (b : Buffer) (d kind size a : ℕ) where
   ]
     where
       walks : (f : Found) → walked f b d kind a .buffer .next < 64
-      walks (Right r w n) = omega arith
+      walks (By x) = omega arith
       walks (NotFound n) = h
 
       answers : (t : Hit) → answered t p s b d kind a .buffer .next < 64
@@ -169,11 +169,11 @@ module _ (p : List ℕ) (s : Shape) (next : ℕ) (h : Hit) (d kind size a : ℕ)
 
 -- A check is what it decides, done to its buffer.
 module _ (p : List ℕ) (s : Shape) (b : Buffer) (d kind size a : ℕ) where
-  abbrev joined : Decided → Checked
+  abbrev joined : Ruling → Checked
   joined x = record { verdict = x .verdict; buffer = filledBy b (x .fill) }
 
   walks-joined : (f : Found) → walked f b d kind a ≡ joined (walkDecided f d kind a)
-  walks-joined (Right r w n) = refl
+  walks-joined (By x) = refl
   walks-joined (NotFound n) = refl
 
   hits-joined : (h : Hit) → answered h p s b d kind a ≡ joined (hitDecided h p s d kind a)

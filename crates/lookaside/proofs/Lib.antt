@@ -2,6 +2,7 @@
 pub mod TestLaws
 pub mod SlotLaws
 pub mod BufferLaws
+pub mod LayoutLaws
 pub mod CheckLaws
 pub mod FlushLaws
 pub mod AgreeLaws

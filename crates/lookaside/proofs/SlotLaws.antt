@@ -1,7 +1,7 @@
 -- Laws of slots: what a match says, as facts and as the program tests it. Assumes nothing.
 use Prim.Native.Nat.{ℕ, zero, suc, _+_, _*_, _/_, _%_, _≤_, _<_}
-use mathlib.Core.Path.{_≡_, sym, ap}
-use mathlib.Core.Bool.{true, _&&_}
+use mathlib.Core.Path.{_≡_, refl, sym, ap, _∙_}
+use mathlib.Core.Bool.{Bool, true, false, _&&_, _||_, false≢true}
 use native.Mathlib.Omega.{arith}
 use lib.Dec.{eqb}
 use borrow.Author.Tests.{eqb-true, leb-true, ltb-true, eq-eqb, le-leb}
@@ -72,3 +72,40 @@ unfolding matches
 match-place s d a e =
     let (e1, _) = both-true _ _ e in
     both-true _ _ e1
+
+-- The block's first byte is that of a block of one of the three levels around the address.
+abbrev pub near : ℕ → ℕ → Bool
+near a x = eqb (a / blockBytes 1 * blockBytes 1) x || eqb (a / blockBytes 2 * blockBytes 2) x
+    || eqb (a / blockBytes 3 * blockBytes 3) x
+
+pub near-by : (a x root middle leaf y : ℕ) → root ≡ a / blockBytes 1 * blockBytes 1
+    → middle ≡ a / blockBytes 2 * blockBytes 2
+    → leaf ≡ a / blockBytes 3 * blockBytes 3 → y ≡ x → (eqb root y || eqb middle y || eqb leaf y) ≡ near a x
+near-by a x root middle leaf y one two three e = rw (one, two, three, e)
+
+none-of-three : (x y z : Bool) → (x || y || z) ≡ false → (x ≡ false) × (y ≡ false) × (z ≡ false)
+none-of-three true y z e = absurd (false≢true (sym e))
+none-of-three false true z e = absurd (false≢true (sym e))
+none-of-three false false z e = (refl, refl, e)
+
+module _ (a x : ℕ) (e : near a x ≡ false) where
+  abbrev start : ℕ → Bool
+  start n = eqb (a / blockBytes n * blockBytes n) x
+
+  far-level : (n : ℕ) → 1 ≤ n → n ≤ 3 → start n ≡ false
+  far-level zero lo hi = absurd (omega arith)
+  far-level (suc zero) lo hi = none-of-three (start 1) (start 2) (start 3) e .0
+  far-level (suc (suc zero)) lo hi = none-of-three (start 1) (start 2) (start 3) e .1
+  far-level (suc (suc (suc zero))) lo hi = none-of-three (start 1) (start 2) (start 3) e .2
+  far-level (suc (suc (suc (suc n)))) lo hi = absurd (omega arith)
+
+-- A slot whose block is none of the three does not match.
+pub far-slot : (s : Slot) (d a : ℕ) → near a (s .block .0) ≡ false → matches s d a ≡ false
+far-slot s d a e = go (matches s d a) refl
+  where
+    go : (t : Bool) → matches s d a ≡ t → t ≡ false
+    go true m =
+        let g = match-is s d a m in
+        let (lo, hi) = level-range (s .level) (g .level) in
+        sym m ∙ match-test s d a (g .domain) (g .level) ∙ rw (far-level a (s .block .0) e (s .level) lo hi)
+    go false m = refl

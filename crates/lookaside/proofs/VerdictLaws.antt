@@ -12,8 +12,9 @@ use Rattle.theory.specs.Form.{Form}
 use Rattle.theory.specs.Pool.{words, entry}
 use Rattle.theory.specs.Walk.{End, bad, decides, walk}
 use Rattle.table.specs.declared.Shape.{Shape}
+use Rattle.table.specs.declared.Deciding.{Deciding}
 use Rattle.table.specs.declared.Found.{Found}
-use Rattle.table.specs.declared.Found.the-variants.{Right, Refused as NotFound}
+use Rattle.table.specs.declared.Found.the-variants.{By, Refused as NotFound}
 use Rattle.table.specs.Shape.{fitsOf}
 use Rattle.table.specs.Map.{addresses, formOf}
 use Rattle.table.specs.Lookup.{foundAt, lookupOf}
@@ -30,15 +31,15 @@ use Rattle.lookaside.proofs.CheckLaws.{Allowed, allowed, check-refused,
 use Rattle.lookaside.proofs.AgreeLaws.{emptied-agrees, hit-right}
 
 -- A lookup of a domain of the shape is refused 6 or finds a right.
-abbrev pub SixOrRight : Found → Type 0
-SixOrRight f = (f ≡ NotFound 6) ⊎ ((r : ℕ) × (w : ℕ) × (n : ℕ) × (f ≡ Right r w n))
+abbrev pub SixOrFound : Found → Type 0
+SixOrFound f = (f ≡ NotFound 6) ⊎ ((x : Deciding) × (f ≡ By x))
 
-found-cases : (F : Form) (P : ℕ → ℕ) (a : ℕ) (e : End) → SixOrRight (foundAt F P a e)
+found-cases : (F : Form) (P : ℕ → ℕ) (a : ℕ) (e : End) → SixOrFound (foundAt F P a e)
 found-cases F P a bad = inl refl
-found-cases F P a (decides h k) = inr (F .says h (P k) a, P k, 3 - h, refl)
+found-cases F P a (decides h k) = inr (_, refl)
 
 pub lookup-cases : (p : List ℕ) (s : Shape) (d a : ℕ) → fitsOf s (length p) ≡ true → d < s .domains
-    → SixOrRight (lookupOf p s d a)
+    → SixOrFound (lookupOf p s d a)
 lookup-cases p s d a f h =
     rw (lookup-walks p s d a f h) (found-cases (formOf s) (words p) a
     (walk (formOf s) (words p) a 2 (entry (formOf s) d a)))
@@ -69,10 +70,10 @@ only-six p s b d kind size a n e v = go (firstMatch (b .slots) d a) (rw (check-a
     ok : Allowed s (length p) (b .next) d kind size a
     ok = allowed s (length p) (b .next) d kind size a e
 
-    walked-six : (f : Found) → SixOrRight f → walked f b d kind a .verdict ≡ Refused n → n ≡ 6
-    walked-six (Right r w m) c q = absurd (never-refused kind r m n q)
+    walked-six : (f : Found) → SixOrFound f → walked f b d kind a .verdict ≡ Refused n → n ≡ 6
+    walked-six (By x) c q = absurd (never-refused kind (x .right) (x .loads) n q)
     walked-six (NotFound m) c q = ⊎-elim (λ h. cc)
-        (λ t. let h = t .3 in let z : _≡_ {A = ℕ} 0 1 = cc in absurd (omega arith)) c
+        (λ t. let h = t .1 in let z : _≡_ {A = ℕ} 0 1 = cc in absurd (omega arith)) c
 
     go : (h : Hit) → answered h p s b d kind a .verdict ≡ Refused n → n ≡ 6
     go (At t) q = absurd (never-refused kind (slotRight t a) 0 n q)
@@ -99,10 +100,10 @@ module _ (p : List ℕ) (s : Shape) (x : Places) (d kind size a : ℕ) (z : x d 
             (hit-right (s .domains) (rightsOf s p) x b d a t g h (ok .domain) ha z),
       )
       go Miss h = ⊎-elim (λ k. absurd (sound k))
-          (λ k. let (r, w, n, q) = k in (
-            n,
-            right-loads p s d a r w n q .1,
-            ap (λ f. walked f b d kind a .verdict) q ∙ ap (λ y. verdictOf kind y n) (right-is p s d a r w n q),
+          (λ k. let (y, q) = k in (
+            y .loads,
+            right-loads p s d a y q .1,
+            ap (λ f. walked f b d kind a .verdict) q ∙ ap (λ v. verdictOf kind v (y .loads)) (right-is p s d a y q),
           ))
           (lookup-cases p s d a (ok .fits) (ok .domain))
 

@@ -6,12 +6,12 @@ use lib.ListN.{length}
 use lib.Dec.{eqb, ltb}
 use Rattle.table.specs.declared.Shape.{Shape}
 use Rattle.table.specs.declared.Found.{Found}
-use Rattle.table.specs.declared.Found.the-variants.{Right, Refused as NotFound}
+use Rattle.table.specs.declared.Found.the-variants.{By, Refused as NotFound}
 use Rattle.table.specs.Shape.{fitsOf}
 use Rattle.table.specs.Lookup.{lookupOf}
 use Rattle.table.specs.Access.{load, store, fetch, passesOf}
 use Rattle.lookaside.specs.declared.Buffer.{Buffer}
-use Rattle.lookaside.specs.declared.Decided.{Decided}
+use Rattle.lookaside.specs.declared.Ruling.{Ruling}
 use Rattle.lookaside.specs.declared.Fill.{Fill}
 use Rattle.lookaside.specs.declared.Fill.the-variants.{Keep, Put}
 use Rattle.lookaside.specs.declared.Hit.{Hit}
@@ -67,7 +67,8 @@ refusing n b = record { verdict = Refused n; buffer = b }
 
 -- A miss, by what the lookup found: pass or deny, the slot at the pointer is filled.
 abbrev pub walked : Found → Buffer → ℕ → ℕ → ℕ → Checked
-walked (Right r w n) b d kind a = record { verdict = verdictOf kind r n; buffer = filled b (slotFor d a w n) }
+walked (By x) b d kind a =
+    record { verdict = verdictOf kind (x .right) (x .loads); buffer = filled b (slotFor d a (x .entry) (x .loads)) }
 walked (NotFound n) b d kind a = refusing n b
 
 -- A check that is not refused, by the slot that answers: with 0 loads, or by a walk.
@@ -81,21 +82,21 @@ checkOf p s b d kind size a =
     let n = refusalOf s (length p) (b .next) d kind size a in
     cond (eqb n 0) (answered (firstMatch (b .slots) d a) p s b d kind a) (refusing n b)
 
--- ---- The same in two parts, for whoever holds the buffer in another form: what a check decides, and what is then
--- done to the buffer.
+-- ---- The same in two parts: what a check decides, and what is then done to the buffer.
 
 -- A miss, by what the lookup found.
-abbrev pub walkDecided : Found → ℕ → ℕ → ℕ → Decided
-walkDecided (Right r w n) d kind a = record { verdict = verdictOf kind r n; fill = Put (slotFor d a w n) }
+abbrev pub walkDecided : Found → ℕ → ℕ → ℕ → Ruling
+walkDecided (By x) d kind a =
+    record { verdict = verdictOf kind (x .right) (x .loads); fill = Put (slotFor d a (x .entry) (x .loads)) }
 walkDecided (NotFound n) d kind a = record { verdict = Refused n; fill = Keep }
 
 -- A check that is not refused, by the slot that answers.
-abbrev pub hitDecided : Hit → List ℕ → Shape → ℕ → ℕ → ℕ → Decided
+abbrev pub hitDecided : Hit → List ℕ → Shape → ℕ → ℕ → ℕ → Ruling
 hitDecided (At t) p s d kind a = record { verdict = verdictOf kind (slotRight t a) 0; fill = Keep }
 hitDecided Miss p s d kind a = walkDecided (lookupOf p s d a) d kind a
 
 -- What a check decides, by the pointer and the lowest slot that matches.
-unfoldable pub decideOf : List ℕ → Shape → ℕ → Hit → ℕ → ℕ → ℕ → ℕ → Decided
+unfoldable pub decideOf : List ℕ → Shape → ℕ → Hit → ℕ → ℕ → ℕ → ℕ → Ruling
 decideOf p s next h d kind size a =
     let n = refusalOf s (length p) next d kind size a in
     cond (eqb n 0) (hitDecided h p s d kind a) (record { verdict = Refused n; fill = Keep })

@@ -1,27 +1,30 @@
-// Checks of loads, stores and fetches through a lookaside buffer, and the buffer's flushes. The buffer goes in by
-// value and comes back.
+// Checks of loads, stores and fetches through a lookaside buffer, and the buffer's flushes. The buffer is worked on in
+// the words that are lent for it.
 ghost use mathlib.Core.Path.{_≡_};
-ghost use Prim.Native.Nat.{_<_};
+ghost use Prim.Native.Nat.{_<_, _%_};
 ghost use Rattle.table.specs.Lookup.{lookupOf};
 ghost use mathlib.Core.Bool.{true};
 ghost use Rattle.lookaside.specs.declared.Slot.{Slot};
 ghost use Rattle.lookaside.specs.declared.Hit.the-variants.{At};
-ghost use Rattle.lookaside.specs.Slots.{matches, firstMatch, emptyBuffer, filled};
-ghost use Rattle.lookaside.specs.Flushes.{flushes, flushedSlot, flushedBuffer, flushedWhole, flushedDomain};
+ghost use Rattle.lookaside.specs.Slots.{matches, emptyBuffer};
+ghost use Rattle.lookaside.specs.Flushes.{flushes, flushedBuffer, flushedWhole, flushedDomain};
 ghost use Rattle.lookaside.specs.Flushes.{flushedRegion};
 ghost use Rattle.lookaside.specs.Check.{isAccess, refusalOf, verdictOf, checkOf, walkDecided, decideOf};
+ghost use Rattle.lookaside.specs.Layout.{IsBuffer, bufferOf, bufferWords, CheckedAs, FlushedAs};
 use table::Found;
 use table::Shape;
 use words::ByteAddr;
 use words::Region;
 use words::Rounded;
 
+mod layout;
 mod slots;
-
-pub use slots::slot_matches;
 
 // How many slots a buffer has.
 pub const SLOTS: u32 = 64;
+
+// The words of a buffer: 64 slots of four, then next.
+pub const BUFFER_WORDS: usize = 257;
 
 // One entry that decided a lookup, for a domain and the block of a level (1 root, 2 middle, 3 leaf).
 pub struct Slot {
@@ -31,7 +34,7 @@ pub struct Slot {
     pub entry: u32,
 }
 
-// The slots, and the one that the next fill takes.
+// What the words of a buffer say: the slots, and the one that the next fill takes.
 pub struct Buffer {
     pub slots: [Slot; 64],
     pub next: u32,
@@ -44,12 +47,13 @@ pub enum Verdict {
     Refused(u32),
 }
 
+// A check as contracts tell it: what it says, and the buffer that its words then say.
 pub struct Checked {
     pub verdict: Verdict,
     pub buffer: Buffer,
 }
 
-// A flush's refusal, 0 for none, beside the buffer.
+// A flush as contracts tell it: its refusal, 0 for none, and the buffer that its words then say.
 pub struct Flushed {
     pub refusal: u32,
     pub buffer: Buffer,
@@ -68,7 +72,7 @@ pub enum Fill {
 }
 
 // What a check decides: its verdict, and what is to be done to the buffer.
-pub struct Decided {
+pub struct Ruling {
     pub verdict: Verdict,
     pub fill: Fill,
 }
@@ -78,34 +82,6 @@ pub enum Flushing {
     Whole,
     OfDomain(u32),
     OfRegion(u32, Region),
-}
-
-// The lowest slot that matches.
-fn find(buffer: Buffer, domain: u32, address: ByteAddr) -> Hit
-    ensures { λ r. ⌜ r ≡ firstMatch (buffer .slots) domain (address .0) ⌝ }
-{
-    let mut i: usize = 0;
-    while i < 64 {
-        let s = buffer.slots[i];
-        if slots::slot_matches(s, domain, address) {
-            return Hit::At(s);
-        }
-        i += 1;
-    }
-    Hit::Miss
-}
-
-// The buffer with a slot put at its pointer, which moves on.
-fn fill_next(buffer: Buffer, s: Slot) -> Buffer
-    requires { ⌜ buffer .next < 64 ⌝ }
-    ensures { λ r. ⌜ r ≡ filled buffer s ⌝ }
-{
-    let mut b = buffer;
-    let next = b.next;
-    let at = next as usize;
-    b.slots[at] = s;
-    b.next = (next + 1) % SLOTS;
-    b
 }
 
 // Whether there are accesses of this kind and size.
@@ -125,6 +101,23 @@ fn is_access(kind: u32, size: u32) -> bool
         return true;
     }
     size == 4
+}
+
+// How far an address lies past a multiple of a size. Nothing is divided for a size that there are accesses of.
+fn past_size(a: u32, size: u32) -> u32
+    requires { ⌜ 0 < size ⌝ }
+    ensures { λ r. ⌜ r ≡ a % size ⌝ }
+{
+    if size == 4 {
+        return a % 4;
+    }
+    if size == 2 {
+        return a % 2;
+    }
+    if size == 1 {
+        return 0;
+    }
+    a % size
 }
 
 // The refusal of a check before it asks the buffer, 0 for none. The size is a divisor only once it is known to be a
@@ -154,7 +147,8 @@ fn refusal(
         return 9;
     }
     let a = words::addr_number(address);
-    if a % size != 0 {
+    let past = past_size(a, size);
+    if past != 0 {
         return 10;
     }
     0
@@ -171,21 +165,20 @@ fn judge(kind: u32, right: u32, loads: u32) -> Verdict
 }
 
 // What a check that no slot answers decides: it walks the pool, and keeps the deciding entry, whether it passes or not.
-fn decide_by_walk(pool: &[u32], shape: Shape, domain: u32, kind: u32, address: ByteAddr) -> Decided
+fn decide_by_walk(pool: &[u32], shape: Shape, domain: u32, kind: u32, address: ByteAddr) -> Ruling
     ensures { λ r. ⌜ r ≡ walkDecided (lookupOf (now (pool .entry)) shape domain (address .0)) domain kind
         (address .0) ⌝ }
 {
     let found = table::lookup(pool, shape, domain, address);
     match found {
-        Found::Refused(n) => Decided {
+        Found::Refused(n) => Ruling {
             verdict: Verdict::Refused(n),
             fill: Fill::Keep,
         },
-        Found::Right {
-            right,
-            entry,
-            loads,
-        } => {
+        Found::By(by) => {
+            let right = by.right;
+            let entry = by.entry;
+            let loads = by.loads;
             let block = slots::block_of(loads, address);
             let slot = Slot {
                 domain,
@@ -194,7 +187,7 @@ fn decide_by_walk(pool: &[u32], shape: Shape, domain: u32, kind: u32, address: B
                 entry,
             };
             let verdict = judge(kind, right, loads);
-            Decided {
+            Ruling {
                 verdict,
                 fill: Fill::Put(slot),
             }
@@ -202,9 +195,8 @@ fn decide_by_walk(pool: &[u32], shape: Shape, domain: u32, kind: u32, address: B
     }
 }
 
-// What a check decides, by the lowest slot that matches and the pointer. Whoever holds the buffer looks for that slot
-// and fills it.
-pub fn decide(
+// What a check decides, by the lowest slot that matches and the pointer.
+fn decide(
     pool: &[u32],
     shape: Shape,
     next: u32,
@@ -213,14 +205,14 @@ pub fn decide(
     kind: u32,
     size: u32,
     address: ByteAddr,
-) -> Decided
+) -> Ruling
     requires { ⌜ ((t : Slot) → hit ≡ At t → matches t domain (address .0) ≡ true) ⌝ }
     ensures { λ r. ⌜ r ≡ decideOf (now (pool .entry)) shape next hit domain kind size (address .0) ⌝ }
 {
     let long = pool.len();
     let refused = refusal(shape, long, next, domain, kind, size, address);
     if refused != 0 {
-        return Decided {
+        return Ruling {
             verdict: Verdict::Refused(refused),
             fill: Fill::Keep,
         };
@@ -229,7 +221,7 @@ pub fn decide(
         Hit::At(s) => {
             let right = slots::slot_right(s, address);
             let verdict = judge(kind, right, 0);
-            Decided {
+            Ruling {
                 verdict,
                 fill: Fill::Keep,
             }
@@ -238,42 +230,27 @@ pub fn decide(
     }
 }
 
-// The check of an access of a domain: answered by the buffer with no load, or by the pool.
+// The check of an access of a domain: answered by the buffer with no load, or by the pool. A hit stores nothing in the
+// buffer's words, and a miss one slot and the pointer.
 pub fn check(
     pool: &[u32],
     shape: Shape,
-    buffer: Buffer,
+    buffer: &mut [u32],
     domain: u32,
     kind: u32,
     size: u32,
     address: ByteAddr,
-) -> Checked
-    ensures { λ r. ⌜ r ≡ checkOf (now (pool .entry)) shape buffer domain kind size (address .0) ⌝ }
+) -> Verdict
+    requires { ⌜ IsBuffer (now buffer) ⌝ }
+    ensures { λ r. ⌜ CheckedAs (checkOf (now (pool .entry)) shape (bufferOf (now (buffer .entry))) domain kind size
+        (address .0)) r (now (buffer .exit)) ⌝ }
 {
-    let next = buffer.next;
-    let hit = find(buffer, domain, address);
+    let next = buffer[256];
+    let hit = layout::find(buffer, domain, address);
     let decided = decide(pool, shape, next, hit, domain, kind, size, address);
-    let verdict = decided.verdict;
     let todo = decided.fill;
-    match todo {
-        Fill::Keep => Checked { verdict, buffer },
-        Fill::Put(s) => {
-            let kept = fill_next(buffer, s);
-            Checked {
-                verdict,
-                buffer: kept,
-            }
-        }
-    }
-}
-
-// The buffer after a reset.
-pub fn emptied() -> Buffer
-    ensures { λ r. ⌜ r ≡ emptyBuffer ⌝ }
-{
-    let none = slots::empty_slot();
-    let slots = [none; 64];
-    Buffer { slots, next: 0 }
+    layout::fill_next(buffer, todo);
+    decided.verdict
 }
 
 // Whether a flush empties a slot.
@@ -292,87 +269,74 @@ fn is_flushed(f: Flushing, s: Slot) -> bool
     }
 }
 
-// What a flush leaves of a slot.
-fn flush_slot(f: Flushing, s: Slot) -> Slot
-    ensures { λ r. ⌜ r ≡ flushedSlot f s ⌝ }
+// The one loop of all flushes: it stores into the slots that it empties; the pointer stays.
+fn flush(ws: &mut [u32], f: Flushing)
+    requires { ⌜ IsBuffer (now ws) ⌝ }
+    ensures { λ _. ⌜ now (ws .exit) ≡ bufferWords (flushedBuffer f (bufferOf (now (ws .entry)))) ⌝ }
 {
-    if is_flushed(f, s) {
-        return slots::empty_slot();
+    let none = slots::empty_slot();
+    let mut i: usize = 0;
+    while i < 64 {
+        let s = layout::slot_at(ws, 4 * i);
+        if is_flushed(f, s) {
+            layout::put_slot(ws, 4 * i, none);
+        }
+        i += 1;
     }
-    s
 }
 
-// The one loop of all flushes; the pointer stays.
-fn flush(buffer: Buffer, f: Flushing) -> Buffer
-    ensures { λ r. ⌜ r ≡ flushedBuffer f buffer ⌝ }
+// The buffer after a reset, whatever its words were.
+pub fn emptied(buffer: &mut [u32])
+    requires { ⌜ IsBuffer (now buffer) ⌝ }
+    ensures { λ _. ⌜ now (buffer .exit) ≡ bufferWords emptyBuffer ⌝ }
 {
-    let mut b = buffer;
-    let mut at: usize = 0;
-    while at < 64 {
-        let s = b.slots[at];
-        let t = flush_slot(f, s);
-        b.slots[at] = t;
-        at += 1;
-    }
-    b
+    let all = Flushing::Whole;
+    flush(buffer, all);
+    buffer[256] = 0;
 }
 
 // Empties every slot.
-pub fn flush_all(buffer: Buffer) -> Flushed
-    ensures { λ r. ⌜ r ≡ flushedWhole buffer ⌝ }
+pub fn flush_all(buffer: &mut [u32]) -> u32
+    requires { ⌜ IsBuffer (now buffer) ⌝ }
+    ensures { λ r. ⌜ FlushedAs (flushedWhole (bufferOf (now (buffer .entry)))) r (now (buffer .exit)) ⌝ }
 {
-    let next = buffer.next;
+    let next = buffer[256];
     if next >= SLOTS {
-        return Flushed {
-            refusal: 18,
-            buffer,
-        };
+        return 18;
     }
-    let b = flush(buffer, Flushing::Whole);
-    Flushed {
-        refusal: 0,
-        buffer: b,
-    }
+    flush(buffer, Flushing::Whole);
+    0
 }
 
 // Empties the slots of a domain, which may be any number.
-pub fn flush_domain(buffer: Buffer, domain: u32) -> Flushed
-    ensures { λ r. ⌜ r ≡ flushedDomain buffer domain ⌝ }
+pub fn flush_domain(buffer: &mut [u32], domain: u32) -> u32
+    requires { ⌜ IsBuffer (now buffer) ⌝ }
+    ensures { λ r. ⌜ FlushedAs (flushedDomain (bufferOf (now (buffer .entry))) domain) r (now (buffer .exit)) ⌝ }
 {
-    let next = buffer.next;
+    let next = buffer[256];
     if next >= SLOTS {
-        return Flushed {
-            refusal: 18,
-            buffer,
-        };
+        return 18;
     }
-    let b = flush(buffer, Flushing::OfDomain(domain));
-    Flushed {
-        refusal: 0,
-        buffer: b,
-    }
+    flush(buffer, Flushing::OfDomain(domain));
+    0
 }
 
 // Empties the slots of a domain whose block meets a region, which is rounded and refused as a change's.
-pub fn flush_region(buffer: Buffer, domain: u32, start: ByteAddr, length: u32) -> Flushed
-    ensures { λ r. ⌜ r ≡ flushedRegion buffer domain (start .0) length ⌝ }
+pub fn flush_region(buffer: &mut [u32], domain: u32, start: ByteAddr, length: u32) -> u32
+    requires { ⌜ IsBuffer (now buffer) ⌝ }
+    ensures { λ r. ⌜ FlushedAs (flushedRegion (bufferOf (now (buffer .entry))) domain (start .0) length) r
+        (now (buffer .exit)) ⌝ }
 {
-    let next = buffer.next;
+    let next = buffer[256];
     if next >= SLOTS {
-        return Flushed {
-            refusal: 18,
-            buffer,
-        };
+        return 18;
     }
     let asked = words::round_region(start, length);
     match asked {
-        Rounded::Refused(n) => Flushed { refusal: n, buffer },
+        Rounded::Refused(n) => n,
         Rounded::Covers(region) => {
-            let b = flush(buffer, Flushing::OfRegion(domain, region));
-            Flushed {
-                refusal: 0,
-                buffer: b,
-            }
+            flush(buffer, Flushing::OfRegion(domain, region));
+            0
         }
     }
 }

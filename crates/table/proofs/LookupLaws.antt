@@ -18,8 +18,9 @@ use Rattle.theory.proofs.WalkLaws.{walk-down, decides-low, decides-right, decid
 use Rattle.words.specs.declared.PoolWord.{PoolWord}
 use Rattle.table.specs.declared.Shape.{Shape}
 use Rattle.table.specs.declared.Entry.the-variants.{Leads}
+use Rattle.table.specs.declared.Deciding.{Deciding}
 use Rattle.table.specs.declared.Found.{Found}
-use Rattle.table.specs.declared.Found.the-variants.{Right, Refused}
+use Rattle.table.specs.declared.Found.the-variants.{By, Refused}
 use Rattle.table.specs.Shape.{Fits, fitsOf}
 use Rattle.table.specs.Map.{addresses, index, formOf}
 use Rattle.table.specs.Entries.{decodeOf}
@@ -67,67 +68,63 @@ module _ (p : List ℕ) (s : Shape) (d a : ℕ) where
   pub lookup-walks : fitsOf s (length p) ≡ true → d < s .domains → lookupOf p s d a ≡ foundAt (formOf s) (words p) a end
   lookup-walks e h = rw (e, lt-ltb d (s .domains) h)
 
-refused-right : {n x w m : ℕ} → Refused n ≡ Right x w m → ⊥
-refused-right e = let z : _≡_ {A = ℕ} 0 1 = cc in omega arith
+refused-not-by : {n : ℕ} {x : Deciding} → Refused n ≡ By x → ⊥
+refused-not-by e = let z : _≡_ {A = ℕ} 0 1 = cc in omega arith
 
 -- What the end of a walk must be for an answer that is a right.
-found-decides : (F : Form) (P : ℕ → ℕ) (a : ℕ) (e : End) (x w n : ℕ) → foundAt F P a e ≡ Right x w n
-    → (h : ℕ) × (k : ℕ) × (e ≡ decides h k) × (x ≡ F .says h (P k) a) × (w ≡ P k) × (n ≡ 3 - h)
-found-decides F P a bad x w n e = absurd (refused-right e)
-found-decides F P a (decides h k) x w n e = (h, k, refl, cc, cc, cc)
+found-decides : (F : Form) (P : ℕ → ℕ) (a : ℕ) (e : End) (x : Deciding) → foundAt F P a e ≡ By x
+    → (h : ℕ) × (k : ℕ) × (e ≡ decides h k) × (x .right ≡ F .says h (P k) a) × (x .entry ≡ P k) × (x .loads ≡ 3 - h)
+found-decides F P a bad x e = absurd (refused-not-by e)
+found-decides F P a (decides h k) x e = (h, k, refl, cc, cc, cc)
 
-module _ (p : List ℕ) (s : Shape) (d a x w n : ℕ) (e : lookupOf p s d a ≡ Right x w n) where
+module _ (p : List ℕ) (s : Shape) (d a : ℕ) (x : Deciding) (e : lookupOf p s d a ≡ By x) where
   -- An answer that is a right comes from the end of a walk.
-  pub right-found : (h : ℕ) × (k : ℕ) × (end p s d a ≡ decides h k) × (x ≡ formOf s .says h (words p k) a)
-      × (w ≡ words p k) × (n ≡ 3 - h)
+  pub right-found : (h : ℕ) × (k : ℕ) × (end p s d a ≡ decides h k) × (x .right ≡ formOf s .says h (words p k) a)
+      × (x .entry ≡ words p k) × (x .loads ≡ 3 - h)
   right-found = by-cases (fitsOf s (length p))
       (λ f. by-cases (ltb d (s .domains))
-      (λ l. found-decides (formOf s) (words p) a (end p s d a) x w n
+      (λ l. found-decides (formOf s) (words p) a (end p s d a) x
       (sym (lookup-walks p s d a f (ltb-true d (s .domains) l)) ∙ e))
-      (λ l. absurd (refused-right (sym (lookup-no-domain p s d a f (ltb-false d (s .domains) l)) ∙ e))))
-      (λ f. absurd (refused-right (sym (lookup-misfit p s d a f) ∙ e)))
+      (λ l. absurd (refused-not-by (sym (lookup-no-domain p s d a f (ltb-false d (s .domains) l)) ∙ e))))
+      (λ f. absurd (refused-not-by (sym (lookup-misfit p s d a f) ∙ e)))
 
   -- It takes one load for each level down to the deciding one.
-  pub right-loads : (1 ≤ n) × (n ≤ 3)
+  pub right-loads : (1 ≤ x .loads) × (x .loads ≤ 3)
   right-loads =
       let (h, k, z, _, _, o) = right-found in
       let b = decides-low (formOf s) (words p) a (λ v. refl) 2 (entry (formOf s) d a) z in
       (omega arith, omega arith)
 
   -- It is the table's right.
-  pub right-is : x ≡ rightOf (formOf s) (words p) d a
+  pub right-is : x .right ≡ rightOf (formOf s) (words p) d a
   right-is =
       let (h, k, z, q, _, _) = right-found in
       q ∙ sym (decides-right (formOf s) (words p) a (λ v. refl) 2 (entry (formOf s) d a) z)
 
   -- The deciding entry gives the table's right on every word of its whole block.
-  pub right-block : (b : ℕ) → b < addresses → Together (formOf s) (3 - n) a b → rightOf (formOf s) (words p) d b
-      ≡ formOf s .says (3 - n) w b
+  pub right-block : (b : ℕ) → b < addresses → Together (formOf s) (3 - x .loads) a b
+      → rightOf (formOf s) (words p) d b ≡ formOf s .says (3 - x .loads) (x .entry) b
   right-block b lo t =
       let (h, k, z, _, q, o) = right-found in
       let hi = decides-low (formOf s) (words p) a (λ v. refl) 2 (entry (formOf s) d a) z in
-      let y : 3 - n ≡ h = omega arith in
+      let y : 3 - x .loads ≡ h = omega arith in
       let g : Together (formOf s) h a b = rw y at t in
       sym (decides-says (formOf s) (λ v. refl) (words p) d a z .each b lo g)
-      ∙ ap (λ v. formOf s .says h v b) (sym q) ∙ ap (λ m. formOf s .says m w b) (sym y)
+      ∙ ap (λ v. formOf s .says h v b) (sym q) ∙ ap (λ m. formOf s .says m (x .entry) b) (sym y)
 
 pub looks-up : (p : List ℕ) (s : Shape) (d a : ℕ) (r : Found) → r ≡ lookupOf p s d a → LooksUp p s d a r
-looks-up p s d a r e = record { answer = e; block = λ x w n q. right-block p s d a x w n (sym e ∙ q) }
+looks-up p s d a r e = record { answer = e; block = λ x q. right-block p s d a x (sym e ∙ q) }
 
 -- There is one answer.
 pub one-lookup : {p : List ℕ} {s : Shape} {d a : ℕ} {q r : Found} → LooksUp p s d a q → LooksUp p s d a r → q ≡ r
 one-lookup x y = x .answer ∙ sym (y .answer)
 
--- In a sound pool a lookup for a domain below D never refuses.
+-- In a sound pool a lookup for a domain below D finds the table's right.
 pub sound-lookup : (p : List ℕ) (s : Shape) (d a : ℕ) → SoundPool (formOf s) (words p) → Fits s (length p)
     → d < s .domains
-    → (w : ℕ) × (n : ℕ) × (lookupOf p s d a ≡ Right (rightOf (formOf s) (words p) d a) w n)
+    → (x : Deciding) × (lookupOf p s d a ≡ By x) × (x .right ≡ rightOf (formOf s) (words p) d a)
 sound-lookup p s d a q f h =
     let (m, k, z) = sound-decides (formOf s) (words p) a (lawful _) q 2 (entry (formOf s) d a)
-    (entry-reach (formOf s) (lawful _) d a h) in (
-      words p k,
-      3 - m,
-      lookup-walks p s d a (fits-test s (length p) f) h ∙ ap (foundAt (formOf s) (words p) a) z
-          ∙ ap (λ x. Right x (words p k) (3 - m)) (sym
-          (decides-right (formOf s) (words p) a (λ v. refl) 2 (entry (formOf s) d a) z)),
-    )
+    (entry-reach (formOf s) (lawful _) d a h) in
+    let e = lookup-walks p s d a (fits-test s (length p) f) h ∙ ap (foundAt (formOf s) (words p) a) z in
+    (_, e, right-is p s d a _ e)

@@ -10,8 +10,9 @@ use Rattle.theory.specs.Pool.{words, entry, rightOf}
 use Rattle.theory.specs.Walk.{End, bad, decides, walk}
 use Rattle.theory.specs.Settled.{Together}
 use Rattle.table.specs.declared.Shape.{Shape}
+use Rattle.table.specs.declared.Deciding.{Deciding}
 use Rattle.table.specs.declared.Found.{Found}
-use Rattle.table.specs.declared.Found.the-variants.{Right, Refused}
+use Rattle.table.specs.declared.Found.the-variants.{By, Refused}
 use Rattle.table.specs.Shape.{fitsOf}
 use Rattle.table.specs.Map.{addresses, formOf}
 
@@ -24,14 +25,14 @@ pub record Numbers : Type 0 where
 
 -- A refusal is its number with all other results zero.
 abbrev pub numbers : Found → Numbers
-numbers (Right r w n) = record { refusal = 0; right = r; entry = w; loads = n }
+numbers (By x) = record { refusal = 0; right = x .right; entry = x .entry; loads = x .loads }
 numbers (Refused n) = record { refusal = n; right = 0; entry = 0; loads = 0 }
 
 -- What the end of a walk answers: 6 for a bad word, else what the deciding word says, after 1, 2 or 3 loads by its
 -- level.
 abbrev pub foundAt : Form → (ℕ → ℕ) → ℕ → End → Found
 foundAt F P a bad = Refused 6
-foundAt F P a (decides h k) = Right (F .says h (P k) a) (P k) (3 - h)
+foundAt F P a (decides h k) = By (record { right = F .says h (P k) a; entry = P k; loads = 3 - h })
 
 -- What a lookup of the address `a` for domain `d` answers.
 abbrev pub lookupOf : List ℕ → Shape → ℕ → ℕ → Found
@@ -45,5 +46,5 @@ lookupOf p s d a =
 -- A lookup answers `r`; and the deciding entry gives the table's right on every word of its whole block.
 pub record LooksUp (p : List ℕ) (s : Shape) (d a : ℕ) (r : Found) : Type 0 where
   pub answer : r ≡ lookupOf p s d a
-  pub block : (x w n : ℕ) → r ≡ Right x w n → (b : ℕ) → b < addresses → Together (formOf s) (3 - n) a b
-      → rightOf (formOf s) (words p) d b ≡ formOf s .says (3 - n) w b
+  pub block : (x : Deciding) → r ≡ By x → (b : ℕ) → b < addresses → Together (formOf s) (3 - x .loads) a b
+      → rightOf (formOf s) (words p) d b ≡ formOf s .says (3 - x .loads) (x .entry) b

@@ -71,8 +71,15 @@ pub enum Made {
     Refused(u32),
 }
 
+// The right that a lookup finds, the entry that decides it, and how many words were read.
+pub struct Deciding {
+    pub right: u32,
+    pub entry: u32,
+    pub loads: u32,
+}
+
 pub enum Found {
-    Right { right: u32, entry: u32, loads: u32 },
+    By(Deciding),
     Refused(u32),
 }
 
@@ -237,11 +244,12 @@ fn walk_down(pool: &[u32], shape: Shape, domain: u32, address: ByteAddr) -> Foun
             Entry::Rights(r) => {
                 let i = part_in(height, address);
                 let right = words::right_at(r, i);
-                return Found::Right {
+                let by = Deciding {
                     right,
                     entry: r,
                     loads,
                 };
+                return Found::By(by);
             }
             Entry::Leads(t, _) => {
                 height -= 1;

@@ -43,23 +43,25 @@ access c = sym (c .before .is-access .ensures) ∙ not-false _ (c .if4 .left)
 addr-number-requires : tie.Need-addr-number-requires
 addr-number-requires c κs = search needs
 
-rem-if5 : tie.Need-rem-if5
-rem-if5 c = let a = c .before .before .before .before .before .before .before .args in
+past-size-requires : tie.Need-past-size-requires
+past-size-requires c κs = let a = c .before .before .before .before .before .before .before .args in
     access-some (a .kind) (a .size) (access (c .before))
 
 returns-5 : tie.Need-returns-5
 returns-5 c =
-    let k = c .before .before in
+    let n = c .before .before .addr-number .ensures in
+    let k = c .before .before .before in
     let t = k .before .before in
     sym (refused-address _ _ _ _ _ _ _ (fits (t .before .before)) (t .before .if2 .left) (t .if3 .left) (access k)
-    (rw (c .before .addr-number .ensures) at (c .if5 .taken)))
+    (rw (c .before .past-size .ensures, n) at (c .if5 .taken)))
 
 returns-6 : tie.Need-returns-6
 returns-6 c =
-    let k = c .before .before in
+    let n = c .before .before .addr-number .ensures in
+    let k = c .before .before .before in
     let t = k .before .before in
     sym (not-refused _ _ _ _ _ _ _ (fits (t .before .before)) (t .before .if2 .left) (t .if3 .left) (access k)
-    (rw (c .before .addr-number .ensures) at (c .if5 .left)))
+    (rw (c .before .past-size .ensures, n) at (c .if5 .left)))
 
 pub refusal-spec : {M : Type 1} → statement M
 refusal-spec =
@@ -72,6 +74,6 @@ refusal-spec =
     is-access-requires
     returns-4
     addr-number-requires
-    rem-if5
+    past-size-requires
     returns-5
     returns-6)

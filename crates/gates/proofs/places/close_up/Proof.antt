@@ -1,66 +1,95 @@
--- `gates::places::close_up` meets its contract. The invariant: what is left to move gives the same list.
-use Prim.Native.Nat.{_<_, _-_}
+-- `gates::places::close_up` meets its contract. The invariant: the words are those of a list of gates, of which
+-- what is left to move gives the same list.
+use Prim.Native.Nat.{ℕ, _+_, _*_, _-_, _<_}
 use mathlib.Core.Path.{_≡_, refl, sym, ap, _∙_}
+use mathlib.Core.List.{List}
 use native.Mathlib.Omega.{arith}
 use borrow.Author.Needs.{needs}
-use lib.ListN.{length, length-set}
-use Rattle.gates.proofs.ListLaws.{unmapped, closed, closed-moved, closed-last}
+use lib.ListN.{length, getD, set, length-set}
+use lib.Seq.{sets}
+use Rattle.gates.specs.declared.GateAt.{GateAt}
+use Rattle.gates.specs.Gates.{noGate}
+use Rattle.gates.specs.Layout.{gateAt, gateWords, gatesOf}
+use Rattle.gates.proofs.ListLaws.{closed, closed-moved, closed-last}
+use Rattle.gates.proofs.LayoutLaws.{ofPlaces, gates-said, gates-words, places-long, gate-moved, count-stored}
 use Rattle.gates.proofs.places.close_up.Statement.{statement}
 use Rattle.gates.proofs.places.close_up.Tie as tie
 
 abbrev Inv-loop : tie.InvT-loop
-Inv-loop place n left last s₀ i₀ s i =
-    (i < s₀ .count) × (length (s .places) ≡ 64)
-    × (closed (s₀ .count) i (s .places) ≡ closed (s₀ .count) place (s₀ .places))
+Inv-loop ws₀ place n left last i₀ ws i =
+    (i < getD ws₀ 192 0) × (length ws ≡ 193) × (l : List GateAt) × (length l ≡ 64) × (ws ≡ ofPlaces l (getD ws₀ 192 0))
+    × (closed (getD ws₀ 192 0) i l ≡ closed (getD ws₀ 192 0) place (gatesOf ws₀ .places))
 
 abbrev μ-loop : tie.MeasureT-loop
-μ-loop place n left last s₀ i₀ s i = s₀ .count - i
+μ-loop ws₀ place n left last i₀ ws i = getD ws₀ 192 0 - i
+
+slice-read-n : tie.Need-slice-read-n Inv-loop μ-loop
+slice-read-n c = search needs
 
 sub-left : tie.Need-sub-left Inv-loop μ-loop
-sub-left c = search needs
+sub-left c = omega arith
 
 cast-last : tie.Need-cast-last Inv-loop μ-loop
-cast-last c = search needs
+cast-last c = omega arith
 
 loop-holds : tie.Need-loop-holds Inv-loop μ-loop
 loop-holds c =
-    let n : length (c .args .gates .places) ≡ 64 = search (needs, unmapped) in
-    (omega arith, n, refl)
+    let s = c .before .before in
+    let ws = s .args .ws .now in
+    (s .pre .1, s .pre .0, gatesOf ws .places, gates-said ws, sym (gates-words ws (s .pre .0)), refl)
 
 add-j : tie.Need-add-j Inv-loop μ-loop
 add-j c = omega arith
 
-mul-next : tie.Need-mul-next Inv-loop μ-loop
-mul-next c = search needs
+mul-move-gate : tie.Need-mul-move-gate Inv-loop μ-loop
+mul-move-gate c = omega arith
 
-element-copy-out-next : tie.Need-element-copy-out-next Inv-loop μ-loop
-element-copy-out-next c = omega arith
+mul-move-gate-2 : tie.Need-mul-move-gate-2 Inv-loop μ-loop
+mul-move-gate-2 c = omega arith
 
-mul-next-2 : tie.Need-mul-next-2 Inv-loop μ-loop
-mul-next-2 c = search needs
-
-element-set-from-next : tie.Need-element-set-from-next Inv-loop μ-loop
-element-set-from-next c = omega arith
+move-gate-requires : tie.Need-move-gate-requires Inv-loop μ-loop
+move-gate-requires c κs = (omega arith, omega arith)
 
 loop-less : tie.Need-loop-less Inv-loop μ-loop
 loop-less c = omega arith
 
 loop-again : tie.Need-loop-again Inv-loop μ-loop
 loop-again c =
-    let l = c .before .before in
-    let G = l .before .args .gates in (
+    let m = c .before .before in
+    let l = m .before .before .before in
+    let s = l .before .before .before in
+    let n = getD (s .args .ws .now) 192 0 in
+    let i = l .loop .i in
+    let (_, _, x, long, e, left) = l .loop .inv in
+    let y = set x i (getD x (i + 1) noGate) in
+    let k = length-set x i (getD x (i + 1) noGate) ∙ long in
+    let q = m .move-gate .ensures ∙ ap (λ (w : List ℕ). sets w (3 * i) (gateWords (gateAt w (3 * (i + 1))))) e
+    ∙ gate-moved x n i (i + 1) (omega arith) (omega arith) in (
       omega arith,
-      length-set (l .loop .s .places) (l .loop .i) _ ∙ l .loop .inv .1,
-      closed-moved _ (G .count) (l .loop .i) (l .loop .s .places) (omega arith) (omega arith) ∙ l .loop .inv .2,
+      ap length q ∙ places-long y n k,
+      y,
+      k,
+      q,
+      closed-moved noGate n i x (omega arith) (omega arith) ∙ left,
     )
+
+slice-write-ws : tie.Need-slice-write-ws Inv-loop μ-loop
+slice-write-ws c = omega arith
+
+same-length : tie.Need-same-length Inv-loop μ-loop
+same-length c =
+    let l = c .before in length-set (l .loop .ws) 192 _ ∙ l .loop .inv .1 ∙ sym (l .before .before .before .pre .0)
 
 returns : tie.Need-returns Inv-loop μ-loop
 returns c =
-    let G = c .before .before .args .gates in
-    let l = c .before .loop in
-    let e : G .count - 1 ≡ l .i = omega arith in
-    rw (sym (closed-last (G .count) (l .s .places) (omega arith) (omega arith))
-    ∙ ap (λ j. closed (G .count) j (l .s .places)) e ∙ l .inv .2)
+    let l = c .before in
+    let s = l .before .before .before in
+    let n = getD (s .args .ws .now) 192 0 in
+    let (_, _, x, long, e, left) = l .loop .inv in
+    let last : n - 1 ≡ l .loop .i = omega arith in
+    ap (λ (w : List ℕ). set w 192 (n - 1)) e ∙ count-stored x n (n - 1) long
+    ∙ ap (λ (y : List GateAt). ofPlaces y (n - 1))
+    (sym (closed-last n x (omega arith) (omega arith)) ∙ ap (λ (j : ℕ). closed n j x) last ∙ left)
 
 pub close-up-spec : {M : Type 1} → statement M
 close-up-spec =
@@ -68,14 +97,16 @@ close-up-spec =
     (tie.spec
     Inv-loop
     μ-loop
+    slice-read-n
     sub-left
     cast-last
     loop-holds
     add-j
-    mul-next
-    element-copy-out-next
-    mul-next-2
-    element-set-from-next
+    mul-move-gate
+    mul-move-gate-2
+    move-gate-requires
     loop-less
     loop-again
+    slice-write-ws
+    same-length
     returns)

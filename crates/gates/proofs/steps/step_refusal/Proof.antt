@@ -1,4 +1,4 @@
--- `gates::steps::step_refusal` meets its contract.
+-- `gates::steps::step_refusal` meets its contract. Assumes nothing.
 use Prim.Native.Nat.{_%_}
 use mathlib.Core.Bool.{cond, not, _&&_}
 use mathlib.Core.Path.{_≡_, sym, _∙_}
@@ -7,6 +7,7 @@ use borrow.Author.Needs.{needs}
 use lib.Dec.{eqb}
 use Rattle.gates.specs.Gates.{maxGates}
 use Rattle.gates.specs.Steps.{maxDepth, domainsKnown, stepRefusal}
+use Rattle.gates.specs.Layout.{gatesOf, stackOf}
 use Rattle.gates.proofs.steps.step_refusal.Statement.{statement}
 use Rattle.gates.proofs.steps.step_refusal.Tie as tie
 
@@ -17,38 +18,42 @@ returns : tie.Need-returns
 unfolding stepRefusal
 returns c = rw (sym (c .before .shape-fits .ensures) ∙ not-true _ (c .if1 .taken))
 
+shared-slice-read-count : tie.Need-shared-slice-read-count
+shared-slice-read-count c = search needs
+
 returns-2 : tie.Need-returns-2
 unfolding stepRefusal
 returns-2 c =
-    let a = c .before .before .before .args in
-    rw (
-      sym (c .before .before .shape-fits .ensures) ∙ not-false _ (c .before .if1 .left),
-      lt-ltb maxGates
-          (a .gates .count) (c .if2 .taken),
-    )
+    let e = c .before .before in
+    rw (sym (e .before .shape-fits .ensures) ∙ not-false _ (e .if1 .left), lt-ltb maxGates _ (c .if2 .taken))
+
+shared-slice-read-depth : tie.Need-shared-slice-read-depth
+shared-slice-read-depth c = search needs
 
 returns-3 : tie.Need-returns-3
 unfolding stepRefusal
 returns-3 c =
-    let a = c .before .before .before .before .args in
+    let g = c .before .before in
+    let e = g .before .before in
     rw (
-      sym (c .before .before .before .shape-fits .ensures) ∙ not-false _ (c .before .before .if1 .left),
-      le-ltb maxGates (a .gates .count) (c .before .if2 .left),
-      lt-ltb maxDepth (a .stack .depth) (c .if3 .taken),
+      sym (e .before .shape-fits .ensures) ∙ not-false _ (e .if1 .left),
+      le-ltb maxGates _ (g .if2 .left),
+      lt-ltb maxDepth _ (c .if3 .taken),
     )
 
 -- The shape and the counts are in order: what is left to refuse.
-counts : (c : tie.Else3) → let a = c .before .before .before .before .args in
-    stepRefusal (a .long) (a .shape) (a .gates) (a .stack) (a .address .0) (a .target .0)
-    ≡ cond (not (domainsKnown (a .gates) (a .stack) (a .shape .domains))) 2
+counts : (c : tie.Else3) → let a = c .before .before .before .before .before .before .before .before .args in
+    stepRefusal (a .long) (a .shape) (gatesOf (a .gates .now)) (stackOf (a .stack .now)) (a .address .0) (a .target .0)
+    ≡ cond (not (domainsKnown (gatesOf (a .gates .now)) (stackOf (a .stack .now)) (a .shape .domains))) 2
     (cond (not (eqb (a .address .0 % 4) 0 && eqb (a .target .0 % 4) 0)) 10 0)
 unfolding stepRefusal
 counts c =
-    let a = c .before .before .before .before .args in
+    let g = c .before .before in
+    let e = g .before .before in
     rw (
-      sym (c .before .before .before .shape-fits .ensures) ∙ not-false _ (c .before .before .if1 .left),
-      le-ltb maxGates (a .gates .count) (c .before .if2 .left),
-      le-ltb maxDepth (a .stack .depth) (c .if3 .left),
+      sym (e .before .shape-fits .ensures) ∙ not-false _ (e .if1 .left),
+      le-ltb maxGates _ (g .if2 .left),
+      le-ltb maxDepth _ (c .if3 .left),
     )
 
 domains-known-requires : tie.Need-domains-known-requires
@@ -110,7 +115,9 @@ step-refusal-spec =
     (tie.spec
     shape-fits-requires
     returns
+    shared-slice-read-count
     returns-2
+    shared-slice-read-depth
     returns-3
     domains-known-requires
     returns-4

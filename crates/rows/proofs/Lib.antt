@@ -1,0 +1,2 @@
+-- The laws of rows in words.
+pub mod RowLaws

@@ -1,0 +1,2 @@
+-- What rows in words are.
+pub mod Rows
