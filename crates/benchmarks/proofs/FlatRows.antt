@@ -31,7 +31,7 @@ use Rattle.table.proofs.LookupLaws.{lookup-walks}
 use Rattle.table.proofs.FreshLaws.{makes-fresh, one-fresh}
 use Rattle.table.proofs.FreshWordLaws.{fresh-word, fresh-settled}
 use Rattle.table.proofs.WantLaws.{divided-wants, pool-rights}
-use Rattle.places.specs.Count.{wantMiddle, Room}
+use Rattle.places.specs.Count.{want, Room}
 use Rattle.places.proofs.CountLaws.{count-less}
 use Rattle.places.proofs.ChangedLaws.{changed-rights}
 use Rattle.targets.specs.Paints.{region}
@@ -199,10 +199,10 @@ no-room-there room =
     (pool-rights (shape 0 0) (words pool) 0) in
     let here : T 0 0 ≡ 1 = aims-fresh (shape 0 0) less 1 0 0 (omega arith) (omega arith) in
     let there : T 0 524284 ≡ 0 = aims-fresh (shape 0 0) less 1 0 524284 (omega arith) (omega arith) in
-    let w : wantMiddle T 0 ≡ true = divided-wants (T 0) 2 0 S
+    let w : want T 1 0 ≡ true = divided-wants (T 0) 2 0 S
     (0, 524284, omega arith, omega arith, refl, refl, λ z. apart (sym here ∙ z ∙ there)) in
-    let x = count-less (wantMiddle T) 0 1024 (omega arith) w in
-    let y = room .middles in
+    let x = count-less (want T 1) 0 1024 (omega arith) w in
+    let y = room .tables 1 (omega arith) in
     omega arith
   where
     apart : _≡_ {A = ℕ} 1 0 → ⊥

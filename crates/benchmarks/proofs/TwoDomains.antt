@@ -13,15 +13,14 @@ use Rattle.theory.specs.Settled.{Settled, HasTable}
 use Rattle.words.specs.Region.{rounded, covered}
 use Rattle.words.specs.declared.Region.{Region}
 use Rattle.table.specs.declared.Shape.{Shape}
-use Rattle.table.specs.Shape.{Fits}
+use Rattle.table.specs.Shape.{Fits, places}
 use Rattle.table.specs.Map.{addresses, block, formOf}
 use Rattle.table.specs.Fresh.{freshPool}
 use Rattle.table.proofs.BlockLaws.{part-in-block}
 use Rattle.table.proofs.WantLaws.{wants-divided}
 use Rattle.table.proofs.FreshWordLaws.{fresh-right, fresh-settled}
-use Rattle.places.specs.Count.{count, Room}
+use Rattle.places.specs.Count.{count, Room, blocks, domainOf, addressOf, want}
 use Rattle.places.proofs.CountLaws.{count-into, count-all}
-use Rattle.places.specs.Final.{blocks, domainOf, addressOf, want}
 use Rattle.places.proofs.NumberLaws.{number-first}
 use Rattle.plan.proofs.AimLaws.{aimed-covered, aimed-other, change-misses}
 use Rattle.plan.specs.Aims.{Aim, changeAim, aimedAt}
@@ -77,7 +76,11 @@ module _ (R : ℕ → ℕ → ℕ) (none : (d b : ℕ) → d < 2 → b < address
       omega arith
 
   fits-two : Room two R
-  fits-two = record { middles = fit 1 (omega arith); leaves = fit 0 (omega arith) }
+  fits-two = record { tables = λ h hi. rw (two-of-each h hi) (fit h hi) }
+    where
+      two-of-each : (h : ℕ) → h < 2 → places two h ≡ 2
+      two-of-each zero hi = refl
+      two-of-each (suc h) hi = refl
 
 -- The change of a domain.
 abbrev aim : ℕ → Aim

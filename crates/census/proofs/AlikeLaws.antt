@@ -18,8 +18,8 @@ use Rattle.theory.proofs.Logic.{by-cases}
 use Rattle.table.specs.declared.Shape.{Shape}
 use Rattle.table.specs.declared.Entry.{Entry}
 use Rattle.table.specs.declared.Entry.the-variants.{Rights, Leads, Bad}
-use Rattle.table.specs.Shape.{Fits}
-use Rattle.table.specs.Map.{size, leads, formOf}
+use Rattle.table.specs.Shape.{Fits, size}
+use Rattle.table.specs.Map.{leads, formOf}
 use Rattle.table.specs.Entries.{decodeOf}
 use Rattle.table.proofs.EntryLaws.{decoded-bad, decoded-rights, decoded-leads}
 use Rattle.census.specs.Places.{maxPlaces, placeWord}

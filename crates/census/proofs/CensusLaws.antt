@@ -16,10 +16,11 @@ use Rattle.theory.specs.Check as Check
 use Rattle.theory.proofs.Logic.{by-cases, and-both}
 use Rattle.theory.proofs.CheckLaws.{CheckedPool, roots-check-sound, sound-roots-check}
 use Rattle.table.specs.declared.Shape.{Shape}
-use Rattle.table.specs.Shape.{Fits, firstPlace}
-use Rattle.table.specs.Map.{size, leads, formOf}
+use Rattle.table.specs.Shape.{Fits, firstPlace, size}
+use Rattle.table.specs.Map.{leads, formOf}
 use Rattle.table.proofs.FormLaws.{lawful}
-use Rattle.places.specs.Final.{blocks, entryOf, oldMiddle, old}
+use Rattle.places.specs.Count.{blocks}
+use Rattle.places.specs.Final.{entryOf, old}
 use Rattle.places.proofs.OldLaws.{old-one}
 use Rattle.census.specs.Places.{maxPlaces, placeHeight, placeWord}
 use Rattle.census.proofs.PlaceLaws.{hasPlace, place-kinds, led-place}
@@ -35,7 +36,7 @@ place-low s n = ⊎-elim (λ x. omega (arith, x .height)) (λ x. omega (arith, x
 pub old-reached : (p : List ℕ) (s : Shape) (h i : ℕ) → h < 2 → i < blocks h * s .domains → old (words p) h i ≡ true
     → Reached p s (suc h) (entryOf (words p) h i) × (leads (suc h) (words p (entryOf (words p) h i)) ≡ true)
 old-reached p s zero i hi b o =
-    let (m, l) = and-both (oldMiddle (words p) (i / 1024)) (ltb (words p (entryOf (words p) 0 i)) 2147483648) o in (
+    let (m, l) = and-both (leads 2 (words p (i / 1024))) (leads 1 (words p (entryOf (words p) 0 i))) o in (
       step (i % 1024) (start {j = i / 1024} (
         i / 1024 / 1024,
         i / 1024 % 1024,

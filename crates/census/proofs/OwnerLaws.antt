@@ -10,9 +10,10 @@ use lib.ListN.{length, getD}
 use borrow.Author.Tests.{eq-eqb, ne-eqb}
 use Rattle.theory.specs.Pool.{words, SoundPool}
 use Rattle.table.specs.declared.Shape.{Shape}
-use Rattle.table.specs.Shape.{Fits, firstPlace, places}
-use Rattle.table.specs.Map.{size, formOf}
-use Rattle.places.specs.Final.{blocks, entryOf, old, was, placeAt}
+use Rattle.table.specs.Shape.{Fits, firstPlace, places, size}
+use Rattle.table.specs.Map.{formOf}
+use Rattle.places.specs.Count.{blocks}
+use Rattle.places.specs.Final.{entryOf, old, was, placeAt}
 use Rattle.places.proofs.OldLaws.{old-at}
 use Rattle.places.proofs.OldLaws as Old
 use Rattle.census.specs.Places.{placeHeight, firstNumber}

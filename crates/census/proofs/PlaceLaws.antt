@@ -11,8 +11,8 @@ use Rattle.theory.proofs.Logic.{by-cases}
 use Rattle.words.specs.declared.PoolWord.{PoolWord}
 use Rattle.table.specs.declared.Shape.{Shape}
 use Rattle.table.specs.declared.Entry.the-variants.{Leads, Bad}
-use Rattle.table.specs.Shape.{InRange, maxMiddles, poolLength, firstPlace, places}
-use Rattle.table.specs.Map.{isPlace, size, leads, formOf}
+use Rattle.table.specs.Shape.{InRange, maxMiddles, poolLength, firstPlace, places, size}
+use Rattle.table.specs.Map.{isPlace, leads, formOf}
 use Rattle.table.specs.Entries.{leadsTo, decodeOf}
 use Rattle.table.proofs.FormLaws.{leads-place}
 use Rattle.table.proofs.EntryLaws.{bad-leads, decode-middle, decode-root, decoded-leads}

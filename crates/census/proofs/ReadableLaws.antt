@@ -13,8 +13,8 @@ use Rattle.words.specs.declared.PoolWord.{PoolWord}
 use Rattle.words.specs.Rights.{rightAt}
 use Rattle.table.specs.declared.Shape.{Shape}
 use Rattle.table.specs.declared.Entry.the-variants.{Rights, Leads, Bad}
-use Rattle.table.specs.Shape.{Fits}
-use Rattle.table.specs.Map.{size, index, part, parts, leads, formOf}
+use Rattle.table.specs.Shape.{Fits, size}
+use Rattle.table.specs.Map.{index, part, parts, leads, formOf}
 use Rattle.table.specs.Entries.{decodeOf}
 use Rattle.table.proofs.EntryLaws.{index-below, decoded-bad, decoded-rights, decoded-leads}
 use Rattle.census.specs.Places.{InUse}

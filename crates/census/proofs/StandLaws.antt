@@ -8,7 +8,8 @@ use native.Mathlib.Omega.{arith}
 use Rattle.theory.specs.Pool.{words}
 use Rattle.table.specs.declared.Shape.{Shape}
 use Rattle.table.specs.Map.{leads}
-use Rattle.places.specs.Final.{blocks, entryOf, old}
+use Rattle.places.specs.Count.{blocks}
+use Rattle.places.specs.Final.{entryOf, old}
 use Rattle.census.specs.Places.{placeHeight, placeWord}
 use Rattle.census.proofs.PlaceLaws.{PlaceAt}
 use Rattle.census.specs.Tally.{none}

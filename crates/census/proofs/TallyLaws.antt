@@ -11,12 +11,12 @@ use Rattle.words.specs.Rights.{goodRights}
 use Rattle.words.specs.declared.PoolWord.{PoolWord}
 use Rattle.words.proofs.RightsLaws.{good-range}
 use Rattle.table.specs.declared.Shape.{Shape}
-use Rattle.table.specs.Map.{size}
+use Rattle.table.specs.Shape.{size}
 use Rattle.table.specs.declared.Entry.{Entry}
 use Rattle.table.specs.declared.Entry.the-variants.{Rights, Leads, Bad}
 use Rattle.table.specs.Entries.{decodeOf}
 use Rattle.table.proofs.EntryLaws.{decode-rights}
-use Rattle.places.specs.Final.{blocks}
+use Rattle.places.specs.Count.{blocks}
 use Rattle.census.specs.Places.{firstNumber}
 use Rattle.census.specs.Tally.{Tally, refused, owned, andThen, give, enter, through, tableTally, entryTally}
 use Rattle.census.specs.Tally.{rootsTally, Answers, tables}

@@ -8,7 +8,8 @@ use lib.ListN.{length, getD}
 use Rattle.theory.specs.Pool.{words, SoundPool}
 use Rattle.table.specs.declared.Shape.{Shape}
 use Rattle.table.specs.Map.{formOf}
-use Rattle.places.specs.Final.{blocks, entryOf, old}
+use Rattle.places.specs.Count.{blocks}
+use Rattle.places.specs.Final.{entryOf, old}
 use Rattle.census.specs.Places.{maxPlaces, placeHeight, placeWord}
 use Rattle.census.specs.Tally.{none}
 

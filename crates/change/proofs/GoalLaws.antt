@@ -17,14 +17,12 @@ use Rattle.theory.proofs.Logic.{by-cases}
 use Rattle.words.specs.Region.{covered}
 use Rattle.words.specs.declared.Region.{Region}
 use Rattle.table.proofs.WantLaws.{pool-rights}
-use Rattle.places.specs.Count.{wantMiddle, wantLeaf, Room}
+use Rattle.places.specs.Count.{Room}
+use Rattle.places.specs.Final.{final, keptWord}
 use Rattle.places.proofs.ChangedLaws.{changed-rights}
-use Rattle.places.proofs.Exists.{sound-fits}
-use Rattle.places.specs.Final.{oldMiddle, oldLeaf, wasMiddle, wasLeaf, final, keptWord}
+use Rattle.places.proofs.Exists.{sound-fits, all-owners}
 use Rattle.places.proofs.FinalLaws.{final-finished}
 use Rattle.places.proofs.FinalWordLaws.{final-past}
-use Rattle.places.proofs.KeepLaws.{owners}
-use Rattle.places.proofs.OldLaws.{old-one, old-below}
 use Rattle.places.proofs.TellsLaws.{final-tells}
 use Rattle.targets.specs.Paints.{noPaint}
 use Rattle.plan.specs.Aims.{Aim, aimOf, changeAim, noAim, aimedAt, Goal}
@@ -44,19 +42,14 @@ pub fits-goal : (s : Shape) (A : Aim) (p : List ℕ) → SetsRights s A p → Fi
 fits-goal s A p S fits sP room =
     let P = words p in
     let R = aimedAt s A P in
-    let (fM, middle, OM) = owners (1024 * s .domains) (s .middles) (wantMiddle R) (oldMiddle P) (wasMiddle s P)
-    (old-one s sP 1 (omega arith))
-    (old-below s sP 1 (omega arith)) (room .middles) in
-    let (fL, leaf, OL) = owners (1048576 * s .domains) (s .leaves) (wantLeaf R) (oldLeaf P) (wasLeaf s P)
-    (old-one s sP 0 (omega arith))
-    (old-below s sP 0 (omega arith)) (room .leaves) in (
-      final s middle leaf R P,
-      keptWord s fM fL,
+    let (free, owner, O) = all-owners s sP room in (
+      final s owner R P,
+      keptWord s free,
       record {
         sound = sP;
-        finished = final-finished s (fits .range) S sP middle leaf fM fL OM OL (λ j. refl);
-        tells = final-tells s (fits .range) S sP middle leaf fM fL OM OL (λ j. refl);
-        beyond = λ k h. final-past s middle leaf R P k (rw (fits .long) at h);
+        finished = final-finished s (fits .range) S sP owner free O (λ j. refl);
+        tells = final-tells s (fits .range) S sP owner free O (λ j. refl);
+        beyond = λ k h. final-past s owner R P k (rw (fits .long) at h);
       },
     )
 

@@ -59,7 +59,7 @@ plan-ready p s d paint q f t bd g r =
       blocks = let z = g .some in rw (e .first-block .number, e .last-block .number) (omega arith);
       pages = let z = g .some in rw (e .first-page .number, e .last-page .number) (omega arith);
     })
-    (planned s d paint p f t bd g (r .free-middle) (r .free-leaf) (r .middles) (r .leaves) q e)
+    (planned s d paint p f t bd g (r .free) (r .placed) q e)
 
 pub planning-ready : (p : List ℕ) (s : Shape) (d : ℕ) (paint : Paint) (r : Planning) (q : Plan)
     → PlansChange s d paint (words p) r → r ≡ Planned-as q

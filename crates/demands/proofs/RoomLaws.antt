@@ -65,7 +65,7 @@ region-by-room {s = s} t (cut y q z) = is-cut (finished-fits s (z .cut .finished
 
 pub settled-by-room : {p : List ℕ} {s : Shape} {d start len r n : ℕ} {g : Region} {c : Answer} {q : List ℕ}
     → Settled (formOf s) (words p) → Asked p s d start len r g → Changes p s d start len r n c q
-        → ByRoom s p (changeAim d g r) c
+    → ByRoom s p (changeAim d g r) c
 settled-by-room t a x = region-by-room t (asked-region a x)
 
 -- The same, number by number.

@@ -13,8 +13,8 @@ use Rattle.words.specs.declared.PoolWord.{PoolWord}
 use Rattle.words.proofs.RightsLaws.{eight-right, sixteen-right, right-small}
 use Rattle.table.specs.declared.Shape.{Shape}
 use Rattle.table.specs.declared.Entry.the-variants.{Rights, Leads, Bad}
-use Rattle.table.specs.Shape.{Fits}
-use Rattle.table.specs.Map.{part, parts, size, index, formOf}
+use Rattle.table.specs.Shape.{Fits, size}
+use Rattle.table.specs.Map.{part, parts, index, formOf}
 use Rattle.table.specs.Wants.{wordsIn}
 use Rattle.table.specs.Entries.{decodeOf}
 use Rattle.table.proofs.BlockLaws.{first-word}

@@ -9,8 +9,8 @@ use lib.ListN.{length}
 use Rattle.theory.specs.Pool.{words, Reach, SoundPool, Roots, right}
 use Rattle.words.specs.Rights.{rightAt, eightOf, sixteenOf}
 use Rattle.table.specs.declared.Shape.{Shape}
-use Rattle.table.specs.Shape.{Fits}
-use Rattle.table.specs.Map.{block, part, parts, size, index, formOf}
+use Rattle.table.specs.Shape.{Fits, size}
+use Rattle.table.specs.Map.{block, part, parts, index, formOf}
 use Rattle.table.specs.Wants.{wordsIn}
 use Rattle.listing.specs.declared.Level.{Level}
 use Rattle.listing.specs.Runs.{memoryWords}

@@ -16,7 +16,8 @@ use Rattle.table.specs.declared.Shape.{Shape}
 use Rattle.table.specs.declared.Deciding.{Deciding}
 use Rattle.table.specs.declared.Found.{Found}
 use Rattle.table.specs.declared.Found.the-variants.{By, Refused as NotFound}
-use Rattle.table.specs.Map.{addresses, block, size, formOf}
+use Rattle.table.specs.Shape.{size}
+use Rattle.table.specs.Map.{addresses, block, formOf}
 use Rattle.table.specs.Lookup.{lookupOf}
 use Rattle.table.proofs.LookupLaws.{right-block}
 use Rattle.lookaside.specs.declared.Slot.{Slot}

@@ -1,7 +1,7 @@
 -- There is a finished pool exactly where the rights need no more tables than there are places; and there is one.
 use Prim.Native.Nat.{ℕ, zero, suc, _*_, _≤_, _<_}
 use mathlib.Core.Path.{_≡_, refl, sym, ap, _∙_}
-use mathlib.Core.Bool.{true, true≢false}
+use mathlib.Core.Bool.{Bool, true, true≢false}
 use native.Mathlib.Omega.{arith}
 use native.Mathlib.Decide.{decLe}
 use Rattle.theory.specs.Form.{Form}
@@ -18,11 +18,12 @@ use Rattle.table.specs.Map.{addresses, formOf}
 use Rattle.table.specs.Wants.{WordRights}
 use Rattle.table.proofs.FormLaws.{lawful, exact}
 use Rattle.table.proofs.WantLaws.{wants-divided, divided-wants, wanting, pool-rights}
-use Rattle.places.specs.Count.{count, wantMiddle, wantLeaf, Room, changed}
+use Rattle.places.specs.Count.{count, heights, blocks, domainOf, addressOf, want, Room, changed}
+use Rattle.places.specs.Final.{number, old, was, AllOwned, final}
 use Rattle.places.proofs.CountLaws.{count-into, count-all}
 use Rattle.places.proofs.KeepLaws.{owners}
-use Rattle.places.specs.Final.{blocks, number, domainOf, addressOf, want, oldMiddle, oldLeaf, old, wasMiddle}
-use Rattle.places.specs.Final.{wasLeaf, was, final}
+use Rattle.places.proofs.HeightLaws.{choose, dec-heights}
+use Rattle.places.specs.Owners.{Owned}
 use Rattle.places.proofs.NumberLaws.{number-below, number-first, want-number}
 use Rattle.places.proofs.OldLaws.{led-old, old-led, old-below, old-one}
 use Rattle.places.proofs.FinalLaws.{final-finished}
@@ -53,7 +54,7 @@ module _ (s : Shape) {R : ℕ → ℕ → ℕ} {Q : ℕ → ℕ}
       omega arith
 
   pub sound-fits : SoundPool (formOf s) Q → Room s R
-  sound-fits q = record { middles = tables-fit q 1 (omega arith); leaves = tables-fit q 0 (omega arith) }
+  sound-fits q = record { tables = tables-fit q }
 
   -- A settled pool has exactly those tables.
   module _ (S : (d : ℕ) → d < s .domains → WordRights (R d)) (q : Settled (formOf s) Q) where
@@ -73,55 +74,49 @@ module _ (s : Shape) {R : ℕ → ℕ → ℕ} {Q : ℕ → ℕ}
             (wanting s .same (suc h) a (rightOf (formOf s) Q d) (R d) (λ b bb. same d b bd bb)
             (q .wanted bd ba hi (_, old-led s Q d a ba h hi (ap (old Q h) e ∙ o))))
 
-    pub settled-middle : (i : ℕ) → i < 1024 * s .domains → oldMiddle Q i ≡ wantMiddle R i
-    settled-middle i bi = settled-table 1 i (omega arith) bi
-
-    pub settled-leaf : (i : ℕ) → i < 1048576 * s .domains → oldLeaf Q i ≡ wantLeaf R i
-    settled-leaf i bi = settled-table 0 i (omega arith) bi
-
 -- Whether tables fit is decided.
 pub fits-dec : (s : Shape) (R : ℕ → ℕ → ℕ) → Dec (Room s R)
-fits-dec s R = elim (decLe (count (wantMiddle R) (1024 * s .domains)) (s .middles)) [
-  | yes m ↦ elim (decLe (count (wantLeaf R) (1048576 * s .domains)) (s .leaves)) [
-    | yes l ↦ yes (record { middles = m; leaves = l })
-    | no l ↦ no (λ f. l (f .leaves))
-  ]
-  | no m ↦ no (λ f. m (f .middles))
+fits-dec s R = elim (dec-heights (λ h. count (want R h) (blocks h * s .domains) ≤ places s h) (λ h. decLe _ _)) [
+  | yes f ↦ yes (record { tables = f })
+  | no f ↦ no (λ r. f (r .tables))
 ]
 
 -- A finished pool shows that the tables fit ..
 pub finished-fits : (s : Shape) {R : ℕ → ℕ → ℕ} {P Q : ℕ → ℕ} → Finished (formOf s) P R Q → Room s R
 finished-fits s f = sound-fits s (f .rights) (f .settled .sound)
 
--- .. and where they fit, there is one.
+-- .. and where they fit, all tables find their places ..
+pub all-owners : (s : Shape) {R : ℕ → ℕ → ℕ} {P : ℕ → ℕ} → SoundPool (formOf s) P → Room s R
+    → (free : ℕ → ℕ → Bool) × (owner : ℕ → ℕ → ℕ) × AllOwned s R P free owner
+all-owners s {R} {P} sP fits =
+    let (f, O) = choose {A = (ℕ → Bool) × (ℕ → ℕ)}
+    (λ h x. Owned (blocks h * s .domains) (places s h) (want R h) (old P h) (x .0) (was s P h) (x .1))
+    ((λ p. true), (λ p. p))
+    (λ h hi.
+    let (free, owner, o) = owners (blocks h * s .domains) (places s h) (want R h) (old P h) (was s P h)
+    (old-one s sP h hi) (old-below s sP h hi) (fits .tables h hi) in
+    ((free, owner), o)) in
+    ((λ h. f h .0), (λ h. f h .1), O)
+
+-- .. so there is one.
 pub exists-finished : (s : Shape) → InRange s → {R : ℕ → ℕ → ℕ} → ((d : ℕ) → d < s .domains → WordRights (R d))
     → {P : ℕ → ℕ}
     → SoundPool (formOf s) P → Room s R → (Q : ℕ → ℕ) × Finished (formOf s) P R Q
 exists-finished s range {R} S {P} sP fits =
-    let (fM, middle, OM) = owners (1024 * s .domains) (s .middles) (wantMiddle R) (oldMiddle P) (wasMiddle s P)
-    (old-one s sP 1 (omega arith))
-    (old-below s sP 1 (omega arith)) (fits .middles) in
-    let (fL, leaf, OL) = owners (1048576 * s .domains) (s .leaves) (wantLeaf R) (oldLeaf P) (wasLeaf s P)
-    (old-one s sP 0 (omega arith))
-    (old-below s sP 0 (omega arith)) (fits .leaves) in
-    (final s middle leaf R P, final-finished s range S sP middle leaf fM fL OM OL (λ j. refl))
+    let (free, owner, O) = all-owners s sP fits in
+    (final s owner R P, final-finished s range S sP owner free O (λ j. refl))
 
 -- A sound pool each of whose tables is wanted is settled.
 module _ (s : Shape) {Q : ℕ → ℕ} (sQ : SoundPool (formOf s) Q)
-    (middle : (i : ℕ) → i < 1024 * s .domains → oldMiddle Q i ≡ true → wantMiddle (rightOf (formOf s) Q) i ≡ true)
-    (leaf : (i : ℕ) → i < 1048576 * s .domains → oldLeaf Q i ≡ true → wantLeaf (rightOf (formOf s) Q) i ≡ true) where
-  old-wanted : (h i : ℕ) → h < 2 → i < blocks h * s .domains → old Q h i ≡ true → want (rightOf (formOf s) Q) h i ≡ true
-  old-wanted zero i hi bi o = leaf i bi o
-  old-wanted (suc zero) i hi bi o = middle i bi o
-  old-wanted (suc (suc h)) i hi bi o = absurd (omega arith)
-
+    (old-wanted : (h : ℕ) → h < heights → (i : ℕ) → i < blocks h * s .domains → old Q h i ≡ true
+    → want (rightOf (formOf s) Q) h i ≡ true) where
   pub wanted-settled : Settled (formOf s) Q
   wanted-settled = record {
     sound = sQ;
     wanted = λ {d} {a} {h} bd ba hi (t, x).
         wants-divided (rightOf (formOf s) Q d) (suc h) a ba
         (sym (want-number (rightOf (formOf s) Q) h d a hi ba)
-        ∙ old-wanted h (number h d a) hi (number-below h (s .domains) d a hi bd ba) (led-old s Q d a ba h t x .0));
+        ∙ old-wanted h hi (number h d a) (number-below h (s .domains) d a hi bd ba) (led-old s Q d a ba h t x .0));
     there = λ {d} {a} {h} bd ba hi x. wants-table (formOf s) (wanting s) (lawful s) sQ d a bd ba h hi x;
   }
 

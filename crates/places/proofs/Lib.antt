@@ -2,6 +2,7 @@ pub mod CountLaws
 pub mod OwnedLaws
 pub mod HandLaws
 pub mod KeepLaws
+pub mod HeightLaws
 pub mod NumberLaws
 pub mod OldLaws
 pub mod SameLaws

@@ -6,10 +6,12 @@ use mathlib.Core.Logic.{inl, inr}
 use native.Mathlib.Omega.{arith}
 use native.Mathlib.Nat.{add-zero}
 use Rattle.theory.specs.Finished.{Before}
-use Rattle.table.specs.Map.{addresses, block, size, index}
+use Rattle.table.specs.Shape.{size}
+use Rattle.table.specs.Map.{addresses, block, index}
 use Rattle.table.specs.Wants.{wantsOf, saidOf}
 use Rattle.table.proofs.WantLaws.{wants-block, said-block}
-use Rattle.places.specs.Final.{blocks, number, domainOf, addressOf, want}
+use Rattle.places.specs.Count.{blocks, domainOf, addressOf, want}
+use Rattle.places.specs.Final.{number}
 
 pub number-below : (h D d a : ℕ) → h < 2 → d < D → a < addresses → number h d a < blocks h * D
 number-below zero D d a hi bd ba = omega arith

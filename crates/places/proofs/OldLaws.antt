@@ -4,18 +4,17 @@ use Prim.Native.Nat.{ℕ, zero, suc, _+_, _*_, _-_, _/_, _≤_, _<_}
 use mathlib.Core.Path.{_≡_, refl, sym, ap, _∙_}
 use mathlib.Core.Bool.{true, false, _&&_}
 use native.Mathlib.Omega.{arith}
-use lib.Dec.{ltb}
 use Rattle.theory.specs.Pool.{SoundPool, Visits, here, next, entry, Led}
 use Rattle.theory.proofs.Logic.{by-cases, and-both}
 use Rattle.theory.proofs.BlockLaws.{one-word, one-owner, led-low}
 use Rattle.theory.proofs.FinishedLaws.{led-place}
 use Rattle.table.specs.declared.Shape.{Shape}
-use Rattle.table.specs.Map.{addresses, size, index, formOf}
+use Rattle.table.specs.Map.{addresses, index, leads, formOf}
 use Rattle.table.proofs.BlockLaws.{together-block}
-use Rattle.table.specs.Shape.{firstPlace, places}
+use Rattle.table.specs.Shape.{firstPlace, places, size}
 use Rattle.table.proofs.FormLaws.{leads-place, lawful}
-use Rattle.places.specs.Final.{blocks, number, domainOf, addressOf, entryOf, oldMiddle, oldLeaf, old, was}
-use Rattle.places.specs.Final.{placeAt}
+use Rattle.places.specs.Count.{blocks, domainOf, addressOf}
+use Rattle.places.specs.Final.{number, entryOf, old, was, placeAt}
 use Rattle.places.proofs.NumberLaws.{number-first, page-block, root-number}
 
 -- Places are numbered in order.
@@ -40,15 +39,14 @@ module _ (s : Shape) (P : ℕ → ℕ) (d a : ℕ) (ba : a < addresses) where
   page-entry : entryOf P 0 (number 0 d a) ≡ P (number 1 d a) + index 1 a
   page-entry = rw (page-block d a ba .0, page-block d a ba .1)
 
-  page-old : oldLeaf P (number 0 d a) ≡ (oldMiddle P (number 1 d a)
-      && ltb (P (P (number 1 d a) + index 1 a)) 2147483648)
+  page-old : old P 0 (number 0 d a) ≡ (old P 1 (number 1 d a) && leads 1 (P (P (number 1 d a) + index 1 a)))
   page-old = rw (page-block d a ba .0, page-block d a ba .1)
 
   root-visits : Visits (formOf s) P a 2 (entry (formOf s) d a) 2 (number 1 d a)
   root-visits = rw (root-number d a ba) here
 
   page-visits : {m k : ℕ} → Visits (formOf s) P a 2 (entry (formOf s) d a) m k → m ≡ 1
-      → (oldMiddle P (number 1 d a) ≡ true) × (k ≡ P (number 1 d a) + index 1 a)
+      → (old P 1 (number 1 d a) ≡ true) × (k ≡ P (number 1 d a) + index 1 a)
   page-visits here e = absurd (omega arith)
   page-visits (next {m} {j} v l) e =
       let x : j ≡ number 1 d a = one-word (formOf s) P v root-visits (ap suc e) in
@@ -60,7 +58,7 @@ module _ (s : Shape) (P : ℕ → ℕ) (d a : ℕ) (ba : a < addresses) where
       × (P (entryOf P h (number h d a)) ≡ t)
   led-old zero t (k, v, l, e) =
       let (o, x) = page-visits v refl in
-      let y : ltb (P (P (number 1 d a) + index 1 a)) 2147483648 ≡ true = rw x at l in
+      let y : leads 1 (P (P (number 1 d a) + index 1 a)) ≡ true = rw x at l in
       (page-old ∙ rw (o, y) refl, ap P (page-entry ∙ sym x) ∙ e)
   led-old (suc zero) t (k, v, l, e) =
       let x : k ≡ number 1 d a = one-word (formOf s) P v root-visits refl in
@@ -71,7 +69,7 @@ module _ (s : Shape) (P : ℕ → ℕ) (d a : ℕ) (ba : a < addresses) where
   pub old-led : (h : ℕ) → h < 2 → old P h (number h d a) ≡ true → Led (formOf s) P d a h
       (P (entryOf P h (number h d a)))
   old-led zero hi o =
-      let (x, y) = and-both (oldMiddle P (number 1 d a)) (ltb (P (P (number 1 d a) + index 1 a)) 2147483648)
+      let (x, y) = and-both (old P 1 (number 1 d a)) (leads 1 (P (P (number 1 d a) + index 1 a)))
       (sym page-old ∙ o) in
       (P (number 1 d a) + index 1 a, next root-visits x, y, ap P (sym page-entry))
   old-led (suc zero) hi o = (number 1 d a, root-visits, o, refl)

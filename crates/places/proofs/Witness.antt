@@ -10,9 +10,9 @@ use Rattle.table.specs.Map.{addresses, formOf}
 use Rattle.table.specs.Wants.{WordRights}
 use Rattle.table.proofs.WantLaws.{divided-wants, none-rights, painted-rights, wanting}
 use Rattle.table.proofs.Witness.{shape, painted, after, two-of-each-finished, MadeAt, two-of-each-made}
-use Rattle.places.specs.Count.{wantMiddle, wantLeaf, Room}
+use Rattle.places.specs.Count.{want, Room}
+use Rattle.places.specs.Final.{number}
 use Rattle.places.proofs.CountLaws.{count-less}
-use Rattle.places.specs.Final.{number, want}
 use Rattle.places.proofs.NumberLaws.{want-number}
 use Rattle.places.proofs.Exists.{finished-fits}
 
@@ -30,18 +30,18 @@ made-wanted a h t hi (bd, ba, x, _) =
 
 pub one-middle-too-few : Room (record { domains = 1; middles = 1; leaves = 2 }) painted → ⊥
 one-middle-too-few f =
-    let x = count-less (wantMiddle painted) 0 1 (omega arith)
+    let x = count-less (want painted 1) 0 1 (omega arith)
     (made-wanted 0x3FFFFC 1 1024 (omega arith) (two-of-each-made .0)) in
-    let y = count-less (wantMiddle painted) 1 1024 (omega arith)
+    let y = count-less (want painted 1) 1 1024 (omega arith)
     (made-wanted 0x400000 1 2048 (omega arith) (two-of-each-made .1)) in
-    let z = f .middles in
+    let z = f .tables 1 (omega arith) in
     omega arith
 
 pub one-leaf-too-few : Room (record { domains = 1; middles = 2; leaves = 1 }) painted → ⊥
 one-leaf-too-few f =
-    let x = count-less (wantLeaf painted) 1023 1024 (omega arith)
+    let x = count-less (want painted 0) 1023 1024 (omega arith)
     (made-wanted 0x3FFFFC 0 3072 (omega arith) (two-of-each-made .2)) in
-    let y = count-less (wantLeaf painted) 1024 1048576 (omega arith)
+    let y = count-less (want painted 0) 1024 1048576 (omega arith)
     (made-wanted 0x400000 0 3136 (omega arith) (two-of-each-made .3)) in
-    let z = f .leaves in
+    let z = f .tables 0 (omega arith) in
     omega arith

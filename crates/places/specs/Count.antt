@@ -1,10 +1,12 @@
 -- How many tables rights need, and the rights after a change.
-use Prim.Native.Nat.{ℕ, zero, suc, _+_, _*_, _/_, _%_, _≤_}
+use Prim.Native.Nat.{ℕ, zero, suc, _+_, _*_, _/_, _%_, _≤_, _<_}
 use mathlib.Core.Bool.{Bool, cond, _&&_}
 use lib.Dec.{eqb}
 use Rattle.words.specs.Region.{covered}
 use Rattle.words.specs.declared.Region.{Region}
 use Rattle.table.specs.declared.Shape.{Shape}
+use Rattle.table.specs.Shape.{places}
+use Rattle.table.specs.Map.{block}
 use Rattle.table.specs.Wants.{wantsOf}
 
 -- Of the numbers below `n`, how many pass the test `f`.
@@ -12,19 +14,31 @@ unfoldable pub count : (ℕ → Bool) → ℕ → ℕ
 count f zero = 0
 count f (suc n) = count f n + cond (f n) 1 0
 
--- Blocks are numbered over all domains, in order of domain and address.
--- With the rights `R`, 4 MB block `i` (of the 1,024 of each domain) wants a middle table ..
-abbrev pub wantMiddle : (ℕ → ℕ → ℕ) → ℕ → Bool
-wantMiddle R i = wantsOf (R (i / 1024)) 2 (i % 1024 * 4194304)
+-- The tables below this height stand at places: leaves, of height 0, and middle tables, of height 1.
+abbrev pub heights : ℕ
+heights = 2
 
--- .. and page `i` (of the 1,048,576 of each domain) wants a leaf.
-abbrev pub wantLeaf : (ℕ → ℕ → ℕ) → ℕ → Bool
-wantLeaf R i = wantsOf (R (i / 1048576)) 1 (i % 1048576 * 4096)
+-- How many blocks of a domain may have a table of height `h`: 1,048,576 pages a leaf, 1,024 blocks of 4 MB a middle
+-- table.
+abbrev pub blocks : ℕ → ℕ
+blocks zero = 1048576
+blocks (suc h) = 1024
 
--- The rights `R` need no more than M middle tables and L leaves, over all D domains.
+-- These blocks are numbered over all domains, in order of domain and address: the domain of block `i` ..
+abbrev pub domainOf : ℕ → ℕ → ℕ
+domainOf h i = i / blocks h
+
+-- .. and its first address.
+abbrev pub addressOf : ℕ → ℕ → ℕ
+addressOf h i = i % blocks h * block (suc h)
+
+-- With the rights `R`, block `i` wants a table of height `h`.
+abbrev pub want : (ℕ → ℕ → ℕ) → ℕ → ℕ → Bool
+want R h i = wantsOf (R (domainOf h i)) (suc h) (addressOf h i)
+
+-- At each height the rights `R` want no more tables, over all domains, than there are places.
 pub record Room (s : Shape) (R : ℕ → ℕ → ℕ) : Type 0 where
-  pub middles : count (wantMiddle R) (1024 * s .domains) ≤ s .middles
-  pub leaves : count (wantLeaf R) (1048576 * s .domains) ≤ s .leaves
+  pub tables : (h : ℕ) → h < heights → count (want R h) (blocks h * s .domains) ≤ places s h
 
 -- The rights after a change: domain `e` has the right `r` on the covered words, and all else is as in `R`.
 abbrev pub changed : (ℕ → ℕ → ℕ) → ℕ → Region → ℕ → ℕ → ℕ → ℕ

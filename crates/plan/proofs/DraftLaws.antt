@@ -18,7 +18,7 @@ use Rattle.table.specs.Shape.{Fits}
 use Rattle.table.specs.Map.{addresses, block, formOf}
 use Rattle.table.specs.Wants.{wantsOf, saidOf, WordRights}
 use Rattle.table.proofs.WantLaws.{wants-says, pool-rights}
-use Rattle.places.specs.Final.{blocks, domainOf, addressOf, want}
+use Rattle.places.specs.Count.{blocks, domainOf, addressOf, want}
 use Rattle.places.proofs.ChangedLaws.{changed-rights}
 use Rattle.targets.specs.declared.Paint.{Paint}
 use Rattle.targets.specs.declared.Target.{Target}

@@ -7,12 +7,13 @@ use native.Mathlib.Omega.{arith}
 use lib.Dec.{leb, ltb}
 use borrow.Author.Tests.{leb-true, ltb-true, le-leb, lt-ltb}
 use Rattle.table.specs.declared.Shape.{Shape}
-use Rattle.table.specs.Map.{size}
-use Rattle.table.specs.Shape.{places}
+use Rattle.table.specs.Shape.{size}
+use Rattle.table.specs.Shape.{places, size}
 use Rattle.theory.proofs.Logic.{and-both}
 use Rattle.places.specs.Owners.{seek}
 use Rattle.places.proofs.OwnedLaws.{seek-owner, owner-seek}
-use Rattle.places.specs.Final.{blocks, want, either, old, placeAt}
+use Rattle.places.specs.Count.{blocks, want}
+use Rattle.places.specs.Final.{old, placeAt}
 use Rattle.places.proofs.FinalWordLaws.{InPlace, entry-leads}
 use Rattle.targets.specs.declared.Paint.{Paint}
 use Rattle.plan.specs.declared.Edge.{Edge}
@@ -21,7 +22,7 @@ use Rattle.plan.specs.Aims.{aims}
 use Rattle.plan.specs.Planning.{Regular}
 use Rattle.plan.specs.Edges.{firstOf, lastOf, EdgeIs}
 use Rattle.plan.proofs.Setting.{Setting}
-use Rattle.plan.proofs.SettingLaws.{placed, entry-lead}
+use Rattle.plan.proofs.SettingLaws.{entry-lead}
 use Rattle.plan.proofs.OldEntryLaws.{old-leads}
 
 -- The ends of a region lie in memory.
@@ -35,23 +36,20 @@ last-below paint g zero hi = omega arith
 last-below paint g (suc zero) hi = omega arith
 last-below paint g (suc (suc h)) hi = absurd (omega arith)
 
-module _ {s : Shape} {d : ℕ} {paint : Paint} {P middle leaf : ℕ → ℕ} {freeM freeL : ℕ → Bool}
-    (c : Setting s d paint P middle leaf freeM freeL) where
+module _ {s : Shape} {d : ℕ} {paint : Paint} {P : ℕ → ℕ} {owner : ℕ → ℕ → ℕ} {free : ℕ → ℕ → Bool}
+    (c : Setting s d paint P owner free) where
   abbrev D : ℕ
   D = s .domains
 
   abbrev T : ℕ → ℕ → ℕ
   T = aims s d paint P
 
-  abbrev owner : ℕ → ℕ → ℕ
-  owner h = either leaf middle h
-
   pub in-domain : (h n : ℕ) → h < 2 → n < blocks h → blocks h * d + n < blocks h * D
   in-domain zero n hi b = omega arith
   in-domain (suc zero) n hi b = omega arith
   in-domain (suc (suc h)) n hi b = absurd (omega arith)
 
-  module _ (h n : ℕ) (hi : h < 2) (bn : n < blocks h) (e : Edge) (E : EdgeIs s d paint P middle leaf h n e) where
+  module _ (h n : ℕ) (hi : h < 2) (bn : n < blocks h) (e : Edge) (E : EdgeIs s d paint P owner h n e) where
     abbrev i : ℕ
     i = blocks h * d + n
 
@@ -70,18 +68,18 @@ module _ {s : Shape} {d : ℕ} {paint : Paint} {P middle leaf : ℕ → ℕ} {fr
         let up = ltb-true k (e .last + size h) z in
         let w : want T h i ≡ true = sym (entry-lead c h i hi bi) ∙ ap isLead (sym (E .last)) ∙ l in
         let p = seek (owner h) i (places s h) in
-        let (b, o) = seek-owner _ _ _ _ _ _ (placed c h hi) i bi w in
-        let f : e .last ≡ placeAt s h p = E .last ∙ entry-leads s middle leaf T P h i w in
+        let (b, o) = seek-owner _ _ _ _ _ _ (c .placed h hi) i bi w in
+        let f : e .last ≡ placeAt s h p = E .last ∙ entry-leads s owner T P h i w in
         (p, (hi, b, omega arith, omega arith), o)
 
     -- .. and the other way round.
     pub place-table : (k p j : ℕ) → InPlace s k h p j → owner h p ≡ i → inEdge e (size h) k ≡ true
     place-table k p j (_, bp, bj, q) o =
         let bi = in-domain h n hi bn in
-        let w : want T h i ≡ true = rw o at (placed c h hi .held .only p bp (rw o bi)) in
+        let w : want T h i ≡ true = rw o at (c .placed h hi .held .only p bp (rw o bi)) in
         let z : seek (owner h) i (places s h) ≡ p =
-        ap (λ u. seek (owner h) u (places s h)) (sym o) ∙ owner-seek _ _ _ _ _ _ (placed c h hi) p bp (rw o bi) in
-        let f : e .last ≡ placeAt s h p = E .last ∙ entry-leads s middle leaf T P h i w
+        ap (λ u. seek (owner h) u (places s h)) (sym o) ∙ owner-seek _ _ _ _ _ _ (c .placed h hi) p bp (rw o bi) in
+        let f : e .last ≡ placeAt s h p = E .last ∙ entry-leads s owner T P h i w
         ∙ ap (placeAt s h) z in
         rw (
           ap isLead (E .last) ∙ entry-lead c h i hi bi ∙ w,

@@ -17,7 +17,8 @@ use Rattle.table.specs.Wants.{saidOf}
 use Rattle.table.proofs.BlockLaws.{block-together}
 use Rattle.table.proofs.FormLaws.{lawful}
 use Rattle.table.proofs.WantLaws.{wants-says, wants-leaf}
-use Rattle.places.specs.Final.{blocks, domainOf, addressOf, either, old, entryWord, tableWord, final}
+use Rattle.places.specs.Count.{blocks, domainOf, addressOf}
+use Rattle.places.specs.Final.{old, entryWord, tableWord, final}
 use Rattle.places.proofs.FinalWordLaws.{InPlace, final-place, place-owned}
 use Rattle.places.proofs.ChangedLaws.{changed-uncovered}
 use Rattle.targets.specs.declared.Paint.{Paint}
@@ -42,8 +43,8 @@ pub settle : {x u v : ℕ} → v ≡ u → (x ≡ u) ⊎ (x ≡ v) → x ≡ v
 settle e (inl p) = p ∙ sym e
 settle e (inr p) = p
 
-module _ {s : Shape} {d : ℕ} {paint : Paint} {P middle leaf : ℕ → ℕ} {freeM freeL : ℕ → Bool}
-    (c : Setting s d paint P middle leaf freeM freeL) where
+module _ {s : Shape} {d : ℕ} {paint : Paint} {P : ℕ → ℕ} {owner : ℕ → ℕ → ℕ} {free : ℕ → ℕ → Bool}
+    (c : Setting s d paint P owner free) where
   abbrev D : ℕ
   D = s .domains
 
@@ -57,13 +58,13 @@ module _ {s : Shape} {d : ℕ} {paint : Paint} {P middle leaf : ℕ → ℕ} {fr
   T = aims s d paint P
 
   abbrev Q : ℕ → ℕ
-  Q = final s middle leaf T P
+  Q = final s owner T P
 
   -- A word of a place that has an owner.
-  pub owned-word : (k h p j : ℕ) → InPlace s k h p j → either leaf middle h p < blocks h * D
-      → Q k ≡ tableWord s middle leaf T P h (either leaf middle h p) j
-  owned-word k h p j x b = final-place s middle leaf T P k h p j x ∙ place-owned s middle leaf T P h k p j _
-      refl b
+  pub owned-word : (k h p j : ℕ) → InPlace s k h p j → owner h p < blocks h * D
+      → Q k ≡ tableWord s owner T P h (owner h p) j
+  owned-word k h p j x b = final-place s owner T P k h p j x ∙ place-owned s owner T P h k p j _
+      (x .1) refl b
 
   -- A leaf entry, painted, is the finished one: where it gives the old rights of its 64 bytes, or the finished ones.
   painted-aims : (X : ℕ → ℕ) (b : ℕ) → (X b ≡ R d b) ⊎ (X b ≡ T d b) → painted paint X b ≡ T d b
@@ -77,7 +78,7 @@ module _ {s : Shape} {d : ℕ} {paint : Paint} {P middle leaf : ℕ → ℕ} {fr
   leaf-painted : (o n j w : ℕ) → o ≡ 1048576 * d + n → n < 1048576 → j < 64
       → ((b : ℕ) → b < addresses → b / 64 ≡ 64 * n + j → (rightAt w (b / 4 % 16) ≡ R d b)
       ⊎ (rightAt w (b / 4 % 16) ≡ T d b))
-      → paintedLeaf paint w (64 * n + j) ≡ tableWord s middle leaf T P 0 o j
+      → paintedLeaf paint w (64 * n + j) ≡ tableWord s owner T P 0 o j
   leaf-painted o n j w q bn bj f =
       let x : domainOf 0 o ≡ d = omega arith in
       let y : addressOf 0 o + 64 * j ≡ (64 * n + j) * 64 = omega arith in
@@ -87,16 +88,16 @@ module _ {s : Shape} {d : ℕ} {paint : Paint} {P middle leaf : ℕ → ℕ} {fr
 
   -- Entry `j` of the leaf of page `n`, at place `p`: what it held gave the old rights of its 64 bytes, and the
   -- finished word gives theirs.
-  module _ (n : ℕ) (bn : n < 1048576) (g : Edge) (G : EdgeIs s d paint P middle leaf 0 n g) (k p j : ℕ)
+  module _ (n : ℕ) (bn : n < 1048576) (g : Edge) (G : EdgeIs s d paint P owner 0 n g) (k p j : ℕ)
       (ip : InPlace s k 0 p j)
-      (o : leaf p ≡ 1048576 * d + n) where
+      (o : owner 0 p ≡ 1048576 * d + n) where
     abbrev e : ℕ
-    e = domainOf 0 (leaf p)
+    e = domainOf 0 (owner 0 p)
 
     abbrev a : ℕ
-    a = addressOf 0 (leaf p) + 64 * j
+    a = addressOf 0 (owner 0 p) + 64 * j
 
-    bound : leaf p < 1048576 * D
+    bound : owner 0 p < 1048576 * D
     bound = rw o (in-domain c 0 n (omega arith) bn)
 
     own-domain : e ≡ d
@@ -143,25 +144,25 @@ module _ {s : Shape} {d : ℕ} {paint : Paint} {P middle leaf : ℕ → ℕ} {fr
         (λ l. inl (ap (λ t. rightAt (cond t x (sixteenOf (rightAt (g .old) (j / 8)))) (b / 4 % 16)) l
         ∙ new-leaf b bb y l))
 
-    leaf-at : (q : Plan) → Edges s d paint P middle leaf q → (x : ℕ) → (x ≡ P k) ⊎ (x ≡ Q k) → leafAfter q g j x ≡ Q k
+    leaf-at : (q : Plan) → Edges s d paint P owner q → (x : ℕ) → (x ≡ P k) ⊎ (x ≡ Q k) → leafAfter q g j x ≡ Q k
     leaf-at q E x v =
         let w = cond (isLead (g .old)) x (sixteenOf (rightAt (g .old) (j / 8))) in
         ap (λ u. paintedLeaf u w (64 * g .number + j)) (E .for-paint)
         ∙ ap (λ u. paintedLeaf paint w (64 * u + j)) (G .number)
-        ∙ leaf-painted (leaf p) n j w o bn (ip .2) (leaf-before x v)
+        ∙ leaf-painted (owner 0 p) n j w o bn (ip .2) (leaf-before x v)
         ∙ sym (owned-word k 0 p j ip bound)
 
   -- Entry `j` of the middle table of block `n`, at place `p`, is the entry of page `1024 * n + j`.
-  module _ (n : ℕ) (bn : n < 1024) (b : Edge) (B : EdgeIs s d paint P middle leaf 1 n b) (k p j : ℕ)
+  module _ (n : ℕ) (bn : n < 1024) (b : Edge) (B : EdgeIs s d paint P owner 1 n b) (k p j : ℕ)
       (ip : InPlace s k 1 p j)
-      (o : middle p ≡ 1024 * d + n) where
+      (o : owner 1 p ≡ 1024 * d + n) where
     abbrev i : ℕ
-    i = 1024 * middle p + j
+    i = 1024 * owner 1 p + j
 
     abbrev m : ℕ
     m = 1024 * b .number + j
 
-    in-block : middle p < 1024 * D
+    in-block : owner 1 p < 1024 * D
     in-block = rw o (in-domain c 1 n (omega arith) bn)
 
     page-below : i < 1048576 * D
@@ -194,14 +195,14 @@ module _ {s : Shape} {d : ℕ} {paint : Paint} {P middle leaf : ℕ → ℕ} {fr
     at-end : (t : ℕ) → m ≡ t → 1048576 * d + t ≡ i
     at-end t z = let y = B .number in omega arith
 
-    page-at : (q : Plan) → Edges s d paint P middle leaf q → (x : ℕ) → (x ≡ P k) ⊎ (x ≡ Q k) → pageAfter q b j x ≡ Q k
+    page-at : (q : Plan) → Edges s d paint P owner q → (x : ℕ) → (x ≡ P k) ⊎ (x ≡ Q k) → pageAfter q b j x ≡ Q k
     page-at q E x v =
         let e = owned-word k 1 p j ip in-block in
         let f = E .first-page .number in
         let l = E .last-page .number in
         chosen m (q .«first_page» .number) (q .«last_page» .number)
-        (λ g. E .first-page .last ∙ ap (entryWord s middle leaf T P 0) (at-end (firstOf 0 paint) (g ∙ f)) ∙ sym e)
-        (λ g. E .last-page .last ∙ ap (entryWord s middle leaf T P 0) (at-end (lastOf 0 paint) (g ∙ l)) ∙ sym e)
+        (λ g. E .first-page .last ∙ ap (entryWord s owner T P 0) (at-end (firstOf 0 paint) (g ∙ f)) ∙ sym e)
+        (λ g. E .last-page .last ∙ ap (entryWord s owner T P 0) (at-end (lastOf 0 paint) (g ∙ l)) ∙ sym e)
         (λ g h. ap (λ u. eightOf (u .right)) (E .for-paint)
         ∙ sym (e ∙ plain-entry c 0 i (omega arith) page-below (paint .right)
         (between-plain s d paint P 0 i m (omega arith) page-domain page-number (rw f at g) (rw l at h))))
@@ -209,9 +210,9 @@ module _ {s : Shape} {d : ℕ} {paint : Paint} {P middle leaf : ℕ → ℕ} {fr
         (apart-stays s d paint P 0 i m (omega arith) page-number (λ z. g (z ∙ sym f)) (λ z. h (z ∙ sym l))
         (λ y z. u (rw f y) (rw l z))) x v)
 
-  module _ (q : Plan) (E : Edges s d paint P middle leaf q) where
+  module _ (q : Plan) (E : Edges s d paint P owner q) where
     -- A word of the middle table of an edge.
-    pub page-word : (n : ℕ) → n < 1024 → (b : Edge) → EdgeIs s d paint P middle leaf 1 n b → (k x : ℕ)
+    pub page-word : (n : ℕ) → n < 1024 → (b : Edge) → EdgeIs s d paint P owner 1 n b → (k x : ℕ)
         → inEdge b 1024 k ≡ true
         → (x ≡ P k) ⊎ (x ≡ Q k) → pageAfter q b (k - b .last) x ≡ Q k
     page-word n bn b B k x t v =
@@ -219,7 +220,7 @@ module _ {s : Shape} {d : ℕ} {paint : Paint} {P middle leaf : ℕ → ℕ} {fr
         page-at n bn b B k p (k - b .last) ip o q E x v
 
     -- A word of the leaf of an edge.
-    pub leaf-word : (n : ℕ) → n < 1048576 → (g : Edge) → EdgeIs s d paint P middle leaf 0 n g → (k x : ℕ)
+    pub leaf-word : (n : ℕ) → n < 1048576 → (g : Edge) → EdgeIs s d paint P owner 0 n g → (k x : ℕ)
         → inEdge g 64 k ≡ true
         → (x ≡ P k) ⊎ (x ≡ Q k) → leafAfter q g (k - g .last) x ≡ Q k
     leaf-word n bn g G k x t v =

@@ -14,7 +14,8 @@ use Rattle.table.specs.declared.Shape.{Shape}
 use Rattle.table.specs.Map.{formOf}
 use Rattle.places.specs.Owners.{fresh}
 use Rattle.places.proofs.OwnedLaws.{fresh-wants, fresh-old}
-use Rattle.places.specs.Final.{blocks, domainOf, want, old}
+use Rattle.places.specs.Count.{blocks, domainOf, want}
+use Rattle.places.specs.Final.{old}
 use Rattle.places.proofs.ChangedLaws.{changed-uncovered, changed-other}
 use Rattle.targets.specs.declared.Paint.{Paint}
 use Rattle.targets.specs.Paints.{region}

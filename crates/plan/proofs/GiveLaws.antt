@@ -16,12 +16,12 @@ use Rattle.words.specs.Rights.{rightAt, eightOf}
 use Rattle.table.specs.declared.Shape.{Shape}
 use Rattle.table.specs.Shape.{InRange, firstPlace, places}
 use Rattle.table.specs.Wants.{saidOf}
-use Rattle.places.specs.Count.{count}
+use Rattle.places.specs.Count.{count, blocks, domainOf, addressOf, want}
+use Rattle.places.specs.Final.{entryOf, old, was, placeAt}
 use Rattle.places.specs.Owners.{seek, fresh, Owned, Handing, givenTo}
 use Rattle.places.proofs.OwnedLaws.{fresh-wants, fresh-old, owner-seek, seek-keeps}
 use Rattle.places.proofs.HandLaws.{hand-skip, hand-skip-to, hand-take, hand-done, hand-full}
 use Rattle.places.proofs.OldLaws.{old-at}
-use Rattle.places.specs.Final.{blocks, domainOf, addressOf, want, entryOf, old, was, placeAt}
 use Rattle.targets.specs.declared.Paint.{Paint}
 use Rattle.plan.specs.declared.Edge.{Edge}
 use Rattle.plan.specs.declared.Taken.the-variants.{At, None}

@@ -18,7 +18,8 @@ use Rattle.table.specs.Map.{formOf}
 use Rattle.places.specs.Owners.{Handing, vacant, givenTo}
 use Rattle.places.proofs.KeepLaws.{keep-done}
 use Rattle.places.proofs.OldLaws.{old-below, old-one}
-use Rattle.places.specs.Final.{blocks, want, old, was}
+use Rattle.places.specs.Count.{blocks, want}
+use Rattle.places.specs.Final.{old, was}
 use Rattle.census.specs.Places.{firstNumber}
 use Rattle.census.specs.Tally.{none}
 use Rattle.census.specs.Census.{Owners}

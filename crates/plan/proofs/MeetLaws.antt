@@ -12,7 +12,7 @@ use Rattle.words.specs.Region.{covered}
 use Rattle.words.proofs.RegionLaws.{covered-bytes}
 use Rattle.table.specs.declared.Shape.{Shape}
 use Rattle.table.specs.Map.{addresses, block, formOf}
-use Rattle.places.specs.Final.{blocks, domainOf}
+use Rattle.places.specs.Count.{blocks, domainOf}
 use Rattle.places.proofs.ChangedLaws.{changed-uncovered, changed-other}
 use Rattle.targets.specs.declared.Paint.{Paint}
 use Rattle.targets.specs.Paints.{region}

@@ -12,7 +12,8 @@ use Rattle.words.specs.Rights.{rightAt, eightOf}
 use Rattle.words.proofs.RightsLaws.{right-small, eight-right}
 use Rattle.table.specs.declared.Shape.{Shape}
 use Rattle.table.specs.Map.{addresses, block, part, index, formOf}
-use Rattle.places.specs.Final.{blocks, old}
+use Rattle.places.specs.Count.{blocks}
+use Rattle.places.specs.Final.{old}
 use Rattle.plan.specs.Plan.{isLead}
 use Rattle.plan.specs.Edges.{entryAt}
 

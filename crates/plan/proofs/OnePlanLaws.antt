@@ -17,7 +17,8 @@ use Rattle.table.specs.Wants.{wantsOf}
 use Rattle.table.proofs.FormLaws.{lawful, exact}
 use Rattle.table.specs.Wants.{WordRights}
 use Rattle.table.proofs.WantLaws.{wants-divided, wanting, tells-wants}
-use Rattle.places.specs.Final.{blocks, number, domainOf, addressOf, want, tableOf, place, entryWord, final}
+use Rattle.places.specs.Count.{blocks, domainOf, addressOf, want}
+use Rattle.places.specs.Final.{number, tableOf, place, entryWord, final}
 use Rattle.places.proofs.NumberLaws.{number-first}
 use Rattle.places.proofs.FinalWordLaws.{place-table, entry-leads, entry-says}
 use Rattle.places.proofs.FinalLaws.{final-encodes, final-placing, final-finished}
@@ -47,34 +48,30 @@ module _ (s : Shape) (d : ℕ) (paint : Paint) (P : ℕ → ℕ) (range : InRang
   -- The finished pool of a plan that is ready, and where its tables stand.
   module _ {q : Plan} (x : PlanReady s d paint P q) where
     abbrev whole : ℕ → ℕ
-    whole = final s (x .middle) (x .leaf) R P
+    whole = final s (x .owner) R P
 
-    setting : Setting s d paint P (x .middle) (x .leaf) (x .free-middle) (x .free-leaf)
+    setting : Setting s d paint P (x .owner) (x .free)
     setting = record {
       range = range;
       settled = settled;
       domain = bd;
       regular = regular;
-      middles = x .middles;
-      leaves = x .leaves;
+      placed = x .placed;
     }
 
     rights : (e : ℕ) → e < D → WordRights (R e)
     rights e be = aims-rights setting e
 
     whole-finished : Finished (formOf s) P R whole
-    whole-finished = final-finished s range rights (settled .sound) (x .middle) (x .leaf)
-        (x .free-middle) (x .free-leaf) (x .middles) (x .leaves) (λ j. refl)
+    whole-finished = final-finished s range rights (settled .sound) (x .owner) (x .free) (x .placed) (λ j. refl)
 
     whole-led : (h e a : ℕ) → h < 2 → e < D → a < addresses → wants (suc h) e a ≡ true
-        → Led (formOf s) whole e a h (place s (x .middle) (x .leaf) h e a)
+        → Led (formOf s) whole e a h (place s (x .owner) h e a)
     whole-led h e a hi be ba w =
         let tells = tells-wants s R rights in
-        gets-led (formOf s) (lawful s) (exact s) wants (place s (x .middle) (x .leaf)) tells
-        (final-placing s range rights (settled .sound) (x .middle) (x .leaf)
-        (x .free-middle) (x .free-leaf) (x .middles) (x .leaves) (λ j. refl))
-        (final-encodes s range rights (settled .sound) (x .middle) (x .leaf)
-        (x .free-middle) (x .free-leaf) (x .middles) (x .leaves) (λ j. refl))
+        gets-led (formOf s) (lawful s) (exact s) wants (place s (x .owner)) tells
+        (final-placing s range rights (settled .sound) (x .owner) (x .free) (x .placed) (λ j. refl))
+        (final-encodes s range rights (settled .sound) (x .owner) (x .free) (x .placed) (λ j. refl))
         h e a be ba hi
         (wants-gets (formOf s) wants (wanting s) tells e a be ba h hi (wants-divided (R e) (suc h) a ba w))
 
@@ -87,27 +84,27 @@ module _ (s : Shape) (d : ℕ) (paint : Paint) (P : ℕ → ℕ) (range : InRang
 
     -- A block that wants a table has it in one place, by either plan.
     same-table : (h i : ℕ) → h < 2 → i < blocks h * D → want R h i ≡ true
-        → tableOf s (x .middle) (x .leaf) h i ≡ tableOf s (y .middle) (y .leaf) h i
+        → tableOf s (x .owner) h i ≡ tableOf s (y .owner) h i
     same-table h i hi bi w =
         let (be, ba, n) = number-first h D i hi bi in
         let e = domainOf h i in
         let a = addressOf h i in
         let here = rw same-whole at (whole-led x h e a hi be ba w) in
         let one = one-table (formOf s) (whole y) e a h here (whole-led y h e a hi be ba w) in
-        let from = place-table s (x .middle) (x .leaf) h e a hi in
-        let to = place-table s (y .middle) (y .leaf) h e a hi in
+        let from = place-table s (x .owner) h e a hi in
+        let to = place-table s (y .owner) h e a hi in
         rw n at (sym from ∙ one ∙ to)
 
     same-entry : (h i : ℕ) → h < 2 → i < blocks h * D
-        → entryWord s (x .middle) (x .leaf) R P h i ≡ entryWord s (y .middle) (y .leaf) R P h i
+        → entryWord s (x .owner) R P h i ≡ entryWord s (y .owner) R P h i
     same-entry h i hi bi = by-cases (want R h i)
-        (λ w. entry-leads s (x .middle) (x .leaf) R P h i w ∙ same-table h i hi bi w
-        ∙ sym (entry-leads s (y .middle) (y .leaf) R P h i w))
-        (λ w. entry-says s (x .middle) (x .leaf) R P h i w
-        ∙ sym (entry-says s (y .middle) (y .leaf) R P h i w))
+        (λ w. entry-leads s (x .owner) R P h i w ∙ same-table h i hi bi w
+        ∙ sym (entry-leads s (y .owner) R P h i w))
+        (λ w. entry-says s (x .owner) R P h i w
+        ∙ sym (entry-says s (y .owner) R P h i w))
 
-    same-edge : (h n : ℕ) {e f : Edge} → h < 2 → n < blocks h → EdgeIs s d paint P (x .middle) (x .leaf) h n e
-        → EdgeIs s d paint P (y .middle) (y .leaf) h n f → e ≡ f
+    same-edge : (h n : ℕ) {e f : Edge} → h < 2 → n < blocks h → EdgeIs s d paint P (x .owner) h n e
+        → EdgeIs s d paint P (y .owner) h n f → e ≡ f
     same-edge h n hi bn u v =
         let number = u .number ∙ sym (v .number) in
         let old = u .old ∙ sym (v .old) in

@@ -1,6 +1,6 @@
 -- Laws that join the steps of planning: from the draft to the places, and from the places to a plan that is ready, or
 -- to no room.
-use Prim.Native.Nat.{ℕ, _*_, _≤_, _<_}
+use Prim.Native.Nat.{ℕ, zero, suc, _*_, _<_}
 use mathlib.Core.Path.{_≡_, refl, sym, subst}
 use mathlib.Core.Bool.{Bool}
 use mathlib.Core.List.{List}
@@ -10,16 +10,16 @@ use Rattle.theory.specs.Settled.{Settled}
 use Rattle.table.specs.declared.Shape.{Shape}
 use Rattle.table.specs.Shape.{InRange, firstMiddle, firstLeaf}
 use Rattle.table.specs.Map.{formOf}
-use Rattle.places.specs.Count.{count, Room}
-use Rattle.places.specs.Final.{want}
+use Rattle.places.specs.Count.{heights, Room}
+use Rattle.places.proofs.HeightLaws.{each-height}
 use Rattle.targets.specs.declared.Paint.{Paint}
 use Rattle.plan.specs.declared.Edge.{Edge}
 use Rattle.plan.specs.declared.Plan.{Plan}
 use Rattle.plan.specs.declared.Ends.the-variants.{Full}
 use Rattle.plan.specs.Aims.{aims}
 use Rattle.plan.specs.Planning.{Regular}
-use Rattle.plan.specs.Edges.{EdgeIs, PlanReady, draftOf, EndsTold, KeptMarked, EdgeBy, EndsPlaced, EndsAre}
-use Rattle.plan.specs.Edges.{GivesOut}
+use Rattle.plan.specs.Edges.{EdgeIs, PlanReady, draftOf, EndsTold, KeptMarked, Placed, EdgeBy, EndsPlaced}
+use Rattle.plan.specs.Edges.{EndsAre, GivesOut}
 use Rattle.plan.proofs.DraftLaws.{drafted-ends}
 
 -- A draft tells its edges, and once the kept places are marked, places can be given out.
@@ -67,12 +67,13 @@ module _ (s : Shape) (d : ℕ) (paint : Paint) (P : ℕ → ℕ) (g : Regular pa
     }
 
 -- Where the tables of both heights have their places, the plan with these edges is ready.
-module _ (s : Shape) (d : ℕ) (paint : Paint) (P middle leaf : ℕ → ℕ) where
-  block-edge : {n : ℕ} {e : Edge} → EdgeBy s d paint P middle 1 n e → EdgeIs s d paint P middle leaf 1 n e
-  block-edge b = record { number = b .number; old = b .old; last = b .last }
+abbrev by-height : {A : Type 0} → A → A → ℕ → A
+by-height leaf middle zero = leaf
+by-height leaf middle (suc h) = middle
 
-  page-edge : {n : ℕ} {e : Edge} → EdgeBy s d paint P leaf 0 n e → EdgeIs s d paint P middle leaf 0 n e
-  page-edge b = record { number = b .number; old = b .old; last = b .last }
+edge-is : (s : Shape) (d : ℕ) (paint : Paint) (P : ℕ → ℕ) (owner : ℕ → ℕ → ℕ) (h : ℕ) {n : ℕ} {e : Edge}
+    → EdgeBy s d paint P (owner h) h n e → EdgeIs s d paint P owner h n e
+edge-is s d paint P owner h b = record { number = b .number; old = b .old; last = b .last }
 
 pub plan-ready : (s : Shape) (d : ℕ) (paint : Paint) (P : ℕ → ℕ) {a b c e : Edge} → EndsPlaced s d paint P 1 a b
     → EndsPlaced s d paint P 0 c e
@@ -85,30 +86,24 @@ pub plan-ready : (s : Shape) (d : ℕ) (paint : Paint) (P : ℕ → ℕ) {a b c 
           c;
       «last_page» = e;
     })
-plan-ready s d paint P x y = record {
-  free-middle = x .free;
-  free-leaf = y .free;
-  middle = x .owner;
-  leaf = y .owner;
-  middles = x .placed;
-  leaves = y .placed;
-  edges = record {
-    for-domain = refl;
-    for-paint = refl;
-    first-block = block-edge s d paint P (x .owner) (y .owner) (x .first);
-    last-block = block-edge s d paint P (x .owner) (y .owner) (x .last);
-    first-page = page-edge s d paint P (x .owner) (y .owner) (y .first);
-    last-page = page-edge s d paint P (x .owner) (y .owner) (y .last);
-  };
-}
+plan-ready s d paint P x y =
+    let free : ℕ → ℕ → Bool = by-height (y .free) (x .free) in
+    let owner : ℕ → ℕ → ℕ = by-height (y .owner) (x .owner) in
+    record {
+      free = free;
+      owner = owner;
+      placed = each-height (λ h. Placed s d paint P h (free h) (owner h)) (y .placed) (x .placed);
+      edges = record {
+        for-domain = refl;
+        for-paint = refl;
+        first-block = edge-is s d paint P owner 1 (x .first);
+        last-block = edge-is s d paint P owner 1 (x .last);
+        first-page = edge-is s d paint P owner 0 (y .first);
+        last-page = edge-is s d paint P owner 0 (y .last);
+      };
+    }
 
 -- Too many tables of one height leave no room.
-pub full-middles : (s : Shape) (d : ℕ) (paint : Paint) (P : ℕ → ℕ) → EndsAre s d paint P 1 Full
+pub full-height : (s : Shape) (d : ℕ) (paint : Paint) (P : ℕ → ℕ) (h : ℕ) → h < heights → EndsAre s d paint P h Full
     → Room s (aims s d paint P) → ⊥
-full-middles s d paint P x r = let y : count (want (aims s d paint P) 1) (1024 * s .domains) ≤ s .middles =
-    r .middles in omega arith
-
-pub full-leaves : (s : Shape) (d : ℕ) (paint : Paint) (P : ℕ → ℕ) → EndsAre s d paint P 0 Full
-    → Room s (aims s d paint P) → ⊥
-full-leaves s d paint P x r = let y : count (want (aims s d paint P) 0) (1048576 * s .domains) ≤ s .leaves =
-    r .leaves in omega arith
+full-height s d paint P h hi x r = let y = r .tables h hi in omega arith

@@ -14,9 +14,10 @@ use Rattle.theory.specs.Settled.{Settled}
 use Rattle.theory.proofs.Logic.{by-cases, and-both}
 use Rattle.words.specs.Rights.{eightOf}
 use Rattle.table.specs.declared.Shape.{Shape}
-use Rattle.table.specs.Shape.{Fits, poolLength}
-use Rattle.table.specs.Map.{formOf, size}
-use Rattle.places.specs.Final.{blocks, domainOf, either, old, entryWord, tableWord, final, keptWord}
+use Rattle.table.specs.Shape.{Fits, poolLength, size}
+use Rattle.table.specs.Map.{formOf}
+use Rattle.places.specs.Count.{blocks, domainOf}
+use Rattle.places.specs.Final.{old, AllOwned, entryWord, tableWord, final, keptWord}
 use Rattle.places.proofs.FinalWordLaws.{InPlace, which-word, final-root, final-place, final-past, place-idle}
 use Rattle.places.proofs.FinalWordLaws.{kept-root, kept-place}
 use Rattle.places.proofs.FinalLaws.{final-finished}
@@ -28,19 +29,19 @@ use Rattle.plan.specs.Plan.{InTable, tableOf as inEdge, rootAfter, after
 use Rattle.plan.specs.Aims.{aimOf, aims}
 use Rattle.plan.specs.Planning.{Regular}
 use Rattle.plan.specs.Goals.{Planned}
-use Rattle.plan.specs.Edges.{firstOf, lastOf, EdgeIs, Edges, Placed}
+use Rattle.plan.specs.Edges.{firstOf, lastOf, EdgeIs, Edges}
 use Rattle.plan.proofs.Setting.{Setting}
 use Rattle.plan.proofs.MeetLaws.{RightsStay, chosen, apart-stays, between-plain, other-stays, meeting}
 use Rattle.plan.proofs.WantedLaws.{stays-want, plain-want, only-edges-fresh}
-use Rattle.plan.proofs.SettingLaws.{aims-rights, placed, plain-entry}
+use Rattle.plan.proofs.SettingLaws.{aims-rights, plain-entry}
 use Rattle.plan.proofs.StayWordLaws.{root-stays, middle-stays, leaf-stays, page-stays}
 use Rattle.plan.proofs.EdgeLaws.{first-below, last-below, in-domain, edge-old, table-place, place-table}
 use Rattle.plan.proofs.AfterLaws.{after-any, newIn, new-in, in-new, new-any}
 use Rattle.plan.proofs.EdgeWordLaws.{settle, owned-word, page-word, leaf-word}
 
-module _ {s : Shape} {d : ℕ} {paint : Paint} {P middle leaf : ℕ → ℕ} {freeM freeL : ℕ → Bool}
-    (c : Setting s d paint P middle leaf freeM freeL)
-    (q : Plan) (E : Edges s d paint P middle leaf q) where
+module _ {s : Shape} {d : ℕ} {paint : Paint} {P : ℕ → ℕ} {owner : ℕ → ℕ → ℕ} {free : ℕ → ℕ → Bool}
+    (c : Setting s d paint P owner free)
+    (q : Plan) (E : Edges s d paint P owner q) where
   abbrev D : ℕ
   D = s .domains
 
@@ -48,10 +49,7 @@ module _ {s : Shape} {d : ℕ} {paint : Paint} {P middle leaf : ℕ → ℕ} {fr
   T = aims s d paint P
 
   abbrev Q : ℕ → ℕ
-  Q = final s middle leaf T P
-
-  abbrev owner : ℕ → ℕ → ℕ
-  owner h = either leaf middle h
+  Q = final s owner T P
 
   -- The edges by their height.
   abbrev firstEdge : ℕ → Edge
@@ -62,12 +60,12 @@ module _ {s : Shape} {d : ℕ} {paint : Paint} {P middle leaf : ℕ → ℕ} {fr
   lastEdge zero = q .«last_page»
   lastEdge (suc h) = q .«last_block»
 
-  first-is : (h : ℕ) → h < 2 → EdgeIs s d paint P middle leaf h (firstOf h paint) (firstEdge h)
+  first-is : (h : ℕ) → h < 2 → EdgeIs s d paint P owner h (firstOf h paint) (firstEdge h)
   first-is zero hi = E .first-page
   first-is (suc zero) hi = E .first-block
   first-is (suc (suc h)) hi = absurd (omega arith)
 
-  last-is : (h : ℕ) → h < 2 → EdgeIs s d paint P middle leaf h (lastOf h paint) (lastEdge h)
+  last-is : (h : ℕ) → h < 2 → EdgeIs s d paint P owner h (lastOf h paint) (lastEdge h)
   last-is zero hi = E .last-page
   last-is (suc zero) hi = E .last-block
   last-is (suc (suc h)) hi = absurd (omega arith)
@@ -76,15 +74,15 @@ module _ {s : Shape} {d : ℕ} {paint : Paint} {P middle leaf : ℕ → ℕ} {fr
   root-word : (k n x : ℕ) → k ≡ 1024 * d + n → n < 1024 → (x ≡ P k) ⊎ (x ≡ Q k) → rootAfter q n x ≡ Q k
   root-word k n x e bn v =
       let bk : k < 1024 * D = let z = c .domain in omega arith in
-      let is = final-root s middle leaf T P k bk in
+      let is = final-root s owner T P k bk in
       let f = E .first-block .number in
       let l = E .last-block .number in
       let y : domainOf 1 k ≡ d = omega arith in
       let z : k % 1024 ≡ n = omega arith in
       chosen n (q .«first_block» .number) (q .«last_block» .number)
-      (λ g. E .first-block .last ∙ ap (entryWord s middle leaf T P 1) (sym (e ∙ ap (λ u. 1024 * d + u) (g ∙ f)))
+      (λ g. E .first-block .last ∙ ap (entryWord s owner T P 1) (sym (e ∙ ap (λ u. 1024 * d + u) (g ∙ f)))
       ∙ sym is)
-      (λ g. E .last-block .last ∙ ap (entryWord s middle leaf T P 1) (sym (e ∙ ap (λ u. 1024 * d + u) (g ∙ l)))
+      (λ g. E .last-block .last ∙ ap (entryWord s owner T P 1) (sym (e ∙ ap (λ u. 1024 * d + u) (g ∙ l)))
       ∙ sym is)
       (λ g h. ap (λ u. eightOf (u .right)) (E .for-paint)
       ∙ sym (is ∙ plain-entry c 1 k (omega arith) bk (paint .right)
@@ -95,14 +93,14 @@ module _ {s : Shape} {d : ℕ} {paint : Paint} {P middle leaf : ℕ → ℕ} {fr
 
   -- A word of a place that no edge's block owns is what it was.
   place-stays : (k h p j : ℕ) → InPlace s k h p j → owner h p < blocks h * D → RightsStay s d paint P h (owner h p)
-      → tableWord s middle leaf T P h (owner h p) j ≡ P k
+      → tableWord s owner T P h (owner h p) j ≡ P k
   place-stays k zero p j ip bo st =
-      leaf-stays c k p j ip bo (sym (stays-want s d paint P 0 (leaf p) (omega arith) bo (c .settled) st)
-      ∙ placed c 0 (omega arith) .held .only p (ip .1) bo) st
+      leaf-stays c k p j ip bo (sym (stays-want s d paint P 0 (owner 0 p) (omega arith) bo (c .settled) st)
+      ∙ c .placed 0 (omega arith) .held .only p (ip .1) bo) st
   place-stays k (suc zero) p j ip bo st =
-      middle-stays c k p j ip bo (sym (stays-want s d paint P 1 (middle p) (omega arith) bo (c .settled) st)
-      ∙ placed c 1 (omega arith) .held .only p (ip .1) bo)
-      (page-stays c (middle p) j (ip .2) st)
+      middle-stays c k p j ip bo (sym (stays-want s d paint P 1 (owner 1 p) (omega arith) bo (c .settled) st)
+      ∙ c .placed 1 (omega arith) .held .only p (ip .1) bo)
+      (page-stays c (owner 1 p) j (ip .2) st)
   place-stays k (suc (suc h)) p j ip bo st = let hi = ip .0 in absurd (omega arith)
 
   module _ (k h p j : ℕ) (ip : InPlace s k h p j) where
@@ -115,7 +113,7 @@ module _ {s : Shape} {d : ℕ} {paint : Paint} {P middle leaf : ℕ → ℕ} {fr
         (last-is h (ip .0)) k p j ip o
 
     idle-word : blocks h * D ≤ owner h p → Q k ≡ P k
-    idle-word b = final-place s middle leaf T P k h p j ip ∙ place-idle s middle leaf T P h k p j b
+    idle-word b = final-place s owner T P k h p j ip ∙ place-idle s owner T P h k p j b
 
     other-place : inEdge (firstEdge h) (size h) k ≡ false → inEdge (lastEdge h) (size h) k ≡ false → Q k ≡ P k
     other-place f l = elim (decLt (owner h p) (blocks h * D)) [
@@ -123,7 +121,7 @@ module _ {s : Shape} {d : ℕ} {paint : Paint} {P middle leaf : ℕ → ℕ} {fr
       | yes b ↦ ⊎-elim
           (λ st. owned-word c k h p j ip b ∙ place-stays k h p j ip b st)
           (⊎-elim
-          (λ pl. absurd (true≢false (sym (placed c h (ip .0) .held .only p (ip .1) b) ∙ plain-want s d paint P h
+          (λ pl. absurd (true≢false (sym (c .placed h (ip .0) .held .only p (ip .1) b) ∙ plain-want s d paint P h
           (owner h p) (ip .0) b (paint .right) pl)))
           (⊎-elim (λ o. absurd (true≢false (sym (first-in o) ∙ f))) (λ o. absurd (true≢false (sym (last-in o) ∙ l)))))
           (meeting s d paint P h (owner h p) (ip .0))
@@ -131,7 +129,7 @@ module _ {s : Shape} {d : ℕ} {paint : Paint} {P middle leaf : ℕ → ℕ} {fr
 
   -- A root word of another domain.
   other-root : (k : ℕ) → k < 1024 * D → InTable (1024 * q .domain) 1024 k ≡ false → Q k ≡ P k
-  other-root k bk t = final-root s middle leaf T P k bk
+  other-root k bk t = final-root s owner T P k bk
       ∙ root-stays c k bk (other-stays s d paint P 1 k (λ e. true≢false (sym (inside e) ∙ t)))
     where
       inside : k / 1024 ≡ d → InTable (1024 * q .domain) 1024 k ≡ true
@@ -175,18 +173,18 @@ module _ {s : Shape} {d : ℕ} {paint : Paint} {P middle leaf : ℕ → ℕ} {fr
   -- New words.
 
   abbrev kept : ℕ → Bool
-  kept = keptWord s freeM freeL
+  kept = keptWord s free
 
   -- What the plan takes for new is not kept ..
-  new-free : (h n : ℕ) → h < 2 → n < blocks h → (e : Edge) → EdgeIs s d paint P middle leaf h n e → (k : ℕ)
+  new-free : (h n : ℕ) → h < 2 → n < blocks h → (e : Edge) → EdgeIs s d paint P owner h n e → (k : ℕ)
       → newIn e (size h) k ≡ true
       → true ≡ not (kept k)
   new-free h n hi bn e I k x =
       let (t, l) = new-in e (size h) k x in
       let (p, ip, o) = table-place c h n hi bn e I k t in
       let bo : owner h p < blocks h * D = rw o (in-domain c h n hi bn) in
-      let f = placed c h hi .held .rank p (ip .1) bo (ap (old P h) o ∙ sym (edge-old c h n hi bn e I) ∙ l) .0 in
-      sym (ap not (kept-place s freeM freeL k h p (k - e .last) ip ∙ ap not f))
+      let f = c .placed h hi .held .rank p (ip .1) bo (ap (old P h) o ∙ sym (edge-old c h n hi bn e I) ∙ l) .0 in
+      sym (ap not (kept-place s free k h p (k - e .last) ip ∙ ap not f))
 
   -- .. and what differs and is not kept it takes for new.
   new-known : (k h p j : ℕ) → InPlace s k h p j → Q k ≢ P k → newIn (firstEdge h) (size h) k ≡ false
@@ -195,8 +193,8 @@ module _ {s : Shape} {d : ℕ} {paint : Paint} {P middle leaf : ℕ → ℕ} {fr
   new-known k h p j ip ne f l = elim (decLt (owner h p) (blocks h * D)) [
     | no b ↦ absurd (ne (idle-word k h p j ip (omega arith)))
     | yes b ↦ by-cases (old P h (owner h p))
-        (λ o. sym (ap not (kept-place s freeM freeL k h p j ip
-        ∙ ap not (placed c h (ip .0) .held .kept p (ip .1) b o .0))))
+        (λ o. sym (ap not (kept-place s free k h p j ip
+        ∙ ap not (c .placed h (ip .0) .held .kept p (ip .1) b o .0))))
         (λ o. ⊎-elim
         (λ z. absurd (true≢false (sym (in-new (firstEdge h) (size h) k (first-in k h p j ip z)
         (edge-old c h (firstOf h paint) (ip .0) (first-below paint (c .regular) h (ip .0)) (firstEdge h)
@@ -205,7 +203,7 @@ module _ {s : Shape} {d : ℕ} {paint : Paint} {P middle leaf : ℕ → ℕ} {fr
         (edge-old c h (lastOf h paint) (ip .0) (last-below paint (c .regular) h (ip .0)) (lastEdge h)
         (last-is h (ip .0)) ∙ ap (old P h) (sym z) ∙ o)) ∙ l)))
         (only-edges-fresh s d paint P h (owner h p) (ip .0) b (c .settled)
-        (placed c h (ip .0) .held .only p (ip .1) b) o))
+        (c .placed h (ip .0) .held .only p (ip .1) b) o))
   ]
 
   pub planned-new : (k : ℕ) → k < poolLength s → Q k ≢ P k → newWord q k ≡ not (kept k)
@@ -219,7 +217,7 @@ module _ {s : Shape} {d : ℕ} {paint : Paint} {P middle leaf : ℕ → ℕ} {fr
       (λ t. new-free 0 (lastOf 0 paint) (omega arith) (last-below paint (c .regular) 0 (omega arith)) (q .«last_page»)
       (E .last-page) k t)
       (λ fb lb fp lp. ⊎-elim
-      (λ b. sym (ap not (kept-root s freeM freeL k b)))
+      (λ b. sym (ap not (kept-root s free k b)))
       (⊎-elim (λ (h, p, j, ip). by-height h p j ip fb lb fp lp) (λ b. absurd (omega arith)))
       (which-word s k))
     where
@@ -232,26 +230,19 @@ module _ {s : Shape} {d : ℕ} {paint : Paint} {P middle leaf : ℕ → ℕ} {fr
 
 pub planned : (s : Shape) (d : ℕ) (paint : Paint) (p : List ℕ) → Fits s (length p) → Settled (formOf s) (words p)
     → d < s .domains → Regular paint
-    → {middle leaf : ℕ → ℕ} (freeM freeL : ℕ → Bool) → Placed s d paint (words p) 1 freeM middle
-    → Placed s d paint (words p) 0 freeL leaf
-    → (q : Plan) → Edges s d paint (words p) middle leaf q
-    → Planned s (aimOf d paint) q p (final s middle leaf (aims s d paint (words p))
-    (words p))
-    (keptWord s freeM freeL)
-planned s d paint p fits st bd reg {middle} {leaf} freeM freeL OM OL q E =
-    let c : Setting s d paint (words p) middle leaf freeM freeL =
-    record { range = fits .range; settled = st; domain = bd; regular = reg; middles = OM; leaves = OL } in
+    → {owner : ℕ → ℕ → ℕ} (free : ℕ → ℕ → Bool) → AllOwned s (aims s d paint (words p)) (words p) free owner
+    → (q : Plan) → Edges s d paint (words p) owner q
+    → Planned s (aimOf d paint) q p (final s owner (aims s d paint (words p)) (words p)) (keptWord s free)
+planned s d paint p fits st bd reg {owner} free O q E =
+    let c : Setting s d paint (words p) owner free =
+    record { range = fits .range; settled = st; domain = bd; regular = reg; placed = O } in
     record {
       aim = rw (E .for-domain, E .for-paint) refl;
       goal = record {
         sound = st .sound;
-        finished = final-finished s (fits .range) (λ e be. aims-rights c e)
-            (st .sound) middle leaf freeM freeL OM OL
-            (λ j. refl);
-        tells = final-tells s (fits .range) (λ e be. aims-rights c e) (st .sound)
-            middle leaf freeM freeL OM OL (λ j. refl);
-        beyond = λ k b. final-past s middle leaf (aims s d paint (words p))
-            (words p) k (rw (fits .long) at b);
+        finished = final-finished s (fits .range) (λ e be. aims-rights c e) (st .sound) owner free O (λ j. refl);
+        tells = final-tells s (fits .range) (λ e be. aims-rights c e) (st .sound) owner free O (λ j. refl);
+        beyond = λ k b. final-past s owner (aims s d paint (words p)) (words p) k (rw (fits .long) at b);
       };
       final = λ k b. planned-word c q E k (words p k) (rw (fits .long) at b) (inl refl);
       still = λ k b. planned-word c q E k _ (rw (fits .long) at b) (inr refl);

@@ -6,14 +6,15 @@ use Rattle.theory.specs.Settled.{Settled}
 use Rattle.table.specs.declared.Shape.{Shape}
 use Rattle.table.specs.Shape.{InRange}
 use Rattle.table.specs.Map.{formOf}
+use Rattle.places.specs.Final.{AllOwned}
 use Rattle.targets.specs.declared.Paint.{Paint}
 use Rattle.plan.specs.Planning.{Regular}
-use Rattle.plan.specs.Edges.{Placed}
+use Rattle.plan.specs.Aims.{aims}
 
-pub record Setting (s : Shape) (d : ℕ) (paint : Paint) (P middle leaf : ℕ → ℕ) (freeM freeL : ℕ → Bool) : Type 0 where
+pub record Setting (s : Shape) (d : ℕ) (paint : Paint) (P : ℕ → ℕ) (owner : ℕ → ℕ → ℕ)
+    (free : ℕ → ℕ → Bool) : Type 0 where
   pub range : InRange s
   pub settled : Settled (formOf s) P
   pub domain : d < s .domains
   pub regular : Regular paint
-  pub middles : Placed s d paint P 1 freeM middle
-  pub leaves : Placed s d paint P 0 freeL leaf
+  pub placed : AllOwned s (aims s d paint P) P free owner

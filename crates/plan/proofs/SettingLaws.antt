@@ -13,9 +13,9 @@ use Rattle.table.specs.Shape.{InRange, places}
 use Rattle.table.specs.Map.{formOf}
 use Rattle.table.specs.Wants.{WordRights}
 use Rattle.table.proofs.WantLaws.{wants-says, pool-rights}
-use Rattle.places.specs.Owners.{Owned}
 use Rattle.places.proofs.OwnedLaws.{seek-owner}
-use Rattle.places.specs.Final.{blocks, domainOf, addressOf, want, either, old, was, placeAt, tableOf, entryWord}
+use Rattle.places.specs.Count.{blocks, domainOf, addressOf, want}
+use Rattle.places.specs.Final.{placeAt, tableOf, entryWord}
 use Rattle.places.proofs.NumberLaws.{number-first}
 use Rattle.places.proofs.ChangedLaws.{changed-rights}
 use Rattle.places.proofs.FinalWordLaws.{entry-leads, entry-says}
@@ -34,8 +34,8 @@ place-low s zero p range hi b = lt-ltb (placeAt s 0 p) 2147483648 (omega arith)
 place-low s (suc zero) p range hi b = lt-ltb (placeAt s 1 p) 2147483648 (omega arith)
 place-low s (suc (suc h)) p range hi b = absurd (omega arith)
 
-module _ {s : Shape} {d : ℕ} {paint : Paint} {P middle leaf : ℕ → ℕ} {freeM freeL : ℕ → Bool}
-    (c : Setting s d paint P middle leaf freeM freeL) where
+module _ {s : Shape} {d : ℕ} {paint : Paint} {P : ℕ → ℕ} {owner : ℕ → ℕ → ℕ} {free : ℕ → ℕ → Bool}
+    (c : Setting s d paint P owner free) where
   abbrev D : ℕ
   D = s .domains
 
@@ -46,31 +46,23 @@ module _ {s : Shape} {d : ℕ} {paint : Paint} {P middle leaf : ℕ → ℕ} {fr
   aims-rights e = changed-rights (rightOf (formOf s) P) d (region paint) (paint .right) e (c .regular .right)
       (pool-rights s P e)
 
-  -- Both heights in one.
-  pub placed : (h : ℕ) → h < 2
-      → Owned (blocks h * D) (places s h) (want T h) (old P h) (either freeL freeM h) (was s P h)
-      (either leaf middle h)
-  placed zero hi = c .leaves
-  placed (suc zero) hi = c .middles
-  placed (suc (suc h)) hi = absurd (omega arith)
-
   module _ (h i : ℕ) (hi : h < 2) (bi : i < blocks h * D) where
     -- The entry of a block of one right says that right.
-    pub plain-entry : (r : ℕ) → Plain s d paint P h i r → entryWord s middle leaf T P h i ≡ eightOf r
+    pub plain-entry : (r : ℕ) → Plain s d paint P h i r → entryWord s owner T P h i ≡ eightOf r
     plain-entry r pl =
-        entry-says s middle leaf T P h i (plain-want s d paint P h i hi bi r pl)
+        entry-says s owner T P h i (plain-want s d paint P h i hi bi r pl)
         ∙ said-near (T (domainOf h i)) (λ b. r) (suc h) (addressOf h i) (number-first h D i hi bi .1)
         (λ b bb x. pl b bb (x ∙ first-address h i hi))
         ∙ said-plain r h (addressOf h i)
 
     -- The finished entry leads where the block wants a table.
-    pub entry-lead : isLead (entryWord s middle leaf T P h i) ≡ want T h i
+    pub entry-lead : isLead (entryWord s owner T P h i) ≡ want T h i
     entry-lead = by-cases (want T h i)
-        (λ w. ap isLead (entry-leads s middle leaf T P h i w) ∙ led w ∙ sym w)
-        (λ w. ap isLead (entry-says s middle leaf T P h i w)
+        (λ w. ap isLead (entry-leads s owner T P h i w) ∙ led w ∙ sym w)
+        (λ w. ap isLead (entry-says s owner T P h i w)
         ∙ wants-says s (T (domainOf h i)) (suc h) (addressOf h i) (aims-rights (domainOf h i)) (omega arith)
         (number-first h D i hi bi .1) w .rights
         ∙ sym w)
       where
-        led : want T h i ≡ true → isLead (tableOf s middle leaf h i) ≡ true
-        led w = place-low s h _ (c .range) hi (seek-owner _ _ _ _ _ _ (placed h hi) i bi w .0)
+        led : want T h i ≡ true → isLead (tableOf s owner h i) ≡ true
+        led w = place-low s h _ (c .range) hi (seek-owner _ _ _ _ _ _ (c .placed h hi) i bi w .0)

@@ -13,7 +13,8 @@ use Rattle.table.specs.Wants.{saidOf, wantsOf}
 use Rattle.table.proofs.BlockLaws.{block-above}
 use Rattle.table.proofs.FormLaws.{lawful}
 use Rattle.table.proofs.WantLaws.{wants-unsaid, says-said, pool-rights}
-use Rattle.places.specs.Final.{blocks, domainOf, addressOf, want, either, old, placeAt, entryOf, entryWord, tableWord}
+use Rattle.places.specs.Count.{blocks, domainOf, addressOf, want}
+use Rattle.places.specs.Final.{old, placeAt, entryOf, entryWord, tableWord}
 use Rattle.places.proofs.NumberLaws.{number-first, number-of, offset-below, address-index, root-number}
 use Rattle.places.proofs.OldLaws.{led-old, old-led, old-at}
 use Rattle.places.proofs.OwnedLaws.{seek-keeps}
@@ -24,10 +25,9 @@ use Rattle.plan.proofs.Setting.{Setting}
 use Rattle.plan.proofs.BlockRightsLaws.{wants-near, said-near}
 use Rattle.plan.proofs.MeetLaws.{RightsStay}
 use Rattle.plan.proofs.WantedLaws.{first-address, stays-want}
-use Rattle.plan.proofs.SettingLaws.{placed}
 
-module _ {s : Shape} {d : ℕ} {paint : Paint} {P middle leaf : ℕ → ℕ} {freeM freeL : ℕ → Bool}
-    (c : Setting s d paint P middle leaf freeM freeL) where
+module _ {s : Shape} {d : ℕ} {paint : Paint} {P : ℕ → ℕ} {owner : ℕ → ℕ → ℕ} {free : ℕ → ℕ → Bool}
+    (c : Setting s d paint P owner free) where
   abbrev D : ℕ
   D = s .domains
 
@@ -39,9 +39,6 @@ module _ {s : Shape} {d : ℕ} {paint : Paint} {P middle leaf : ℕ → ℕ} {fr
 
   abbrev T : ℕ → ℕ → ℕ
   T = aims s d paint P
-
-  abbrev owner : ℕ → ℕ → ℕ
-  owner h = either leaf middle h
 
   -- Entry `j` of a place whose owner had its table before: the walk of the old pool comes there.
   pub place-visits : (k h p j : ℕ) → InPlace s k h p j → owner h p < blocks h * D → old P h (owner h p) ≡ true
@@ -55,7 +52,7 @@ module _ {s : Shape} {d : ℕ} {paint : Paint} {P middle leaf : ℕ → ℕ} {fr
       let (r, v, l, t) = old-led s P e a ba h hi (rw x o) in
       let y : P r ≡ placeAt s h p =
       t ∙ ap (λ u. P (entryOf P h u)) x ∙ old-at s (c .settled .sound) h hi i bo o .1
-      ∙ ap (placeAt s h) (sym (placed c h hi .held .kept p bp bo o .1)) in
+      ∙ ap (placeAt s h) (sym (c .placed h hi .held .kept p bp bo o .1)) in
       let z : P r + index h a ≡ k = ap (λ u. u + index h a) y ∙ ap (λ u. placeAt s h p + u)
       (address-index h i j hi bj) ∙ sym q in
       rw z at (next v l)
@@ -78,7 +75,7 @@ module _ {s : Shape} {d : ℕ} {paint : Paint} {P middle leaf : ℕ → ℕ} {fr
   -- The entry of a block whose rights stay, where the old walk comes to it.
   entry-stays : (h i k : ℕ) → h < 2 → i < blocks h * D → RightsStay s d paint P h i
       → Visits F P (addressOf h i) 2 (entry F (domainOf h i) (addressOf h i)) (suc h) k
-      → entryWord s middle leaf T P h i ≡ P k
+      → entryWord s owner T P h i ≡ P k
   entry-stays h i k hi bi st v =
       let (be, ba, x) = number-first h D i hi bi in
       by-cases (leads (suc h) (P k))
@@ -86,11 +83,11 @@ module _ {s : Shape} {d : ℕ} {paint : Paint} {P middle leaf : ℕ → ℕ} {fr
       let (o, t) = led-old s P (domainOf h i) (addressOf h i) ba h (P k) (k, v, l, refl) in
       let o : old P h i ≡ true = rw x at o in
       let w : want T h i ≡ true = stays-want s d paint P h i hi bi (c .settled) st ∙ o in
-      entry-leads s middle leaf T P h i w
-      ∙ ap (placeAt s h) (seek-keeps _ _ _ _ _ _ (placed c h hi) i bi w o .1)
+      entry-leads s owner T P h i w
+      ∙ ap (placeAt s h) (seek-keeps _ _ _ _ _ _ (c .placed h hi) i bi w o .1)
       ∙ sym (old-at s (c .settled .sound) h hi i bi o .1) ∙ (rw x at t))
       (λ l.
-      entry-says s middle leaf T P h i (unsaid-stays (suc h) (domainOf h i) (addressOf h i) k (omega arith) be ba
+      entry-says s owner T P h i (unsaid-stays (suc h) (domainOf h i) (addressOf h i) k (omega arith) be ba
       v l near)
       ∙ said-stays (suc h) (domainOf h i) (addressOf h i) k (omega arith) be ba v l near)
     where
@@ -99,26 +96,26 @@ module _ {s : Shape} {d : ℕ} {paint : Paint} {P middle leaf : ℕ → ℕ} {fr
       near b bb y = st b bb (y ∙ first-address h i hi)
 
   -- A root word.
-  pub root-stays : (k : ℕ) → k < 1024 * D → RightsStay s d paint P 1 k → entryWord s middle leaf T P 1 k ≡ P k
+  pub root-stays : (k : ℕ) → k < 1024 * D → RightsStay s d paint P 1 k → entryWord s owner T P 1 k ≡ P k
   root-stays k bk st =
       let (be, ba, x) = number-first 1 D k (omega arith) bk in
       entry-stays 1 k k (omega arith) bk st (rw (root-number (domainOf 1 k) (addressOf 1 k) ba ∙ x) here)
 
   -- A word of a middle table, by its page ..
-  pub middle-stays : (k p j : ℕ) → InPlace s k 1 p j → middle p < 1024 * D → old P 1 (middle p) ≡ true
-      → RightsStay s d paint P 0 (1024 * middle p + j) → tableWord s middle leaf T P 1 (middle p) j ≡ P k
+  pub middle-stays : (k p j : ℕ) → InPlace s k 1 p j → owner 1 p < 1024 * D → old P 1 (owner 1 p) ≡ true
+      → RightsStay s d paint P 0 (1024 * owner 1 p + j) → tableWord s owner T P 1 (owner 1 p) j ≡ P k
   middle-stays k p j x bo o st =
-      let u : domainOf 0 (1024 * middle p + j) ≡ domainOf 1 (middle p) = omega arith in
-      let w : addressOf 0 (1024 * middle p + j) ≡ addressOf 1 (middle p) + 4096 * j = omega arith in
-      entry-stays 0 (1024 * middle p + j) k (omega arith) (omega arith) st (rw (u, w) (place-visits k 1 p j x bo o))
+      let u : domainOf 0 (1024 * owner 1 p + j) ≡ domainOf 1 (owner 1 p) = omega arith in
+      let w : addressOf 0 (1024 * owner 1 p + j) ≡ addressOf 1 (owner 1 p) + 4096 * j = omega arith in
+      entry-stays 0 (1024 * owner 1 p + j) k (omega arith) (omega arith) st (rw (u, w) (place-visits k 1 p j x bo o))
 
   -- .. and of a leaf.
-  pub leaf-stays : (k p j : ℕ) → InPlace s k 0 p j → leaf p < 1048576 * D → old P 0 (leaf p) ≡ true
-      → RightsStay s d paint P 0 (leaf p) → tableWord s middle leaf T P 0 (leaf p) j ≡ P k
+  pub leaf-stays : (k p j : ℕ) → InPlace s k 0 p j → owner 0 p < 1048576 * D → old P 0 (owner 0 p) ≡ true
+      → RightsStay s d paint P 0 (owner 0 p) → tableWord s owner T P 0 (owner 0 p) j ≡ P k
   leaf-stays k p j x bo o st =
-      let (be, ba, _) = number-of 0 D (leaf p) (64 * j) (omega arith) bo (omega arith) in
-      let w : (addressOf 0 (leaf p) + 64 * j) / 4096 ≡ leaf p % 1048576 = omega arith in
-      said-stays 0 (domainOf 0 (leaf p)) (addressOf 0 (leaf p) + 64 * j) k (omega arith) be ba
+      let (be, ba, _) = number-of 0 D (owner 0 p) (64 * j) (omega arith) bo (omega arith) in
+      let w : (addressOf 0 (owner 0 p) + 64 * j) / 4096 ≡ owner 0 p % 1048576 = omega arith in
+      said-stays 0 (domainOf 0 (owner 0 p)) (addressOf 0 (owner 0 p) + 64 * j) k (omega arith) be ba
       (place-visits k 0 p j x bo o) refl
       (λ b bb y. st b bb (block-above 1 0 b _ (omega arith) (omega arith) y ∙ w))
 

@@ -10,8 +10,9 @@ use Rattle.theory.specs.Settled.{Settled}
 use Rattle.table.specs.declared.Shape.{Shape}
 use Rattle.table.specs.Map.{block, formOf}
 use Rattle.table.proofs.WantLaws.{pool-rights}
-use Rattle.places.proofs.Exists.{settled-middle, settled-leaf}
-use Rattle.places.specs.Final.{blocks, domainOf, addressOf, want, old}
+use Rattle.places.proofs.Exists.{settled-table}
+use Rattle.places.specs.Count.{blocks, domainOf, addressOf, want}
+use Rattle.places.specs.Final.{old}
 use Rattle.places.proofs.NumberLaws.{number-first}
 use Rattle.targets.specs.declared.Paint.{Paint}
 use Rattle.plan.specs.Aims.{aims}
@@ -28,9 +29,7 @@ first-address (suc (suc h)) i hi = absurd (omega arith)
 -- A settled pool has a table where its rights want one.
 pub old-wants : (s : Shape) {P : ℕ → ℕ} → Settled (formOf s) P → (h i : ℕ) → h < 2 → i < blocks h * s .domains
     → old P h i ≡ want (rightOf (formOf s) P) h i
-old-wants s {P} st zero i hi bi = settled-leaf _ (λ e a be ba. refl) (λ e be. pool-rights _ P e) st i bi
-old-wants s {P} st (suc zero) i hi bi = settled-middle _ (λ e a be ba. refl) (λ e be. pool-rights _ P e) st i bi
-old-wants s st (suc (suc h)) i hi bi = absurd (omega arith)
+old-wants s {P} st h i hi bi = settled-table s (λ e a be ba. refl) (λ e be. pool-rights s P e) st h i hi bi
 
 module _ (s : Shape) (d : ℕ) (paint : Paint) (P : ℕ → ℕ) (h i : ℕ) (hi : h < 2) (bi : i < blocks h * s .domains) where
   -- A block of one right wants no table.

@@ -11,12 +11,12 @@ use Rattle.theory.specs.Pool.{words}
 use Rattle.words.specs.Rights.{rightAt, eightOf}
 use Rattle.table.specs.declared.Shape.{Shape}
 use Rattle.theory.specs.Settled.{Settled}
-use Rattle.table.specs.Shape.{InRange, firstPlace, places}
-use Rattle.table.specs.Map.{block, size, formOf}
+use Rattle.table.specs.Shape.{InRange, firstPlace, places, size}
+use Rattle.table.specs.Map.{block, formOf}
 use Rattle.table.specs.Wants.{saidOf}
-use Rattle.places.specs.Count.{count, Room}
+use Rattle.places.specs.Count.{count, Room, blocks, domainOf, addressOf, want}
+use Rattle.places.specs.Final.{old, was, placeAt, AllOwned, entryWord}
 use Rattle.places.specs.Owners.{seek, Owned, Keeping}
-use Rattle.places.specs.Final.{blocks, domainOf, addressOf, want, old, was, placeAt, entryWord}
 use Rattle.census.specs.Places.{firstNumber}
 use Rattle.census.specs.Tally.{none}
 use Rattle.targets.specs.declared.Paint.{Paint}
@@ -51,12 +51,12 @@ entryAt P zero d n =
     (eightOf (rightAt (P (1024 * d + n / 1024)) (n / 128 % 8)))
 entryAt P (suc h) d n = P (1024 * d + n)
 
-module _ (s : Shape) (d : ℕ) (paint : Paint) (P middle leaf : ℕ → ℕ) where
+module _ (s : Shape) (d : ℕ) (paint : Paint) (P : ℕ → ℕ) (owner : ℕ → ℕ → ℕ) where
   -- The edge for block `n` of height `suc h`: its number, the entry that it had, and the finished entry.
   pub record EdgeIs (h n : ℕ) (e : Edge) : Type 0 where
     pub number : e .number ≡ n
     pub old : e .old ≡ entryAt P h d n
-    pub last : e .last ≡ entryWord s middle leaf (aims s d paint P) P h
+    pub last : e .last ≡ entryWord s owner (aims s d paint P) P h
         (blocks h * d + n)
 
   -- The plan is right at its edges.
@@ -77,13 +77,10 @@ Placed s d paint P h free owner =
 
 -- A plan that is ready: the tables of the finished pool have their places, and the plan is right at its edges.
 pub record PlanReady (s : Shape) (d : ℕ) (paint : Paint) (P : ℕ → ℕ) (q : Plan) : Type 0 where
-  pub free-middle : ℕ → Bool
-  pub free-leaf : ℕ → Bool
-  pub middle : ℕ → ℕ
-  pub leaf : ℕ → ℕ
-  pub middles : Placed s d paint P 1 free-middle middle
-  pub leaves : Placed s d paint P 0 free-leaf leaf
-  pub edges : Edges s d paint P middle leaf q
+  pub free : ℕ → ℕ → Bool
+  pub owner : ℕ → ℕ → ℕ
+  pub placed : AllOwned s (aims s d paint P) P free owner
+  pub edges : Edges s d paint P owner q
 
 -- The plan of a change: ready, or the finished rights need more tables than there are places.
 abbrev pub PlansChange : Shape → ℕ → Paint → (ℕ → ℕ) → Planning → Type 0

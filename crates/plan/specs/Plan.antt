@@ -4,7 +4,7 @@ use Prim.Native.Nat.{ℕ, _+_, _*_, _-_, _/_, _%_, _<_, _≤_}
 use mathlib.Core.Path.{_≡_}
 use mathlib.Core.Bool.{Bool, cond, _&&_, _||_, not}
 use lib.Dec.{eqb, leb, ltb}
-use Rattle.words.specs.Rights.{rightAt, eightOf, sixteenOf}
+use Rattle.words.specs.Rights.{bit31, rightAt, eightOf, sixteenOf}
 use Rattle.table.specs.declared.Shape.{Shape}
 use Rattle.table.specs.Shape.{firstLeaf}
 use Rattle.table.specs.Wants.{saidOf}
@@ -15,7 +15,7 @@ use Rattle.plan.specs.declared.Plan.{Plan}
 
 -- A root or middle word leads: bit 31 is clear.
 abbrev pub isLead : ℕ → Bool
-isLead w = ltb w 2147483648
+isLead w = ltb w bit31
 
 -- Word `k` is one of the `n` words from `t` on.
 abbrev pub InTable : ℕ → ℕ → ℕ → Bool

@@ -5,7 +5,8 @@ use native.Mathlib.Omega.{arith}
 use native.Mathlib.Decide.{ℕ-discrete}
 use Rattle.theory.specs.Settled.{Together}
 use Rattle.table.specs.declared.Shape.{Shape}
-use Rattle.table.specs.Map.{addresses, block, part, parts, size, index, formOf}
+use Rattle.table.specs.Shape.{size}
+use Rattle.table.specs.Map.{addresses, block, part, parts, index, formOf}
 use Rattle.table.specs.Wants.{wordAt, wordsIn}
 
 -- The number of a block: it is the number of the block above, and the index in the table of that one.

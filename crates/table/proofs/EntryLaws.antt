@@ -13,8 +13,8 @@ use Rattle.words.specs.declared.PoolWord.{PoolWord}
 use Rattle.table.specs.declared.Shape.{Shape}
 use Rattle.table.specs.declared.Entry.{Entry}
 use Rattle.table.specs.declared.Entry.the-variants.{Rights, Leads, Bad}
-use Rattle.table.specs.Shape.{firstMiddle, firstLeaf, poolLength}
-use Rattle.table.specs.Map.{isPlace, block, part, parts, size, index, leads, good, formOf}
+use Rattle.table.specs.Shape.{firstMiddle, firstLeaf, poolLength, size}
+use Rattle.table.specs.Map.{isPlace, block, part, parts, index, leads, good, formOf}
 use Rattle.table.specs.Entries.{leadsTo, decodeOf}
 use Rattle.theory.proofs.Logic.{and-both}
 

@@ -11,11 +11,11 @@ use borrow.Author.Tests.{lt-ltb, le-ltb, ltb-true, le-leb, leb-true, eq-eqb, eqb
 use Rattle.theory.specs.Settled.{Together, Says}
 use Rattle.theory.specs.Lawful.{Lawful, Exact}
 use Rattle.theory.proofs.Logic.{by-cases, and-both}
-use Rattle.words.specs.Rights.{rightAt, goodRights}
+use Rattle.words.specs.Rights.{bit31, rightAt, goodRights}
 use Rattle.words.proofs.RightsLaws.{good-low, digits-equal, good-digits-equal}
 use Rattle.table.specs.declared.Shape.{Shape}
-use Rattle.table.specs.Shape.{firstMiddle, firstLeaf, firstPlace, places}
-use Rattle.table.specs.Map.{addresses, block, part, parts, size, index, leads, isPlace, good, zone, formOf}
+use Rattle.table.specs.Shape.{firstMiddle, firstLeaf, firstPlace, places, size}
+use Rattle.table.specs.Map.{addresses, block, part, parts, index, leads, isPlace, good, zone, formOf}
 use Rattle.table.specs.Wants.{wordAt, wordsIn}
 use Rattle.table.proofs.BlockLaws.{block-together, first-word, word-below, word-block, word-number, entryAt}
 use Rattle.table.proofs.BlockLaws.{entry-below}
@@ -47,48 +47,37 @@ nth-place from long n p b h =
     (lt-ltb (from + long * p) (from + long * n) (omega arith)))
     (eq-eqb _ 0 (ap (λ x. x % long) (add-sub-cancel-left from (long * p)) ∙ mul-mod-right long p))
 
+-- A table has a word.
+some-words : (h : ℕ) → 0 < size h
+some-words zero = omega arith
+some-words (suc h) = omega arith
+
 module _ (s : Shape) where
   -- A good entry that leads is the first word of a place one height below ..
   pub leads-place : (h w : ℕ) → good s (suc h) w ≡ true → leads (suc h) w ≡ true
       → (h < 2) × (p : ℕ) × (p < places s h) × (w ≡ firstPlace s h + size h * p)
-  leads-place zero w g l =
-      let (p, b, e) = place-nth (firstLeaf s) 64 (s .leaves) w (omega arith) (rw l at g) in
-      (omega arith, p, b, e)
-  leads-place (suc zero) w g l =
-      let (p, b, e) = place-nth (firstMiddle s) 1024 (s .middles) w (omega arith) (rw l at g) in
-      (omega arith, p, b, e)
-  leads-place (suc (suc h)) w g l = absurd (false≢true g)
+  leads-place h w g l =
+      let (low, c) = and-both (ltb h 2) _ g in
+      let (p, b, e) = place-nth (firstPlace s h) (size h) (places s h) w (some-words h) (rw l at c) in
+      (ltb-true h 2 low, p, b, e)
 
   -- .. and each such word below 2^31 is one.
-  pub place-leads : (h p : ℕ) → h < 2 → p < places s h → firstPlace s h + size h * p < 2147483648
+  pub place-leads : (h p : ℕ) → h < 2 → p < places s h → firstPlace s h + size h * p < bit31
       → (good s (suc h) (firstPlace s h + size h * p) ≡ true)
       × (leads (suc h) (firstPlace s h + size h * p) ≡ true)
-  place-leads zero p hi b low =
-      let l = lt-ltb (firstLeaf s + 64 * p) 2147483648 low in
-      (rw l (nth-place (firstLeaf s) 64 (s .leaves) p (omega arith) b), l)
-  place-leads (suc zero) p hi b low =
-      let l = lt-ltb (firstMiddle s + 1024 * p) 2147483648 low in
-      (rw l (nth-place (firstMiddle s) 1024 (s .middles) p (omega arith) b), l)
-  place-leads (suc (suc h)) p hi b low = absurd (omega arith)
+  place-leads h p hi b low =
+      let l = lt-ltb (firstPlace s h + size h * p) bit31 low in
+      (rw (lt-ltb h 2 hi, l) (nth-place (firstPlace s h) (size h) (places s h) p (some-words h) b), l)
 
   -- A good entry of a root or middle table that does not lead is eight rights, and the other way round.
   pub good-eight : (h w : ℕ) → good s (suc h) w ≡ true → leads (suc h) w ≡ false → goodRights w ≡ true
-  good-eight zero w g l = rw l at g
-  good-eight (suc zero) w g l = rw l at g
-  good-eight (suc (suc h)) w g l = absurd (false≢true g)
+  good-eight h w g l = let (_, c) = and-both (ltb h 2) _ g in rw l at c
 
   pub eight-good : (h w : ℕ) → h < 2 → goodRights w ≡ true → (good s (suc h) w ≡ true) × (leads (suc h) w ≡ false)
-  eight-good h w hi g = (is h hi, high)
+  eight-good h w hi g = (rw (lt-ltb h 2 hi, high) g, high)
     where
-      high : ltb w 2147483648 ≡ false
-      high = by-cases (ltb w 2147483648)
-          (λ l. absurd (false≢true (sym (good-low w (ltb-true w 2147483648 l)) ∙ g)))
-          (λ l. l)
-
-      is : (h : ℕ) → h < 2 → good s (suc h) w ≡ true
-      is zero hi = rw high g
-      is (suc zero) hi = rw high g
-      is (suc (suc h)) hi = absurd (omega arith)
+      high : ltb w bit31 ≡ false
+      high = by-cases (ltb w bit31) (λ l. absurd (false≢true (sym (good-low w (ltb-true w bit31 l)) ∙ g))) (λ l. l)
 
   -- Tables stand apart.
 
@@ -145,7 +134,7 @@ module _ (s : Shape) where
       good-digits-equal w x (rights-low w p) (rights-low x q) p q e
     where
       rights-low : (y : ℕ) → goodRights y ≡ true → y < addresses
-      rights-low y r = let z = eqb-true (y / 2147483648) 1 (and-both _ _ r .0) in omega arith
+      rights-low y r = let z = eqb-true (y / bit31) 1 (and-both _ _ r .0) in omega arith
 
   at-entry : (h a i : ℕ) → a < addresses → i < size h → (b : ℕ) × (b < addresses) × Together (formOf s) (suc h) a b
       × (index h b ≡ i)

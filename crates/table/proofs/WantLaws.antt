@@ -19,7 +19,8 @@ use Rattle.words.specs.Region.{covered}
 use Rattle.words.specs.declared.Region.{Region}
 use Rattle.words.proofs.RightsLaws.{right-small, pack-digit, pack-range, pack-good, pack-same}
 use Rattle.table.specs.declared.Shape.{Shape}
-use Rattle.table.specs.Map.{addresses, block, part, parts, size, index, leads, Divided, formOf}
+use Rattle.table.specs.Shape.{size}
+use Rattle.table.specs.Map.{addresses, block, part, parts, index, leads, Divided, formOf}
 use Rattle.table.specs.Wants.{any, wordAt, wordsIn, mixed, wantsOf, above, saidOf, WordRights}
 use Rattle.table.proofs.BlockLaws.{block-above, block-together, together-block, part-in-block, number-below}
 use Rattle.table.proofs.BlockLaws.{part-above}

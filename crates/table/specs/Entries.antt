@@ -2,12 +2,12 @@
 use Prim.Native.Nat.{ℕ, zero, suc, _+_, _*_, _-_, _/_}
 use mathlib.Core.Bool.{Bool, cond}
 use lib.Dec.{eqb, ltb}
-use Rattle.words.specs.Rights.{goodRights}
+use Rattle.words.specs.Rights.{bit31, goodRights}
 use Rattle.words.specs.declared.PoolWord.{PoolWord}
 use Rattle.table.specs.declared.Shape.{Shape}
 use Rattle.table.specs.declared.Entry.{Entry}
 use Rattle.table.specs.declared.Entry.the-variants.{Rights, Leads, Bad}
-use Rattle.table.specs.Shape.{firstMiddle, firstLeaf, maxMiddles}
+use Rattle.table.specs.Shape.{size, firstMiddle, firstLeaf, maxMiddles}
 use Rattle.table.specs.Map.{isPlace}
 
 -- The word `w` leads to one of `n` places of `long` words from `from` on, which are numbered from `nth` on; or it is
@@ -19,8 +19,8 @@ leadsTo from long n nth w = cond (isPlace from long n w) (Leads (record { 0 = w 
 abbrev pub decodeOf : Shape → ℕ → ℕ → Entry
 decodeOf s h w =
     cond (eqb h 0) (Rights w)
-    (cond (ltb w 2147483648)
+    (cond (ltb w bit31)
     (cond (eqb h 1)
-    (leadsTo (firstLeaf s) 64 (s .leaves) maxMiddles w)
-    (leadsTo (firstMiddle s) 1024 (s .middles) 0 w))
+    (leadsTo (firstLeaf s) (size 0) (s .leaves) maxMiddles w)
+    (leadsTo (firstMiddle s) (size 1) (s .middles) 0 w))
     (cond (goodRights w) (Rights w) Bad))

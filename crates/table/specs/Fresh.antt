@@ -7,7 +7,7 @@ use lib.ListN.{length, replicate}
 use Rattle.table.specs.declared.Shape.{Shape}
 use Rattle.table.specs.declared.Made.{Made}
 use Rattle.table.specs.declared.Made.the-variants.{Done, Refused}
-use Rattle.table.specs.Shape.{fitsOf}
+use Rattle.table.specs.Shape.{size, fitsOf}
 
 -- The paper's number for what comes back: 0 for done.
 abbrev pub madeNumber : Made → ℕ
@@ -16,7 +16,7 @@ madeNumber (Refused n) = n
 
 -- Every root word 0x80000000, and every other word 0.
 abbrev pub freshPool : Shape → List ℕ
-freshPool s = replicate (1024 * s .domains) 0x80000000 ++ replicate (1024 * s .middles + 64 * s .leaves) 0
+freshPool s = replicate (size 2 * s .domains) 0x80000000 ++ replicate (size 1 * s .middles + size 0 * s .leaves) 0
 
 -- What making fresh answers: 1 for a shape that does not fit, else done.
 abbrev pub freshOf : Shape → ℕ → Made

@@ -6,9 +6,9 @@ use mathlib.Core.Logic.{_≢_}
 use mathlib.Core.Bool.{Bool, false, cond, _&&_}
 use lib.Dec.{eqb, ltb, leb}
 use Rattle.theory.specs.Form.{Form}
-use Rattle.words.specs.Rights.{rightAt, goodRights}
+use Rattle.words.specs.Rights.{bit31, rightAt, goodRights}
 use Rattle.table.specs.declared.Shape.{Shape}
-use Rattle.table.specs.Shape.{firstMiddle, firstLeaf}
+use Rattle.table.specs.Shape.{size, firstMiddle, firstLeaf, firstPlace, places}
 
 -- An address is 32 bits.
 abbrev pub addresses : ℕ
@@ -31,11 +31,6 @@ abbrev pub parts : ℕ → ℕ
 parts zero = 16
 parts (suc h) = 8
 
--- How many entries a table has.
-abbrev pub size : ℕ → ℕ
-size zero = 64
-size (suc h) = 1024
-
 -- The entry by which an address goes: bits 31 to 22 in a root, 21 to 12 in a middle table, 11 to 6 in a leaf.
 abbrev pub index : ℕ → ℕ → ℕ
 index h a = a / block h % size h
@@ -43,7 +38,7 @@ index h a = a / block h % size h
 -- Bit 31 clear in a root or middle entry: a pool word number.
 abbrev pub leads : ℕ → ℕ → Bool
 leads zero w = false
-leads (suc h) w = ltb w 2147483648
+leads (suc h) w = ltb w bit31
 
 -- The word `w` is the number of the first word of one of `n` places of `long` words, the first of which begins at
 -- `from`.
@@ -56,13 +51,11 @@ Divided n s R a =
     (b : ℕ) × (c : ℕ) × (b < addresses) × (c < addresses) × (b / n ≡ a / n) × (b / s ≡ c / s) × (R b ≢ R c)
 
 module _ (s : Shape) where
-  -- A word is good: any word in a leaf; in a middle table eight rights or the first word of a leaf place; in a root
-  -- eight rights or the first word of a middle place.
+  -- A word is good: any word in a leaf; in a middle table or a root, of the height `suc h`, eight rights, or the first
+  -- word of a place for a table one level down.
   abbrev pub good : ℕ → ℕ → Bool
   good zero w = ltb w 4294967296
-  good (suc zero) w = cond (ltb w 2147483648) (isPlace (firstLeaf s) 64 (s .leaves) w) (goodRights w)
-  good (suc (suc zero)) w = cond (ltb w 2147483648) (isPlace (firstMiddle s) 1024 (s .middles) w) (goodRights w)
-  good (suc (suc (suc h))) w = false
+  good (suc h) w = ltb h 2 && cond (leads (suc h) w) (isPlace (firstPlace s h) (size h) (places s h) w) (goodRights w)
 
   -- The height whose tables may have a pool word.
   abbrev pub zone : ℕ → ℕ
@@ -74,7 +67,7 @@ module _ (s : Shape) where
     top = 2;
     domains = s .domains;
     span = addresses;
-    root = λ d. 1024 * d;
+    root = λ d. size 2 * d;
     size = size;
     index = index;
     good = good;

@@ -19,13 +19,18 @@ maxMiddles = 8
 abbrev pub maxLeaves : ℕ
 maxLeaves = 64
 
--- The pool word where the middle places begin: after D roots of 1,024 words.
-abbrev pub firstMiddle : Shape → ℕ
-firstMiddle s = 1024 * s .domains
+-- How many entries a table has, each one word: 64 in a leaf, 1,024 in a middle table and in a root.
+abbrev pub size : ℕ → ℕ
+size zero = 64
+size (suc h) = 1024
 
--- The pool word where the leaf places begin: after M middle places of 1,024 words.
+-- The pool word where the middle places begin: after D roots.
+abbrev pub firstMiddle : Shape → ℕ
+firstMiddle s = size 2 * s .domains
+
+-- The pool word where the leaf places begin: after M middle places.
 abbrev pub firstLeaf : Shape → ℕ
-firstLeaf s = 1024 * s .domains + 1024 * s .middles
+firstLeaf s = size 2 * s .domains + size 1 * s .middles
 
 -- Where the places for tables of a height begin, and how many they are.
 abbrev pub firstPlace : Shape → ℕ → ℕ
@@ -36,9 +41,9 @@ abbrev pub places : Shape → ℕ → ℕ
 places s zero = s .leaves
 places s (suc h) = s .middles
 
--- The length of the pool: L leaf places of 64 words come last.
+-- The length of the pool: L leaf places come last.
 abbrev pub poolLength : Shape → ℕ
-poolLength s = 1024 * s .domains + 1024 * s .middles + 64 * s .leaves
+poolLength s = size 2 * s .domains + size 1 * s .middles + size 0 * s .leaves
 
 -- D, M and L are in their ranges.
 pub record InRange (s : Shape) : Type 0 where

@@ -3,8 +3,8 @@
 // tables stand in the pool.
 ghost use mathlib.Core.Path.{_≡_};
 ghost use Prim.Native.Nat.{_+_, _*_, _/_, _<_, _≤_};
-ghost use Rattle.table.specs.Shape.{InRange, firstPlace, places};
-ghost use Rattle.table.specs.Map.{block, parts, size, leads};
+ghost use Rattle.table.specs.Shape.{InRange, firstPlace, places, size};
+ghost use Rattle.table.specs.Map.{block, parts, leads};
 ghost use Rattle.table.specs.Wants.{wordsIn, sameOf};
 use crate::Shape;
 use words::PoolWord;
@@ -16,6 +16,13 @@ pub const ROOT: u32 = 2;
 pub const TABLE_WORDS: u32 = 1024;
 
 pub const LEAF_WORDS: u32 = 64;
+
+// The bytes of the block of an entry: 4 MB in a root, a page in a middle table, 64 in a leaf.
+pub const BLOCK_BYTES: u32 = 4194304;
+
+pub const PAGE_BYTES: u32 = 4096;
+
+pub const LINE_BYTES: u32 = 64;
 
 // Bit 31, which is clear in an entry above the leaves exactly where it leads.
 pub const BIT_31: u32 = 0x8000_0000;
@@ -45,12 +52,12 @@ pub fn block_words(height: u32) -> u32
     ensures { λ r. ⌜ r ≡ block height / 4 ⌝ }
 {
     if height == 0 {
-        return 16;
+        return LINE_BYTES / 4;
     }
     if height == 1 {
-        return 1024;
+        return PAGE_BYTES / 4;
     }
-    1048576
+    BLOCK_BYTES / 4
 }
 
 // How many memory words one of its rights covers.

@@ -18,7 +18,10 @@ use words::PoolWord;
 mod geometry; // geometry.rt: blocks, parts, sizes and places by the height
 
 pub use geometry::BIT_31;
+pub use geometry::BLOCK_BYTES;
 pub use geometry::LEAF_WORDS;
+pub use geometry::LINE_BYTES;
+pub use geometry::PAGE_BYTES;
 pub use geometry::ROOT;
 pub use geometry::TABLE_WORDS;
 pub use geometry::block_words;
@@ -37,6 +40,9 @@ pub const MAX_DOMAINS: u32 = 4;
 pub const MAX_MIDDLES: u32 = 8;
 
 pub const MAX_LEAVES: u32 = 64;
+
+// Places are numbered: the middle ones from 0 on, the leaf places from this number on.
+pub const FIRST_LEAF: usize = 8;
 
 // The kinds of access, as numbers from outside.
 pub const LOAD: u32 = 0;
@@ -102,7 +108,7 @@ pub fn shape_fits(shape: Shape, long: usize) -> bool
     if leaves > MAX_LEAVES {
         return false;
     }
-    long == (1024 * domains + 1024 * middles + 64 * leaves) as usize
+    long == (TABLE_WORDS * domains + TABLE_WORDS * middles + LEAF_WORDS * leaves) as usize
 }
 
 // The entry by which an address goes in a table of a height.
@@ -112,12 +118,12 @@ pub fn index_in(height: u32, address: ByteAddr) -> usize
 {
     let a = words::addr_number(address);
     if height == 2 {
-        return (a / 4194304 % 1024) as usize;
+        return (a / BLOCK_BYTES % TABLE_WORDS) as usize;
     }
     if height == 1 {
-        return (a / 4096 % 1024) as usize;
+        return (a / PAGE_BYTES % TABLE_WORDS) as usize;
     }
-    (a / 64 % 64) as usize
+    (a / LINE_BYTES % LEAF_WORDS) as usize
 }
 
 // Which right of an entry of a height is that of an address.
@@ -167,13 +173,13 @@ pub fn decode(shape: Shape, height: u32, w: u32) -> Entry
     if height == 0 {
         return Entry::Rights(w);
     }
-    if w < 0x8000_0000 {
+    if w < BIT_31 {
         if height == 1 {
-            let first_leaf = words::pool_word(1024 * domains + 1024 * middles);
-            return leads_to(first_leaf, 64, leaves, 8, w);
+            let first_leaf = words::pool_word(TABLE_WORDS * domains + TABLE_WORDS * middles);
+            return leads_to(first_leaf, LEAF_WORDS, leaves, FIRST_LEAF, w);
         }
-        let first_middle = words::pool_word(1024 * domains);
-        return leads_to(first_middle, 1024, middles, 0, w);
+        let first_middle = words::pool_word(TABLE_WORDS * domains);
+        return leads_to(first_middle, TABLE_WORDS, middles, 0, w);
     }
     if words::good_rights(w) {
         return Entry::Rights(w);
@@ -201,7 +207,7 @@ pub fn fresh(pool: &mut [u32], shape: Shape) -> Made
         return Made::Refused(1);
     }
     let domains = shape.domains;
-    let past_roots = words::pool_word(1024 * domains);
+    let past_roots = words::pool_word(TABLE_WORDS * domains);
     let roots = words::pool_index(past_roots);
     fill(&mut pool[..roots], 0x8000_0000);
     fill(&mut pool[roots..], 0);
@@ -229,7 +235,7 @@ fn walk_down(pool: &[u32], shape: Shape, domain: u32, address: ByteAddr) -> Foun
 {
     let mut height: u32 = 2;
     let mut loads: u32 = 0;
-    let root = words::pool_word(1024 * domain);
+    let root = words::pool_word(TABLE_WORDS * domain);
     let first = index_in(2, address);
     let mut at = words::word_after(root, first);
     loop {

@@ -6,7 +6,8 @@ use native.Mathlib.Omega.{arith}
 use Rattle.theory.proofs.Logic.{by-cases}
 use Rattle.words.specs.Rights.{rightAt}
 use Rattle.words.proofs.RightsLaws.{right-small}
-use Rattle.table.specs.Map.{block, part, parts, size, index, leads}
+use Rattle.table.specs.Shape.{size}
+use Rattle.table.specs.Map.{block, part, parts, index, leads}
 use Rattle.table.specs.Wants.{wordsIn}
 use Rattle.targets.specs.declared.Paint.{Paint}
 use Rattle.targets.specs.Targets.{painted, given, Gives, GivesLeaf}

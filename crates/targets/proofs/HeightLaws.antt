@@ -2,7 +2,8 @@
 use Prim.Native.Nat.{ℕ, zero, suc, _+_, _*_, _-_, _/_, _≤_, _<_}
 use mathlib.Core.Path.{_≡_}
 use native.Mathlib.Omega.{arith}
-use Rattle.table.specs.Map.{block, size}
+use Rattle.table.specs.Shape.{size}
+use Rattle.table.specs.Map.{block}
 use Rattle.table.specs.Wants.{wordsIn}
 use Rattle.targets.specs.Targets.{entryBlocks}
 use Rattle.targets.proofs.PartLaws.{partWord}

@@ -13,8 +13,8 @@ use Rattle.theory.proofs.RightLaws.{right-down, right-says}
 use Rattle.words.specs.Rights.{rightAt, goodRights, eightOf}
 use Rattle.words.proofs.RightsLaws.{right-small, eight-right, eight-good}
 use Rattle.table.specs.declared.Shape.{Shape}
-use Rattle.table.specs.Shape.{Fits, firstPlace, places}
-use Rattle.table.specs.Map.{block, part, parts, size, index, leads, formOf}
+use Rattle.table.specs.Shape.{Fits, firstPlace, places, size}
+use Rattle.table.specs.Map.{block, part, parts, index, leads, formOf}
 use Rattle.table.proofs.FormLaws.{leads-place, good-eight}
 use Rattle.table.proofs.FormLaws as FormLaws
 use Rattle.targets.specs.Targets.{given, Gives, GivesLeaf, Readable}

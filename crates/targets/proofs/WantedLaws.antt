@@ -15,10 +15,11 @@ use Rattle.theory.specs.Settled.{Settled}
 use Rattle.theory.proofs.Logic.{by-cases, and-both}
 use Rattle.table.specs.declared.Shape.{Shape}
 use Rattle.table.specs.Shape.{Fits}
-use Rattle.table.specs.Map.{addresses, block, formOf}
+use Rattle.table.specs.Map.{addresses, block, leads, formOf}
 use Rattle.table.specs.Wants.{wantsOf, WordRights}
 use Rattle.table.proofs.WantLaws.{wants-block, wants-up, pool-rights}
-use Rattle.places.specs.Final.{blocks, domainOf, entryOf, oldMiddle, old, want}
+use Rattle.places.specs.Count.{blocks, domainOf, want}
+use Rattle.places.specs.Final.{entryOf, old}
 use Rattle.places.proofs.Exists as Exists
 use Rattle.census.specs.Places.{maxPlaces, placeHeight, placeWord}
 use Rattle.census.proofs.PlaceLaws.{middle-number, leaf-number}
@@ -55,7 +56,7 @@ unpainted-wants p R h n t r none e f = e ∙ ap isMixed (f ∙ unpainted-target 
 pub entry-gives : (s : Shape) (P : ℕ → ℕ) (h i : ℕ) → h < 2 → old P h i ≡ true
     → Gives P (suc h) (P (entryOf P h i)) (i % blocks h) (rightOf (formOf s) P (domainOf h i))
 entry-gives s P zero i hi o =
-    let (l, _) = and-both (oldMiddle P (i / 1024)) (ltb (P (entryOf P 0 i)) 2147483648) o in
+    let (l, _) = and-both (leads 2 (P (i / 1024))) (leads 1 (P (entryOf P 0 i))) o in
     let e : 1024 * (i / 1048576) + i / 1024 % 1024 ≡ i / 1024 = omega arith in
     let n : i / 1024 % 1024 * 1024 + i % 1024 ≡ i % 1048576 = omega arith in
     rw n at (middle-gives P (rightOf (formOf s) P (i / 1048576)) (P (i / 1024)) (i / 1024 % 1024) (i % 1024) l
@@ -158,9 +159,7 @@ module _ (p : List ℕ) (s : Shape) (fits : Fits s (length p)) (q : SoundPool (f
         rw (e, was-owner p s fits q o own h hi i b x) at (w _ (omega arith) c t)
 
     pub wanted-settled : WantedFrom p s o 0 → Settled (formOf s) (words p)
-    wanted-settled w =
-        Exists.wanted-settled s q
-        (λ i b x. old-wanted w 1 i (omega arith) b x) (λ i b x. old-wanted w 0 i (omega arith) b x)
+    wanted-settled w = Exists.wanted-settled s q (λ h hi i b x. old-wanted w h i hi b x)
 
     -- .. and only there.
     pub settled-wanted : Settled (formOf s) (words p) → WantedFrom p s o 0

@@ -7,7 +7,8 @@ use lib.ListN.{length}
 use Rattle.theory.specs.Pool.{words}
 use Rattle.words.specs.Rights.{rightAt, goodRights}
 use Rattle.words.specs.Region.{covered}
-use Rattle.table.specs.Map.{addresses, block, part, parts, size, index, leads}
+use Rattle.table.specs.Shape.{size}
+use Rattle.table.specs.Map.{addresses, block, part, parts, index, leads}
 use Rattle.table.specs.Wants.{wantsOf, saidOf}
 use Rattle.targets.specs.declared.Paint.{Paint}
 use Rattle.targets.specs.declared.Target.{Target}

@@ -7,7 +7,7 @@ ghost use Rattle.theory.specs.Pool.{words, SoundPool, rightOf};
 ghost use Rattle.theory.specs.Settled.{Settled};
 ghost use Rattle.table.specs.Shape.{Fits};
 ghost use Rattle.table.specs.Map.{formOf};
-ghost use Rattle.places.specs.Final.{want};
+ghost use Rattle.places.specs.Count.{want};
 ghost use Rattle.census.specs.Places.{maxPlaces, placeHeight};
 ghost use Rattle.census.specs.Census.{StandsAt, Owners};
 ghost use Rattle.targets.specs.Targets.{Decides};

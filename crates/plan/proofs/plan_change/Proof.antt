@@ -9,7 +9,7 @@ use Rattle.plan.specs.Edges.{draftOf, EndsAre}
 use Rattle.plan.proofs.DraftLaws.{pool-root, pool-gives}
 use Rattle.plan.proofs.KeptLaws.{marked-all}
 use Rattle.plan.proofs.PlanLaws.{told-blocks, told-pages, giving-middles, giving-leaves, plan-ready}
-use Rattle.plan.proofs.PlanLaws.{full-middles, full-leaves}
+use Rattle.plan.proofs.PlanLaws.{full-height}
 use Rattle.plan.proofs.plan_change.Statement.{statement}
 use Rattle.plan.proofs.plan_change.Tie as tie
 
@@ -95,7 +95,7 @@ returns : tie.Need-returns
 returns c =
     let e = c .before .before in
     let a = e .before .before .before .before .before .before .before .before .before .before .before .args in
-    full-middles (a .shape) (a .domain) (a .paint) (words (a .pool .now))
+    full-height (a .shape) (a .domain) (a .paint) (words (a .pool .now)) 1 (omega arith)
     (subst (EndsAre (a .shape) (a .domain) (a .paint) (words (a .pool .now)) 1) (c .enum-told .given .1) (middles e))
 
 kept-places-requires-2 : tie.Need-kept-places-requires-2
@@ -142,7 +142,7 @@ returns-2 c =
     let e = c .before .before in
     let f = e .before .before .before .before .before .before .before .before .before .before .before in
     let a = f .before .before .before .before .before .args in
-    full-leaves (a .shape) (a .domain) (a .paint) (words (a .pool .now))
+    full-height (a .shape) (a .domain) (a .paint) (words (a .pool .now)) 0 (omega arith)
     (subst (EndsAre (a .shape) (a .domain) (a .paint) (words (a .pool .now)) 0) (c .enum-told2 .given .1) (leaves e))
 
 returns-3 : tie.Need-returns-3

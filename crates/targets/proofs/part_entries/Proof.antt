@@ -1,7 +1,7 @@
 -- `targets::part_entries` meets its contract.
 use Prim.Native.Nat.{ℕ, zero, suc, _/_}
 use mathlib.Core.Path.{_≡_, refl}
-use Rattle.table.specs.Map.{size}
+use Rattle.table.specs.Shape.{size}
 use Rattle.targets.proofs.part_entries.Statement.{statement}
 use Rattle.targets.proofs.part_entries.Tie as tie
 
