@@ -19,6 +19,14 @@ echo "- A time is the median of 301 repetitions of about half a millisecond or m
 echo
 "$bench"
 echo
+echo "For scale, beside what a user might have taken instead, measured in the same way. These do less:"
+echo "- The interval map is a BTreeMap of segments for each domain, in plain Rust, given the same rights. It allocates,"
+echo "  checks nothing of what it finds, and a cut in the middle of a change leaves it broken."
+echo "- \`mprotect\` gives one page a right, in the kernel's own structures, for one process: pages and not words, and"
+echo "  nothing that outlives a power cut; but then the processor itself refuses the access."
+echo
+"$bench" others
+echo
 echo "- Load of the machine after the run: $(cut -d ' ' -f 1-3 /proc/loadavg)."
 
 command -v valgrind >/dev/null || exit 0

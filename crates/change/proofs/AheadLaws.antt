@@ -1,5 +1,5 @@
 -- Words outside the rows that a plan changes stay as they are.
-use Prim.Native.Nat.{ℕ, _+_, _*_, _-_, _<_, _≤_}
+use Prim.Native.Nat.{ℕ, _+_, _*_, _-_, _/_, _%_, _<_, _≤_}
 use mathlib.Core.Path.{_≡_, refl, sym, ap, _∙_}
 use mathlib.Core.Logic.{_≢_, _⊎_, inl, inr, ⊎-elim}
 use mathlib.Core.List.{List}
@@ -7,23 +7,29 @@ use mathlib.Core.Bool.{Bool, true, false, not, cond, _&&_, _||_, false≢true}
 use native.Mathlib.Omega.{arith}
 use native.Mathlib.Decide.{ℕ-discrete, decLt}
 use lib.Dec.{eqb, ltb}
-use borrow.Author.Tests.{lt-ltb, le-ltb, ne-eqb, eqb-true, eqb-false, not-true, not-false}
+use borrow.Author.Tests.{lt-ltb, le-ltb, eq-eqb, ne-eqb, eqb-true, eqb-false, not-true, not-false}
 use lib.ListN.{length}
 use Rattle.theory.specs.Pool.{words}
 use Rattle.theory.proofs.Logic.{by-cases, and-both}
-use Rattle.words.specs.Rights.{rightAt, eightOf}
+use Rattle.words.specs.Rights.{rightAt, eightOf, goodRights}
+use Rattle.words.proofs.RightsLaws.{good-range, good-small}
 use Rattle.table.specs.declared.Shape.{Shape}
 use Rattle.table.specs.Shape.{Fits}
 use Rattle.table.specs.Map.{leads, zone}
+use Rattle.targets.specs.declared.Paint.{Paint}
+use Rattle.targets.specs.Steps.{inside}
+use Rattle.targets.proofs.EntryLaws.{leads-high}
+use Rattle.targets.proofs.PaintLaws.{inside-low, inside-high, said-after, after-apart}
 use Rattle.plan.specs.declared.Edge.{Edge}
 use Rattle.plan.specs.declared.Plan.{Plan}
-use Rattle.plan.specs.Plan.{isLead, isNew, InTable, tableOf, rootAfter, pageAfter, after, newWord, PlanFits}
+use Rattle.plan.specs.Plan.{isLead, isNew, InTable, tableOf, rootAfter, pageAfter, paintedLeaf, after}
+use Rattle.plan.specs.Plan.{newWord, PlanFits}
 use Rattle.plan.specs.Goals.{Planned}
 use Rattle.plan.specs.Aims.{Aim}
 use Rattle.change.specs.Runs.{phases, At}
 use Rattle.change.specs.declared.ahead.Span.{Span}
 use Rattle.change.specs.Ahead.{Ahead, Outside, Untouched, RootIdle, MiddleIdle, LeafIdle, NotNew, KeptIdle}
-use Rattle.change.specs.Ahead.{NewIdle, Idle, PagesBefore}
+use Rattle.change.specs.Ahead.{NewIdle, Idle, EntriesBefore, PlainWords}
 use Rattle.change.proofs.TableLaws.{in-within, table-within}
 use Rattle.change.proofs.StateLaws.{at-pass}
 
@@ -88,12 +94,9 @@ root-outside q r j o e x =
 pub no-table : (e : Edge) (n j : ℕ) → 2147483648 ≤ e .last → tableOf e n j ≡ true → ⊥
 no-table e n j h z = false≢true (sym (rw (le-ltb (e .last) 2147483648 h) refl) ∙ z)
 
-pub table-outside : (e : Edge) (n j : ℕ) → Outside (e .last) (e .last + n) j → tableOf e n j ≡ true → ⊥
-table-outside e n j o z = let (lo, hi) = table-within e n j z in o lo hi
-
 pub middle-outside : (q : Plan) → PlanFits q → (e : Edge) (first past j : ℕ) → e .old < 2147483648
-    → PagesBefore (1024 * e .number) (q .«first_page» .number) first → PagesBefore (1024 * e .number)
-    (q .«last_page» .number + 1) past
+    → EntriesBefore 1024 (1024 * e .number) (q .«first_page» .number) first
+    → EntriesBefore 1024 (1024 * e .number) (q .«last_page» .number + 1) past
     → Outside (e .last + first) (e .last + past) j → MiddleIdle q e j
 middle-outside q r e first past j h a b o y z x =
     let (lo, hi) = table-within e 1024 j z in
@@ -115,6 +118,32 @@ middle-outside q r e first past j h a b o y z x =
       | no g ↦ elim (decLt (j - e .last) past) [
         | yes f ↦ absurd (o (omega arith) (omega arith))
         | no f ↦ inr (let w = b .after-them (j - e .last) (omega arith) (omega arith) in omega arith)
+      ]
+    ]
+
+-- A leaf entry that the region does not meet stays.
+painted-apart : (p : Paint) (w n : ℕ) → w < 4294967296 → ((j : ℕ) → j < 16 → inside p (n * 16 + j) ≡ false)
+    → paintedLeaf p w n ≡ w
+painted-apart p w n b h = said-after p w n (λ a. rightAt w (a / 4 % 16)) (λ a e. refl)
+    ∙ sym (after-apart p w (n * 16) b h)
+
+pub leaf-outside : (q : Plan) (e : Edge) (first past j : ℕ) → e .old < 2147483648
+    → EntriesBefore 64 (64 * e .number) (q .paint .lo / 16) first
+    → EntriesBefore 64 (64 * e .number) (q .paint .hi / 16 + 1) past
+    → Outside (e .last + first) (e .last + past) j → LeafIdle q e j
+leaf-outside q e first past j h a b o y z x m =
+    let (lo, hi) = table-within e 64 j z in
+    rw (lt-ltb (e .old) 2147483648 h)
+    (painted-apart (q .paint) x (64 * e .number + (j - e .last)) m (apart lo hi))
+  where
+    apart : e .last ≤ j → j < e .last + 64 → (k : ℕ) → k < 16
+        → inside (q .paint) ((64 * e .number + (j - e .last)) * 16 + k) ≡ false
+    apart lo hi k l = elim (decLt (j - e .last) first) [
+      | yes g ↦ inside-low (q .paint) _ (let w = a .before (j - e .last) g in omega arith)
+      | no g ↦ elim (decLt (j - e .last) past) [
+        | yes f ↦ absurd (o (omega arith) (omega arith))
+        | no f ↦ inside-high (q .paint) _
+            (let w = b .after-them (j - e .last) (omega arith) (omega arith) in omega arith)
       ]
     ]
 
@@ -166,33 +195,33 @@ new-outside e n j o = by-cases (isNew e && InTable (e .last) n j)
 module _ (q : Plan) (j : ℕ) where
   -- A word that is idle in each table that stays is idle among the words that stay in place.
   pub kept-idle : RootIdle q j → MiddleIdle q (q .«first_block») j → MiddleIdle q (q .«last_block») j
-      → LeafIdle (q .«first_page») j
-      → LeafIdle (q .«last_page») j → KeptIdle q j
+      → LeafIdle q (q .«first_page») j
+      → LeafIdle q (q .«last_page») j → KeptIdle q j
   unfolding after newWord
   kept-idle a b c d e = by-cases (InTable (1024 * q .domain) 1024 j)
-      (λ t. inl (λ x. rw t (a t x)))
+      (λ t. inl (λ x m. rw t (a t x)))
       (λ f. by-cases (tableOf (q .«first_block») 1024 j)
       (λ t. by-cases (isLead (q .«first_block» .old))
-      (λ l. inl (λ x. rw (f, t) (b l t x)))
+      (λ l. inl (λ x m. rw (f, t) (b l t x)))
       (λ n. inr (first-of _ _ _ _ (table-new (q .«first_block») 1024 j t n))))
       (λ g. by-cases (tableOf (q .«last_block») 1024 j)
       (λ t. by-cases (isLead (q .«last_block» .old))
-      (λ l. inl (λ x. rw (f, g, t) (c l t x)))
+      (λ l. inl (λ x m. rw (f, g, t) (c l t x)))
       (λ n. inr (second-of (isNew (q .«first_block») && InTable (q .«first_block» .last) 1024 j) _ _ _
       (table-new (q .«last_block») 1024 j t n))))
       (λ h. by-cases (tableOf (q .«first_page») 64 j)
       (λ t. by-cases (isLead (q .«first_page» .old))
-      (λ l. absurd (d l t))
+      (λ l. inl (λ x m. rw (f, g, h, t) (d l t x m)))
       (λ n. inr (third-of (isNew (q .«first_block») && InTable (q .«first_block» .last) 1024 j)
       (isNew (q .«last_block») && InTable (q .«last_block» .last) 1024 j) _ _ (table-new (q .«first_page») 64 j t n))))
       (λ k. by-cases (tableOf (q .«last_page») 64 j)
       (λ t. by-cases (isLead (q .«last_page» .old))
-      (λ l. absurd (e l t))
+      (λ l. inl (λ x m. rw (f, g, h, k, t) (e l t x m)))
       (λ n. inr (fourth-of (isNew (q .«first_block») && InTable (q .«first_block» .last) 1024 j)
       (isNew (q .«last_block») && InTable (q .«last_block» .last) 1024 j)
       (isNew (q .«first_page») && InTable (q .«first_page» .last) 64 j) _
       (table-new (q .«last_page») 64 j t n))))
-      (λ l. inl (λ x. rw (f, g, h, k, l) refl))))))
+      (λ l. inl (λ x m. rw (f, g, h, k, l) refl))))))
 
   -- A word that is of none of the four is of no new table.
   pub new-idle : NotNew (q .«first_block») 1024 j → NotNew (q .«last_block») 1024 j → NotNew (q .«first_page») 64 j
@@ -201,13 +230,25 @@ module _ (q : Plan) (j : ℕ) where
   unfolding newWord
   new-idle a b c d = rw (a, b, c, d) refl
 
+-- From the word at which a run stands on, the words of its phase are the old ones.
+yet-old : {s : Shape} {A : Aim} {old : List ℕ} {Q : ℕ → ℕ} {kept : ℕ
+    → Bool} {n c i left : ℕ} {x : List ℕ}
+    → At s A old Q kept n c i x left → (j : ℕ) → i ≤ j → phases s old kept j ≡ c → words x j ≡ words old j
+yet-old {s = s} {old = old} {Q = Q} {kept = kept} {c = c} {i = i} a j lo e =
+    a .pool j ∙ ap (λ b. cond b (Q j) (words old j)) off
+  where
+    off : (ltb (phases s old kept j) c || (eqb (phases s old kept j) c && ltb j i)) ≡ false
+    off = rw (le-ltb (phases s old kept j) c (omega arith), eq-eqb (phases s old kept j) c e, le-ltb j i lo) refl
+
 -- A run passes over words that are idle in its phase.
 pub at-ahead : {s : Shape} {A : Aim} {q : Plan} {old : List ℕ} {Q : ℕ → ℕ} {kept : ℕ
     → Bool} {n c i k left : ℕ} {x : List ℕ}
-    → Planned s A q old Q kept → i ≤ k → ((j : ℕ) → i ≤ j → j < k → Idle q c j)
+    → Planned s A q old Q kept → ((j : ℕ) → words x j < 4294967296) → i ≤ k
+    → ((j : ℕ) → i ≤ j → j < k → Idle q c j)
     → At s A old Q kept n c i x left
     → At s A old Q kept n c k x left
-at-ahead {s = s} {q = q} {old = old} {Q = Q} {kept = kept} {c = c} {i = i} {k = k} p h idle a = at-pass i k h passes a
+at-ahead {s = s} {q = q} {old = old} {Q = Q} {kept = kept} {c = c} {i = i} {k = k} {x = x} p small h idle a =
+    at-pass i k h (λ j lo hi. passes j lo hi (yet-old a j lo)) a
   where
     other : (j : ℕ) → newWord q j ≡ not (eqb c 2) → j < length old → Q j ≢ words old j → phases s old kept j ≢ c
     other j e l m = by-phase (kept j) (sym (p .new j l m) ∙ e)
@@ -222,12 +263,34 @@ at-ahead {s = s} {q = q} {old = old} {Q = Q} {kept = kept} {c = c} {i = i} {k = 
             one-or-three false w = omega arith
         by-phase false z y = eqb-false c 2 (not-true (eqb c 2) (sym z)) (sym y)
 
-    passes : (j : ℕ) → i ≤ j → j < k → (Q j ≡ words old j) ⊎ (phases s old kept j ≢ c)
-    passes j lo hi = elim (decLt j (length old)) [
-      | yes e ↦ ⊎-elim (λ z. inl (sym (p .final j e) ∙ z (words old j)))
+    stays : (j : ℕ) → j < length old → Untouched q j → words x j ≡ words old j → Q j ≡ words old j
+    stays j e z w = sym (p .final j e) ∙ z (words old j) (rw w at (small j))
+
+    passes : (j : ℕ) → i ≤ j → j < k → (phases s old kept j ≡ c → words x j ≡ words old j)
+        → (Q j ≡ words old j) ⊎ (phases s old kept j ≢ c)
+    passes j lo hi w = elim (decLt j (length old)) [
+      | yes e ↦ ⊎-elim
+          (λ z. elim (ℕ-discrete (phases s old kept j) c) [ yes g ↦ inl (stays j e z (w g)) | no g ↦ inr g ])
           (λ z. elim (ℕ-discrete (Q j) (words old j)) [ yes g ↦ inl g | no g ↦ inr (other j z e g) ]) (idle j lo hi)
       | no e ↦ inl (p .goal .beyond j (omega arith))
     ]
+
+-- It passes in the first phase over words that are eight rights, since they do not lead.
+pub at-plain : {s : Shape} {A : Aim} {old : List ℕ} {Q : ℕ → ℕ} {kept : ℕ
+    → Bool} {n c i m count left : ℕ} {x : List ℕ}
+    → PlainWords x c i count m → At s A old Q kept n c i x left → At s A old Q kept n c (i + m) x left
+at-plain {s = s} {old = old} {kept = kept} {c = c} {i = i} {m = m} {x = x} f a =
+    at-pass i (i + m) (omega arith) (λ j lo hi. inr (λ e. later j e (f .plain j lo hi) (yet-old a j lo e))) a
+  where
+    later : (j : ℕ) → phases s old kept j ≡ c → (c ≡ 1) × (goodRights (words x j) ≡ true) → words x j ≡ words old j → ⊥
+    later j e (first, g) w =
+        let r : goodRights (words old j) ≡ true = rw w at g in
+        let l = leads-high (zone s j) (words old j) (good-range (words old j) (good-small (words old j) r) r .0) in
+        go (kept j) (rw l at e ∙ first)
+      where
+        go : (b : Bool) → _≡_ {A = ℕ} (cond b (cond false 1 3) 2) 1 → ⊥
+        go true y = omega arith
+        go false y = omega arith
 
 -- A pool of a shape has few words.
 pub few-words : {s : Shape} {n : ℕ} → Fits s n → n < 4294967296

@@ -6,10 +6,12 @@ use mathlib.Core.Bool.{true, false, not, cond, _&&_}
 use mathlib.Core.List.{List}
 use lib.Dec.{eqb}
 use lib.ListN.{length}
+use Rattle.theory.specs.Pool.{words}
+use Rattle.words.specs.Rights.{goodRights}
 use Rattle.table.specs.declared.Shape.{Shape}
 use Rattle.plan.specs.declared.Edge.{Edge}
 use Rattle.plan.specs.declared.Plan.{Plan}
-use Rattle.plan.specs.Plan.{isLead, isNew, InTable, tableOf, rootAfter, pageAfter, after, newWord}
+use Rattle.plan.specs.Plan.{isLead, isNew, InTable, tableOf, rootAfter, pageAfter, leafAfter, after, newWord}
 use Rattle.change.specs.declared.Cursor.{Cursor}
 use Rattle.change.specs.declared.Work.the-variants.{Change}
 use Rattle.change.specs.declared.ahead.Span.{Span}
@@ -27,9 +29,9 @@ pub record Ahead (k : ℕ) (best : Span) (Passed : ℕ → Type 0) (r : Span) : 
 abbrev pub Outside : ℕ → ℕ → ℕ → Type 0
 Outside start past j = start ≤ j → j < past → ⊥
 
--- The plan leaves word `j` as it is.
+-- The plan leaves word `j` as it is, whatever 32 bits it holds.
 abbrev pub Untouched : Plan → ℕ → Type 0
-Untouched q j = (x : ℕ) → after q j x ≡ x
+Untouched q j = (x : ℕ) → x < 4294967296 → after q j x ≡ x
 
 -- Of the words of the domain's root, of an edge's middle table that stays and of its leaf that stays, `j` is none
 -- that the plan alters.
@@ -39,8 +41,9 @@ RootIdle q j = InTable (1024 * q .domain) 1024 j ≡ true → (x : ℕ) → root
 abbrev pub MiddleIdle : Plan → Edge → ℕ → Type 0
 MiddleIdle q e j = isLead (e .old) ≡ true → tableOf e 1024 j ≡ true → (x : ℕ) → pageAfter q e (j - e .last) x ≡ x
 
-abbrev pub LeafIdle : Edge → ℕ → Type 0
-LeafIdle e j = isLead (e .old) ≡ true → tableOf e 64 j ≡ true → ⊥
+abbrev pub LeafIdle : Plan → Edge → ℕ → Type 0
+LeafIdle q e j = isLead (e .old) ≡ true → tableOf e 64 j ≡ true → (x : ℕ) → x < 4294967296
+    → leafAfter q e (j - e .last) x ≡ x
 
 -- Word `j` is none of the edge's new table.
 abbrev pub NotNew : Edge → ℕ → ℕ → Type 0
@@ -64,12 +67,17 @@ pub record NextRow (q : Plan) (at : Cursor) (n : ℕ) (r : Cursor) : Type 0 wher
   pub row : (r .word .0 ≤ r .past .0) × (r .past .0 ≤ n)
   pub last : r .phase ≤ 4
   pub moves : at .phase * 4294967296 + at .past .0 < r .phase * 4294967296 + r .past .0
-  pub comes : (s : Shape) (u : Run s (Change q)) (x : List ℕ) → length x ≡ n → Stands s (Change q) u (at .phase)
-      (at .past .0) x
+  pub comes : (s : Shape) (u : Run s (Change q)) (x : List ℕ) → length x ≡ n → ((j : ℕ) → words x j < 4294967296)
+      → Stands s (Change q) u (at .phase) (at .past .0) x
       → Stands s (Change q) u (r .phase) (r .word .0) x
 
--- Of the 1,024 pages from page `begin` on, `r` come before page `n`.
-pub record PagesBefore (begin n r : ℕ) : Type 0 where
-  pub most : r ≤ 1024
+-- Of the `count` blocks from number `begin` on, `r` come before block `n`.
+pub record EntriesBefore (count begin n r : ℕ) : Type 0 where
+  pub most : r ≤ count
   pub before : (i : ℕ) → i < r → begin + i < n
-  pub after-them : (i : ℕ) → r ≤ i → i < 1024 → n ≤ begin + i
+  pub after-them : (i : ℕ) → r ≤ i → i < count → n ≤ begin + i
+
+-- `r` of the `n` words from `k` on have nothing to do in phase `c`: it is the first, and they are eight rights.
+pub record PlainWords (p : List ℕ) (c k n r : ℕ) : Type 0 where
+  pub most : r ≤ n
+  pub plain : (j : ℕ) → k ≤ j → j < k + r → (c ≡ 1) × (goodRights (words p j) ≡ true)

@@ -1,10 +1,11 @@
 // Which store a change makes next. A plan changes words of few tables, and between them there is nothing to do.
 ghost use Prim.Native.Nat.{ℕ, _+_, _<_, _≤_};
 ghost use mathlib.Core.Path.{_≡_};
+ghost use lib.ListN.{length};
 ghost use Rattle.plan.specs.Plan.{PlanFits};
 ghost use Rattle.change.specs.Runs.{Looks, NextIs, NextIn};
 ghost use Rattle.change.specs.Ahead.{Ahead, Outside, NotNew, RootIdle, MiddleIdle, LeafIdle, KeptIdle, NewIdle};
-ghost use Rattle.change.specs.Ahead.{Idle, PagesBefore};
+ghost use Rattle.change.specs.Ahead.{Idle, EntriesBefore, PlainWords};
 ghost use Rattle.change.specs.Ahead.{NextRow};
 use crate::Cursor;
 use crate::Next;
@@ -60,15 +61,15 @@ fn near_root(plan: Plan, k: PoolWord, best: Span) -> Span
     nearer(k, start, past, best)
 }
 
-// How many pages of the block that begins with page `begin` come before page `n`.
-fn pages_before(begin: u32, n: u32) -> u32
-    ensures { λ r. ⌜ PagesBefore begin n r ⌝ }
+// How many of the `count` blocks from number `begin` on, whose entries a table has, come before block `n`.
+fn entries_before(count: u32, begin: u32, n: u32) -> u32
+    ensures { λ r. ⌜ EntriesBefore count begin n r ⌝ }
 {
     if n <= begin {
         return 0;
     }
     let k = n - begin;
-    if k < 1024 { k } else { 1024 }
+    if k < count { k } else { count }
 }
 
 // Of a middle table that stays, the pages that the region meets.
@@ -87,18 +88,18 @@ fn near_middle(plan: Plan, block: Edge, k: PoolWord, best: Span) -> Span
     let first_page = plan.first_page;
     let last_page = plan.last_page;
     let begin = 1024 * block.number;
-    let first = pages_before(begin, first_page.number);
-    let past = pages_before(begin, last_page.number + 1);
+    let first = entries_before(1024, begin, first_page.number);
+    let past = entries_before(1024, begin, last_page.number + 1);
     let table = words::pool_word(last);
     let start = words::word_after(table, first as usize);
     let end = words::word_after(table, past as usize);
     nearer(k, start, end, best)
 }
 
-// A leaf that stays.
-fn near_leaf(page: Edge, k: PoolWord, best: Span) -> Span
-    requires { ⌜ k .0 ≤ best .from .0 ⌝ }
-    ensures { λ r. ⌜ Ahead (k .0) best (LeafIdle page) r ⌝ }
+// Of a leaf that stays, the entries of 64 bytes that the region meets.
+fn near_leaf(plan: Plan, page: Edge, k: PoolWord, best: Span) -> Span
+    requires { ⌜ (page .number < 1048576) × (k .0 ≤ best .from .0) ⌝ }
+    ensures { λ r. ⌜ Ahead (k .0) best (LeafIdle plan page) r ⌝ }
 {
     let last = page.last;
     let old = page.old;
@@ -108,9 +109,14 @@ fn near_leaf(page: Edge, k: PoolWord, best: Span) -> Span
     if old >= 0x8000_0000 {
         return best;
     }
+    let paint = plan.paint;
+    let begin = 64 * page.number;
+    let first = entries_before(64, begin, paint.lo / 16);
+    let past = entries_before(64, begin, paint.hi / 16 + 1);
     let table = words::pool_word(last);
-    let end = words::word_after(table, 64);
-    nearer(k, table, end, best)
+    let start = words::word_after(table, first as usize);
+    let end = words::word_after(table, past as usize);
+    nearer(k, start, end, best)
 }
 
 // A new table of `n` words.
@@ -139,8 +145,8 @@ fn next_kept(plan: Plan, k: PoolWord, best: Span) -> Span
     let one = near_root(plan, k, best);
     let two = near_middle(plan, plan.first_block, k, one);
     let three = near_middle(plan, plan.last_block, k, two);
-    let four = near_leaf(plan.first_page, k, three);
-    near_leaf(plan.last_page, k, four)
+    let four = near_leaf(plan, plan.first_page, k, three);
+    near_leaf(plan, plan.last_page, k, four)
 }
 
 // The same of the new tables.
@@ -226,6 +232,18 @@ fn next_here(pool: &[u32], shape: Shape, plan: Plan, at: Cursor) -> Next
     Next::Store(k, value, Cursor { phase, word, past })
 }
 
+// How many of the `count` words from `from` on have nothing to do in a phase, since they are eight rights: in the first
+// phase all that do not lead.
+fn plain_words(pool: &[u32], phase: u32, from: PoolWord, count: usize) -> usize
+    requires { ⌜ from .0 + count ≤ length (now pool) ⌝ }
+    ensures { λ r. ⌜ PlainWords (now (pool .entry)) phase (from .0) count r ⌝ }
+{
+    if phase != 1 {
+        return 0;
+    }
+    words::skip_rights(pool, from, count)
+}
+
 // The next store in the cursor's row.
 fn next_in_row(pool: &[u32], shape: Shape, plan: Plan, at: Cursor) -> Next
     requires { ⌜ Looks shape (Work.Change plan) at (now pool) ⌝ }
@@ -234,8 +252,10 @@ fn next_in_row(pool: &[u32], shape: Shape, plan: Plan, at: Cursor) -> Next
     let phase = at.phase;
     let past = at.past;
     let first = at.word;
-    let mut left = words::pool_index(past) - words::pool_index(first);
-    let mut word = first;
+    let count = words::pool_index(past) - words::pool_index(first);
+    let plain = plain_words(pool, phase, first, count);
+    let mut left = count - plain;
+    let mut word = words::word_after(first, plain);
     while 0 < left {
         let next = next_here(pool, shape, plan, Cursor { phase, word, past });
         let Next::None = next else {

@@ -2,15 +2,16 @@
 -- a sound pool.
 use Prim.Native.Nat.{ℕ, zero, suc, _+_, _*_, _-_, _/_, _%_, _<_, _≤_}
 use native.Mathlib.Omega.{arith}
+use native.Mathlib.Nat.{add-zero, add-assoc}
 use mathlib.Core.Path.{_≡_, refl, sym, ap, _∙_}
 use mathlib.Core.Logic.{_≢_}
 use mathlib.Core.List.{List}
 use lib.ListN.{length}
 use borrow.Author.Tests.{ne-eqb}
 use Rattle.theory.specs.Pool.{words, SoundPool, right}
-use Rattle.words.specs.Rights.{rightAt}
+use Rattle.words.specs.Rights.{rightAt, eightOf}
 use Rattle.words.specs.declared.PoolWord.{PoolWord}
-use Rattle.words.proofs.RightsLaws.{eight-right, sixteen-right, right-small}
+use Rattle.words.proofs.RightsLaws.{eight-right, eight-good, sixteen-right, right-small}
 use Rattle.table.specs.declared.Shape.{Shape}
 use Rattle.table.specs.declared.Entry.the-variants.{Rights, Leads, Bad}
 use Rattle.table.specs.Shape.{Fits, size}
@@ -18,14 +19,14 @@ use Rattle.table.specs.Map.{part, parts, index, formOf}
 use Rattle.table.specs.Wants.{wordsIn}
 use Rattle.table.specs.Entries.{decodeOf}
 use Rattle.table.proofs.BlockLaws.{first-word}
-use Rattle.table.proofs.EntryLaws.{bad-rights, rights-leads}
+use Rattle.table.proofs.EntryLaws.{decode-rights, bad-rights, rights-leads}
 use Rattle.census.proofs.ReadableLaws.{Walkable, sound-readable, reached-not-bad, reached-rights-right, reached-leads}
 use Rattle.listing.specs.declared.Level.{Level}
 use Rattle.listing.specs.Runs.{memoryWords}
 use Rattle.listing.specs.Sheets.{Sheet, feed, fed}
 use Rattle.listing.specs.Levels.{blockWords, tableWords, levelOf, sameOf, entrySays, entryRight, tableRight}
-use Rattle.listing.specs.Levels.{EntryAt, TableAt}
-use Rattle.listing.proofs.SheetLaws.{fed-alike, fed-same, Along, along-next, room}
+use Rattle.listing.specs.Levels.{AllSay, EntryAt, TableAt}
+use Rattle.listing.proofs.SheetLaws.{feed-again, fed-alike, fed-same, Along, along-next, room}
 
 -- The numbers of a height.
 
@@ -112,6 +113,18 @@ same-said (suc h) w j e =
     let f = simp (ne-eqb (suc h) 0 (λ z. omega arith)) at e in
     ap (λ v. rightAt v (4 * j / part (suc h) % 8)) f ∙ eight-right (rightAt w 0) (4 * j / part (suc h) % 8)
     (right-small w 0) (omega arith)
+
+-- Its first right, and what it decodes to.
+same-first : (h w q : ℕ) → w ≡ sameOf h q → q < 4 → rightAt w 0 ≡ q
+same-first zero w q e b = ap (λ v. rightAt v 0) e ∙ sixteen-right q 0 b (omega arith)
+same-first (suc h) w q e b =
+    ap (λ v. rightAt v 0) (simp (ne-eqb (suc h) 0 (λ z. omega arith)) at e) ∙ eight-right q 0 b (omega arith)
+
+same-decoded : (s : Shape) (h w q : ℕ) → w ≡ sameOf h q → q < 4 → decodeOf s h w ≡ Rights w
+same-decoded s zero w q e b = refl
+same-decoded s (suc h) w q e b =
+    let f : w ≡ eightOf q = simp (ne-eqb (suc h) 0 (λ z. omega arith)) at e in
+    decode-rights s (suc h) w (λ z. omega arith) (omega arith) ∙ simp (f, eight-good q b)
 
 -- .. is fed at once.
 pub same-fed : (h w a : ℕ) (s : Sheet) → w ≡ sameOf h (rightAt w 0) → fed (blockWords h) (entrySays h w) a s
@@ -224,6 +237,30 @@ module _ (p : List ℕ) (s : Shape) where
         (λ j lo hi. ap (λ m. entryRight s p h (b + m) j)
         (sym (index-at h a i j (x .aligned) (rw en at c) (rw eu at lo) (rw eu at hi))))
         (k ∙ ap (λ m. fed m (entryRight s p h (b + i)) (a + i * v .block) u) (sym eu))
+
+  -- An entry that says the open run's right feeds nothing,
+  same-none : (h k a q : ℕ) (u : Sheet) → EntryAt p s h k a → words p k ≡ sameOf h q → q < 4 → u .run .right ≡ q
+      → fed (blockWords h) (entryRight s p h k) a u ≡ u
+  same-none h k a q u x e b r =
+      let w = words p k in
+      let f = same-first h w q e b in
+      sym (rights-fed h k a w u x (same-decoded s h w q e b))
+      ∙ same-fed h w a u (e ∙ ap (sameOf h) (sym f))
+      ∙ feed-again (rightAt w 0) a u (r ∙ sym f)
+
+  -- nor do `n` such entries of a table.
+  module _ (h b a : ℕ) (x : TableAt p s h b a) (v : Level) (e : v ≡ levelOf h) (q i : ℕ) (s₀ u : Sheet) where
+    pub same-next : (n : ℕ) → i + n ≤ v .entries → AllSay p h (b + i) n q → u .run .right ≡ q
+        → Along (tableRight s p h b) (v .entries) (v .block) a s₀ i u
+        → Along (tableRight s p h b) (v .entries) (v .block) a s₀ (i + n) u
+    same-next zero c f r l = rw add-zero l
+    same-next (suc n) c f r l =
+        let o : i + suc n ≡ i + n + 1 = omega arith in
+        let d : i + n < v .entries = omega arith in
+        let (w, m) = f n (omega arith) in
+        rw o (entry-next h b a x v e (i + n) d s₀ u u (same-next n (omega arith) (λ j y. f j (omega arith)) r l)
+        (sym (same-none h (b + (i + n)) (a + (i + n) * v .block) q u (entry-at h b a x v e (i + n) d)
+        (rw add-assoc at w) m r)))
 
   -- The root of a domain is a table for the whole memory.
   pub root-table : (d : ℕ) → Fits s (length p) → SoundPool (formOf s) (words p) → d < s .domains

@@ -19,7 +19,7 @@ feed-leaves q a s = go (eqb q (s .run .right)) refl
     go false e = refl
 
 -- The same right again changes nothing.
-feed-again : (q a : ℕ) (s : Sheet) → s .run .right ≡ q → feed q a s ≡ s
+pub feed-again : (q a : ℕ) (s : Sheet) → s .run .right ≡ q → feed q a s ≡ s
 unfolding feed
 feed-again q a s h = simp (eq-eqb _ _ (sym h))
 

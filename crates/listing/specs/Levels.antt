@@ -31,6 +31,10 @@ levelOf h = record { entries = size h; parts = parts h; step = wordsIn h; block 
 abbrev pub sameOf : ℕ → ℕ → ℕ
 sameOf h q = cond (eqb h 0) (sixteenOf q) (eightOf q)
 
+-- The `n` entries of a height from pool word `k` on say the right `q` for their whole blocks.
+abbrev pub AllSay : List ℕ → ℕ → ℕ → ℕ → ℕ → Type 0
+AllSay p h k n q = (j : ℕ) → j < n → (words p (k + j) ≡ sameOf h q) × (q < 4)
+
 -- The right that an entry which is rights gives to word `w`.
 abbrev pub entrySays : ℕ → ℕ → ℕ → ℕ
 entrySays h e w = rightAt e (4 * w / part h % parts h)

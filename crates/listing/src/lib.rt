@@ -12,7 +12,7 @@ ghost use Rattle.listing.specs.Scan.{listingOf};
 ghost use Rattle.listing.specs.Sheets.{putRun, sheet, counted, closed, feed, fed, OpenAt, written, opening};
 ghost use Rattle.listing.specs.Sheets.{countOf};
 ghost use Rattle.listing.specs.Levels.{levelOf, blockWords, tableWords, sameOf, entrySays, entryRight};
-ghost use Rattle.listing.specs.Levels.{tableRight, EntryAt, TableAt};
+ghost use Rattle.listing.specs.Levels.{tableRight, AllSay, EntryAt, TableAt};
 ghost use Rattle.listing.specs.Listing.{wordRight, Lists};
 use table::Entry;
 use table::Shape;
@@ -207,7 +207,34 @@ fn feed_leaf(
     s
 }
 
-// The table of a height that begins at pool word `base`, for the memory from word `at` on.
+// How many of the `rest` entries from pool word `word` on say the open run's right for their whole blocks, as far as
+// is told at once: most entries of a table are alike, and so are tried 32 at a time.
+fn same_ahead(pool: &[u32], height: u32, word: PoolWord, rest: u32, right: u32) -> u32
+    requires { ⌜ (0 < rest) × (word .0 + rest ≤ length (now pool)) ⌝ }
+    ensures { λ r. ⌜ (r ≤ rest) × AllSay (now (pool .entry)) height (word .0) r right ⌝ }
+{
+    let k = words::pool_index(word);
+    let w = pool[k];
+    let first = words::right_at(w, 0);
+    if first != right {
+        return 0;
+    }
+    let same = same_entry(height, first);
+    if w != same {
+        return 0;
+    }
+    if rest < 32 {
+        return 1;
+    }
+    let all = words::all_same(pool, word, 32, same);
+    if all {
+        return 32;
+    }
+    1
+}
+
+// The table of a height that begins at pool word `base`, for the memory from word `at` on. Entries that say what the
+// open run's right is already have nothing to feed.
 fn feed_table(
     pool: &[u32],
     shape: Shape,
@@ -230,9 +257,16 @@ fn feed_table(
     let mut i = 0;
     while i < entries {
         let entry = words::word_after(base, i as usize);
-        let from = at + i * block;
-        s = feed_entry(pool, shape, height, entry, from, s, runs);
-        i += 1;
+        let right = s.right;
+        let rest = entries - i;
+        let n = same_ahead(pool, height, entry, rest, right);
+        if n == 0 {
+            let from = at + i * block;
+            s = feed_entry(pool, shape, height, entry, from, s, runs);
+            i += 1;
+        } else {
+            i += n;
+        }
     }
     s
 }

@@ -5,6 +5,7 @@ pub mod PaintLaws
 pub mod PartLaws
 pub mod PieceLaws
 pub mod HeightLaws
+pub mod LeafLaws
 pub mod GivenLaws
 pub mod SearchLaws
 pub mod EntryLaws

@@ -5,7 +5,9 @@ use mathlib.Core.Bool.{Bool, true, false, _&&_, cond}
 use mathlib.Core.List.{List}
 use lib.Dec.{leb, ltb}
 use lib.ListN.{getD}
-use Rattle.words.specs.Rights.{rightAt, goodRights}
+use Rattle.theory.specs.Pool.{words}
+use Rattle.words.specs.Rights.{rightAt, goodRights, sixteenOf}
+use Rattle.words.specs.Passing.{AllSame}
 use Rattle.table.specs.Shape.{maxMiddles}
 use Rattle.table.specs.Map.{block, leads}
 use Rattle.table.specs.Wants.{wordsIn}
@@ -70,6 +72,20 @@ SaysIs p h e n w = (P R : ℕ → ℕ) → Gives P h e n R → targetOf (painted
 abbrev pub ToldIs : Told → Paint → ℕ → ℕ → ℕ → Type 0
 ToldIs (Known w) p h e n = SaysIs p h e n w
 ToldIs Unknown p h e n = 0 < h
+
+-- The eight entries of a leaf from pool word `k` on say the first right of the first of them, sixteen times each.
+abbrev pub EvenEntries : List ℕ → ℕ → Type 0
+EvenEntries p k = AllSame p k 8 (sixteenOf (rightAt (words p k) 0))
+
+-- The leaf at pool word `e` is wanted by whichever page has it.
+abbrev pub LeafMixed : (ℕ → ℕ) → ℕ → Type 0
+LeafMixed P e = (n : ℕ) → targetOf (given P 1 e) 1 (n * 4096) ≡ Mixed
+
+-- Nothing is painted, and the entry `e` of a height leads to such a leaf.
+pub record SeenMixed (P : ℕ → ℕ) (p : Paint) (h e : ℕ) : Type 0 where
+  pub none : p .hi ≤ p .lo
+  pub height : h ≡ 1
+  pub leaf : LeafMixed P e
 
 -- The target is that of a block that wants a table.
 abbrev pub isMixed : Target → Bool

@@ -11,6 +11,7 @@ ghost use Rattle.table.specs.Wants.{wordsIn, above, saidOf};
 ghost use Rattle.targets.specs.Targets.{entryBlocks, painted, targetOf, given, Gives, GivesLeaf, Readable};
 ghost use Rattle.targets.specs.Steps.{CoverIs, rightAfter, Plain, OneIs, PartIs, GoodRights, SaysIs, ToldIs};
 
+mod leaves; // leaves.rt: whether a leaf as it stands has two rights in a sub-block
 mod wanted; // wanted.rt: whether tables are wanted, and a pool settled
 
 pub use wanted::settled;
@@ -352,6 +353,9 @@ fn entry_target(pool: &[u32], paint: Paint, height: u32, e: u32, n: u32) -> Targ
     let known = at_once(paint, height, e, n);
     if let Told::Known(w) = known {
         return Target::Says(w);
+    }
+    if leaves::seen_mixed(pool, paint, height, e) {
+        return Target::Mixed;
     }
     search(pool, paint, height - 1, e, n)
 }

@@ -7,7 +7,7 @@ use native.Mathlib.Omega.{arith}
 use native.Mathlib.Decide.{decLt}
 use lib.ListN.{getD}
 use Rattle.words.specs.Rights.{goodRights}
-use Rattle.words.specs.Passing.{Passed}
+use Rattle.words.specs.Passing.{Passed, AllSame}
 
 module _ (p : List ℕ) (a b : ℕ) (left : Passed p a b) where
   pub passed-more : goodRights (getD p b 0) ≡ true → Passed p a (b + 1)
@@ -21,3 +21,10 @@ module _ (p : List ℕ) (a b : ℕ) (left : Passed p a b) where
     | yes h ↦ left k low h
     | no h ↦ right k (omega arith) high
   ]
+
+-- One more word that is the value.
+pub same-more : (p : List ℕ) (a n v : ℕ) → AllSame p a n v → getD p (a + n) 0 ≡ v → AllSame p a (n + 1) v
+same-more p a n v s e j b = elim (decLt j n) [
+  | yes h ↦ s j h
+  | no h ↦ let z : j ≡ n = omega arith in rw z e
+]

@@ -1,5 +1,5 @@
--- Passing over words that are eight rights.
-use Prim.Native.Nat.{ℕ, _≤_, _<_}
+-- Passing over words that are eight rights, or that are all the same.
+use Prim.Native.Nat.{ℕ, _+_, _≤_, _<_}
 use mathlib.Core.Path.{_≡_}
 use mathlib.Core.Bool.{true, false}
 use mathlib.Core.List.{List}
@@ -16,3 +16,7 @@ pub record SkipsRights (p : List ℕ) (from to r : ℕ) : Type 0 where
   pub high : r ≤ to
   pub passed : Passed p from r
   pub stops : r < to → goodRights (getD p r 0) ≡ false
+
+-- The `n` words from `from` on are all `v`.
+abbrev pub AllSame : List ℕ → ℕ → ℕ → ℕ → Type 0
+AllSame p from n v = (j : ℕ) → j < n → getD p (from + j) 0 ≡ v

@@ -6,7 +6,7 @@ ghost use Prim.Native.Nat.{_+_, _<_, _≤_};
 ghost use lib.ListN.{length};
 ghost use Rattle.words.specs.Rights.{rightAt, eightOf, sixteenOf, goodRights};
 ghost use Rattle.words.specs.Region.{regionOf};
-ghost use Rattle.words.specs.Passing.{Passed, SkipsRights};
+ghost use Rattle.words.specs.Passing.{Passed, SkipsRights, AllSame};
 
 // A byte address of the memory that the table protects.
 pub struct ByteAddr(pub u32);
@@ -110,7 +110,7 @@ pub fn good_rights(w: u32) -> bool
 }
 
 // 1 where the word is eight rights, else 0.
-fn one_if_rights(w: u32) -> u32
+fn one_if_rights(w: u32) -> usize
     ensures { λ r. ⌜ (r ≤ 1) × (r ≡ 1 → goodRights w ≡ true) ⌝ }
 {
     if good_rights(w) {
@@ -119,48 +119,90 @@ fn one_if_rights(w: u32) -> u32
     0
 }
 
-// Whether the 32 words from `at` on are all eight rights. They are counted with no way out of the loop: so the
-// compiler tests four at a time.
-fn all_rights(pool: &[u32], at: PoolWord) -> bool
-    requires { ⌜ at .0 + 32 ≤ length (now pool) ⌝ }
-    ensures { λ r. ⌜ (r ≡ true → Passed (now (pool .entry)) (at .0) (at .0 + 32)) ⌝ }
+// Whether the `count` words from `at` on are all eight rights. They are counted with no way out of the loop: so the
+// compiler tests four at a time, where `count` is a number that it knows.
+fn all_rights(pool: &[u32], at: PoolWord, count: usize) -> bool
+    requires { ⌜ at .0 + count ≤ length (now pool) ⌝ }
+    ensures { λ r. ⌜ (r ≡ true → Passed (now (pool .entry)) (at .0) (at .0 + count)) ⌝ }
 {
     let first = pool_index(at);
-    let mut n: u32 = 0;
+    let mut n: usize = 0;
     let mut i: usize = 0;
-    while i < 32 {
+    while i < count {
         let w = pool[first + i];
         n += one_if_rights(w);
         i += 1;
     }
-    n == 32
+    n == count
+}
+
+// How many of the `count` words from `from` on are passed over `step` at a time, up to some that are not all eight
+// rights.
+fn pass_by(pool: &[u32], from: PoolWord, count: usize, step: usize) -> usize
+    requires { ⌜ (from .0 + count ≤ length (now pool)) × (0 < step) ⌝ }
+    ensures { λ r. ⌜ (r ≤ count) × Passed (now (pool .entry)) (from .0) (from .0 + r) ⌝ }
+{
+    let first = pool_index(from);
+    let mut n: usize = 0;
+    while step <= count - n {
+        let at = first + n;
+        let all = all_rights(pool, PoolWord(at), step);
+        if !all {
+            break;
+        }
+        n += step;
+    }
+    n
 }
 
 // How many of the `count` words from `from` on stand before the first that is not eight rights. Most entries are:
-// they are passed over 32 at a time.
+// they are passed over 32 at a time, and near that one four at a time.
 pub fn skip_rights(pool: &[u32], from: PoolWord, count: usize) -> usize
     requires { ⌜ from .0 + count ≤ length (now pool) ⌝ }
     ensures { λ r. ⌜ SkipsRights (now (pool .entry)) (from .0) (from .0 + count) (from .0 + r) ⌝ }
 {
     let first = pool_index(from);
-    let end = first + count;
-    let mut at = first;
-    while 32 <= end - at {
-        let all = all_rights(pool, PoolWord(at));
-        if !all {
-            break;
-        }
-        at += 32;
-    }
-    while at < end {
-        let w = pool[at];
+    let wide = pass_by(pool, from, count, 32);
+    let next = first + wide;
+    let rest = count - wide;
+    let near = pass_by(pool, PoolWord(next), rest, 4);
+    let mut n = wide + near;
+    while n < count {
+        let w = pool[first + n];
         let good = good_rights(w);
         if !good {
-            return at - first;
+            break;
         }
-        at += 1;
+        n += 1;
     }
-    count
+    n
+}
+
+// 1 where the word is `value`, else 0.
+fn one_if_same(w: u32, value: u32) -> usize
+    ensures { λ r. ⌜ (r ≤ 1) × (r ≡ 1 → w ≡ value) × (w ≡ value → r ≡ 1) ⌝ }
+{
+    if w == value {
+        return 1;
+    }
+    0
+}
+
+// Whether the `count` words from `at` on all are `value`, counted as above.
+pub fn all_same(pool: &[u32], at: PoolWord, count: usize, value: u32) -> bool
+    requires { ⌜ at .0 + count ≤ length (now pool) ⌝ }
+    ensures { λ r. ⌜ (r ≡ true → AllSame (now (pool .entry)) (at .0) count value)
+        × (AllSame (now (pool .entry)) (at .0) count value → r ≡ true) ⌝ }
+{
+    let first = pool_index(at);
+    let mut n: usize = 0;
+    let mut i: usize = 0;
+    while i < count {
+        let w = pool[first + i];
+        n += one_if_same(w, value);
+        i += 1;
+    }
+    n == count
 }
 
 // The words of a start and a length in bytes. The length's remainder is rounded by itself, since `length + 3` could

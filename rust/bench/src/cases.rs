@@ -1,5 +1,6 @@
 //! The cases: each makes its pool once and gives a body that runs it a number of times.
 
+use crate::direct::Direct;
 use comparison::given::pools;
 use comparison::rng::Rng;
 use comparison::subject::{Library, Subject, Twin};
@@ -39,16 +40,16 @@ pub const CASES: &[Case] = &[
     case!(change_edges, "change that makes two middle tables and two leaves, and its undoing"),
     case!(change_full, "change that makes the last free leaf of an almost full pool, and its undoing"),
     case!(change_refused, "change refused 8 on a full pool"),
-    case!(tidy_after_cut, "copy of the pool, and tidying after a cut, pool D 4, M 8, L 64"),
+    case!(tidy_after_cut, "tidying after a cut, pool D 4, M 8, L 64"),
     case!(sound_full, "tidying of a settled full pool (soundness, and each table looked at; no store)"),
     case!(list_count, "listing of a full pool of about 37,000 runs, counted alone"),
     case!(list_write, "listing of a full pool of about 37,000 runs, written"),
 ];
 
 const SMALL: Shape = Shape::new(1, 1, 1);
-const FULL: Shape = Shape::new(4, 8, 64);
+pub const FULL: Shape = Shape::new(4, 8, 64);
 const SMALL_WORDS: &[u32] = &SMALL.words();
-const FULL_WORDS: &[u32] = &FULL.words();
+pub const FULL_WORDS: &[u32] = &FULL.words();
 const ENOUGH: u32 = u32::MAX;
 
 fn set(subject: &impl Subject, pool: &mut [u32], shape: Shape, request: Request) {
@@ -56,45 +57,49 @@ fn set(subject: &impl Subject, pool: &mut [u32], shape: Shape, request: Request)
     assert_eq!(number, 0, "{request:?}");
 }
 
-fn request(domain: u32, start: u32, length: u32, right: u32) -> Request {
+pub fn request(domain: u32, start: u32, length: u32, right: u32) -> Request {
     Request { domain, start, length, right }
 }
 
-/// Every place but one leaf in use, settled: a word in each of 63 pages, over eight blocks and all domains.
-fn almost_full(subject: &impl Subject) -> Vec<u32> {
+/// A word in each of 63 pages, over eight blocks and all domains.
+pub fn words_set() -> impl Iterator<Item = Request> {
+    (0..63)
+        .map(|page| (page % 8, page / 8))
+        .map(|(block, index)| request(block % 4, (block << 22) + (index << 16), 4, 2))
+}
+
+/// Every place but one leaf in use, settled.
+pub fn almost_full(subject: &impl Subject) -> Vec<u32> {
     let mut pool = FULL.fresh();
-    for page in 0..63 {
-        let (block, index) = (page % 8, page / 8);
-        set(subject, &mut pool, FULL, request(block % 4, (block << 22) + (index << 16), 4, 2));
-    }
+    words_set().for_each(|request| set(subject, &mut pool, FULL, request));
     pool
 }
 
-fn lookup<S: Subject>(subject: &'static S, address: u32) -> Body {
+fn lookup<S: Direct>(subject: &'static S, address: u32) -> Body {
     let mut pool = SMALL.fresh();
     set(subject, &mut pool, SMALL, request(0, 0x1000, 64, 2));
     let mut out = [0; 3];
     Box::new(move |times| {
         for _ in 0..times {
-            black_box(subject.lookup(black_box(&pool), SMALL_WORDS, 0, black_box(address), &mut out));
+            black_box(S::look(black_box(&pool), SMALL_WORDS, 0, black_box(address), &mut out));
         }
     })
 }
 
-fn lookup_root<S: Subject>(subject: &'static S) -> Body {
+fn lookup_root<S: Direct>(subject: &'static S) -> Body {
     lookup(subject, 0x40_0000)
 }
 
-fn lookup_middle<S: Subject>(subject: &'static S) -> Body {
+fn lookup_middle<S: Direct>(subject: &'static S) -> Body {
     lookup(subject, 0x2000)
 }
 
-fn lookup_leaf<S: Subject>(subject: &'static S) -> Body {
+fn lookup_leaf<S: Direct>(subject: &'static S) -> Body {
     lookup(subject, 0x103C)
 }
 
 /// Checks of loads at addresses by turns.
-fn check<S: Subject>(subject: &'static S, mut buffer: Vec<u32>, blocks: u32) -> Body {
+fn check<S: Direct>(_: &'static S, mut buffer: Vec<u32>, blocks: u32) -> Body {
     let pool = SMALL.fresh();
     let mut out = [0; 2];
     let mut turn = 0;
@@ -102,7 +107,7 @@ fn check<S: Subject>(subject: &'static S, mut buffer: Vec<u32>, blocks: u32) -> 
         for _ in 0..times {
             turn = (turn + 1) % blocks;
             let access = Access { domain: 0, kind: 0, size: 4, address: turn << 22 };
-            black_box(subject.check(black_box(&pool), SMALL_WORDS, &mut buffer, black_box(access), &mut out));
+            black_box(S::verdict(black_box(&pool), SMALL_WORDS, &mut buffer, black_box(access), &mut out));
         }
     })
 }
@@ -119,21 +124,21 @@ fn buffer_with(slot: usize) -> Vec<u32> {
     buffer
 }
 
-fn check_first<S: Subject>(subject: &'static S) -> Body {
+fn check_first<S: Direct>(subject: &'static S) -> Body {
     check(subject, buffer_with(0), 1)
 }
 
-fn check_last<S: Subject>(subject: &'static S) -> Body {
+fn check_last<S: Direct>(subject: &'static S) -> Body {
     check(subject, buffer_with(63), 1)
 }
 
 /// More blocks by turns than there are slots: each check misses.
-fn check_miss<S: Subject>(subject: &'static S) -> Body {
+fn check_miss<S: Direct>(subject: &'static S) -> Body {
     check(subject, others(), 128)
 }
 
 /// A change by turns with two rights, or with a change that undoes it.
-fn by_turns<S: Subject>(
+pub fn by_turns<S: Subject>(
     subject: &'static S,
     mut pool: Vec<u32>,
     shape: Shape,
@@ -150,7 +155,7 @@ fn by_turns<S: Subject>(
     })
 }
 
-fn two_rights(start: u32, length: u32) -> [Request; 2] {
+pub fn two_rights(start: u32, length: u32) -> [Request; 2] {
     [request(0, start, length, 1), request(0, start, length, 2)]
 }
 
@@ -199,7 +204,7 @@ fn change_refused<S: Subject>(subject: &'static S) -> Body {
     })
 }
 
-/// A pool that a cut left with a table that is not wanted.
+/// A pool that a cut left with a table that is not wanted; before each run the words that a tidying stores are put back.
 fn tidy_after_cut<S: Subject>(subject: &'static S) -> Body {
     let mut cut = almost_full(subject);
     let page = 0x3F_0000;
@@ -207,9 +212,11 @@ fn tidy_after_cut<S: Subject>(subject: &'static S) -> Body {
     assert_eq!(subject.change(&mut cut, FULL_WORDS, request(0, page, 0x300, 1), 4, &mut []), 100);
     let mut pool = cut.clone();
     let mut out = [0];
+    assert_eq!(subject.tidy(&mut pool, FULL_WORDS, ENOUGH, &mut out), 0);
+    let stored: Vec<(usize, u32)> = cut.into_iter().enumerate().filter(|&(k, word)| word != pool[k]).collect();
     Box::new(move |times| {
         for _ in 0..times {
-            pool.copy_from_slice(black_box(&cut));
+            stored.iter().for_each(|&(k, word)| pool[k] = word);
             assert_eq!(subject.tidy(&mut pool, FULL_WORDS, ENOUGH, &mut out), 0);
             assert_eq!(out[0], 1);
         }

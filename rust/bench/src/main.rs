@@ -1,15 +1,21 @@
-//! The library beside its plain Rust twin, case by case, in one run.
+//! The library beside its plain Rust twin, case by case, in one run; and for scale beside other ways.
 //!
-//! `bench` measures every case and prints a markdown table. `bench CASE library|twin TIMES` runs one case that many
-//! times and prints nothing, so that an instruction counter can look at it; `bench cases` prints the names.
-#![forbid(unsafe_code)]
+//! `bench` measures every case and prints a markdown table; `bench others` does so beside an interval map and
+//! `mprotect`. `bench CASE` measures one case. `bench CASE library|twin TIMES` runs one case that many times and prints
+//! nothing, so that an instruction counter can look at it; `bench cases` prints the names.
+#![deny(unsafe_code)]
 
 mod cases;
+mod direct;
 mod measure;
+mod others;
+mod pages;
+mod segments;
 
-use cases::{Case, CASES};
+use cases::{Body, Case, CASES};
 use comparison::subject::{Library, Twin};
 use measure::{compare, Measured};
+use others::OTHERS;
 
 fn main() {
     if !goleuthan::LINKED {
@@ -20,20 +26,26 @@ fn main() {
     let words: Vec<String> = std::env::args().skip(1).collect();
     let words: Vec<&str> = words.iter().map(String::as_str).collect();
     match words[..] {
-        [] => table(),
+        [] => table("Twin", CASES.iter().map(beside_twin)),
+        ["others"] => table("Other", OTHERS.iter().map(|other| (other.says, (other.library)(), (other.other)()))),
         ["cases"] => CASES.iter().for_each(|case| println!("{}", case.name)),
+        [name] => table("Twin", [beside_twin(named(name))].into_iter()),
         [name, subject, times] => one(name, subject, times),
         _ => usage(),
     }
 }
 
 fn usage() -> ! {
-    eprintln!("usage: bench | bench cases | bench CASE library|twin TIMES");
+    eprintln!("usage: bench | bench others | bench cases | bench CASE | bench CASE library|twin TIMES");
     std::process::exit(2);
 }
 
+fn named(name: &str) -> &'static Case {
+    CASES.iter().find(|case| case.name == name).unwrap_or_else(|| usage())
+}
+
 fn one(name: &str, subject: &str, times: &str) {
-    let case = CASES.iter().find(|case| case.name == name).unwrap_or_else(|| usage());
+    let case = named(name);
     let times = times.parse().unwrap_or_else(|_| usage());
     match subject {
         "library" => (case.library)(&Library)(times),
@@ -42,24 +54,26 @@ fn one(name: &str, subject: &str, times: &str) {
     }
 }
 
-fn table() {
-    println!("| Case | Library | Twin | Ratio | Spread of the library | Spread of the twin |");
-    println!("|---|---|---|---|---|---|");
-    for case in CASES {
-        row(case);
-    }
+/// What is measured, the library's body, and the other's.
+type Row = (&'static str, Body, Body);
+
+fn beside_twin(case: &Case) -> Row {
+    (case.says, (case.library)(&Library), (case.twin)(&Twin))
 }
 
-fn row(case: &Case) {
-    let (library, twin, ratio) = compare((case.library)(&Library), (case.twin)(&Twin));
-    println!(
-        "| {} | {} | {} | {ratio:.2} | {} | {} |",
-        case.says,
-        time(library.median),
-        time(twin.median),
-        spread(&library),
-        spread(&twin)
-    );
+fn table(beside: &str, rows: impl Iterator<Item = Row>) {
+    println!("| Case | Library | {beside} | Ratio | Spread of the library | Spread of the {} |", beside.to_lowercase());
+    println!("|---|---|---|---|---|---|");
+    for (says, library, other) in rows {
+        let (library, other, ratio) = compare(library, other);
+        println!(
+            "| {says} | {} | {} | {ratio:.2} | {} | {} |",
+            time(library.median),
+            time(other.median),
+            spread(&library),
+            spread(&other)
+        );
+    }
 }
 
 fn time(nanoseconds: f64) -> String {

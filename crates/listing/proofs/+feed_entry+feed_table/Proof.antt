@@ -2,7 +2,7 @@
 -- height, and one more in `feed_table`, whose loop calls `feed_entry` at the same height. The loop's invariant: the
 -- words of the entries passed were fed.
 use Prim.Native.Nat.{ℕ, _+_, _*_, _-_, _<_, _≤_}
-use mathlib.Core.Path.{_≡_, refl, sym, _∙_}
+use mathlib.Core.Path.{_≡_, refl, sym, ap, _∙_}
 use native.Mathlib.Omega.{arith}
 use borrow.Author.Needs.{needs}
 use borrow.Fn.Kinds.{In}
@@ -17,7 +17,7 @@ use Rattle.listing.specs.Levels.{tableRight, EntryAt}
 use Rattle.listing.proofs.SheetLaws.{Along, along-start, along-end}
 use Rattle.listing.proofs.LevelLaws.{whole-table, entry-inside, entry-not-bad, entry-up, entry-table}
 use Rattle.listing.proofs.LevelLaws.{rights-fed, leads-fed, leaf-fed}
-use Rattle.listing.proofs.LevelLaws.{entry-at, entry-room, entry-next}
+use Rattle.listing.proofs.LevelLaws.{entry-at, entry-room, entry-next, same-next}
 use Rattle.listing.proofs.feed_entry.Reads as feed-entry
 use Rattle.listing.proofs.feed_entry.Kinds as feed-entry-kinds
 use Rattle.listing.proofs.+feed_entry+feed_table.Lts-feed_entry as e
@@ -27,6 +27,7 @@ use Rattle.listing.proofs.+feed_entry+feed_table.Lts-feed_table as b
 use Rattle.listing.proofs.feed_rights.Reads as feed-rights-reads
 use Rattle.listing.proofs.feed_leaf.Reads as feed-leaf-reads
 use Rattle.listing.proofs.level_of.Reads as level-of-reads
+use Rattle.listing.proofs.same_ahead.Reads as same-ahead-reads
 use Rattle.table.proofs.decode.Reads as decode-reads
 use Rattle.words.proofs.pool_index.Reads as pool-index-reads
 use Rattle.words.proofs.word_after.Reads as word-after-reads
@@ -74,6 +75,8 @@ b-calls t = (
   level-of-reads.Learnt,
   word-after-reads.Asked,
   word-after-reads.Learnt,
+  same-ahead-reads.Asked,
+  same-ahead-reads.Learnt,
   and 2 feed-entry-kinds.ps (falls 2 feed-entry-kinds.ps _<_ μ-feed-entry t) feed-entry.Pre,
   feed-entry.Post,
 )
@@ -210,16 +213,29 @@ module _ (t : ℕ) where
   word-after-requires : b.Need-word-after-requires (b-calls t) (b-at t) feed-table.Post Inv μ-loop
   word-after-requires c κs = let x = stands c in omega (arith, entry-inside _ _ x, x .fits .long, x .fits .range)
 
+  sub-rest : b.Need-sub-rest (b-calls t) (b-at t) feed-table.Post Inv μ-loop
+  sub-rest c = search needs
+
+  same-ahead-requires : b.Need-same-ahead-requires (b-calls t) (b-at t) feed-table.Post Inv μ-loop
+  same-ahead-requires c κs =
+      let i = c .before in
+      let v = i .before .before in
+      let n = v .level-of .result .entries in
+      let k : n - 1 < n = omega (arith, i .loop-test .taken) in
+      let z = entry-at _ _ _ _ _ (v .before .before .before .pre .1 .0) _ (v .level-of .ensures) (n - 1) k in
+      (omega arith, omega (arith, entry-inside _ _ z, ap (λ x. x .0) (c .word-after .ensures)))
+
   mul-from : b.Need-mul-from (b-calls t) (b-at t) feed-table.Post Inv μ-loop
-  mul-from c = omega (arith, room (c .before))
+  mul-from c = omega (arith, room (c .before .before .before))
 
   add-from : b.Need-add-from (b-calls t) (b-at t) feed-table.Post Inv μ-loop
-  add-from c = omega (arith, room (c .before))
+  add-from c = omega (arith, room (c .before .before .before))
 
   feed-entry-requires : b.Need-feed-entry-requires (b-calls t) (b-at t) feed-table.Post Inv μ-loop
   feed-entry-requires c κs =
-      let i = c .before .before in
-      (omega arith, (rw (c .before .word-after .ensures) (stands i), i .before .loop .inv .0 .numbers))
+      let w = c .before .before .before in
+      let i = w .before in
+      (omega arith, (rw (w .word-after .ensures) (stands i), i .before .loop .inv .0 .numbers))
 
   add-i : b.Need-add-i (b-calls t) (b-at t) feed-table.Post Inv μ-loop
   add-i c = search needs
@@ -229,11 +245,29 @@ module _ (t : ℕ) where
 
   loop-again : b.Need-loop-again (b-calls t) (b-at t) feed-table.Post Inv μ-loop
   loop-again c =
-      let i = c .before .before .before .before .before in
+      let w = c .before .before .before .before .before .before in
+      let i = w .before in
       let v = i .before .before in (
         entry-next _ _ _ _ _ (v .before .before .before .pre .1 .0) _ (v .level-of .ensures) _ (i .loop-test .taken) _
             _ _ (i .before .loop .inv .0)
-            (c .before .before .feed-entry .ensures ∙ rw (c .before .before .before .before .word-after .ensures) refl),
+            (c .before .before .feed-entry .ensures ∙ rw (w .word-after .ensures) refl),
+        omega arith,
+      )
+
+  add-i-2 : b.Need-add-i-2 (b-calls t) (b-at t) feed-table.Post Inv μ-loop
+  add-i-2 c = search needs
+
+  loop-less-2 : b.Need-loop-less-2 (b-calls t) (b-at t) feed-table.Post Inv μ-loop
+  loop-less-2 c = search needs
+
+  loop-again-2 : b.Need-loop-again-2 (b-calls t) (b-at t) feed-table.Post Inv μ-loop
+  loop-again-2 c =
+      let w = c .before .before in
+      let i = w .before in
+      let v = i .before .before in
+      let f = c .before .same-ahead .ensures in (
+        same-next _ _ _ _ _ (v .before .before .before .pre .1 .0) _ (v .level-of .ensures) _ _ _ _ _ (omega arith)
+            (rw (ap (λ x. x .0) (w .word-after .ensures)) at (f .1)) refl (i .before .loop .inv .0),
         omega arith,
       )
 
@@ -273,11 +307,16 @@ pub +feed-entry+feed-table-spec : {M : Type 1} → statement M
     (loop-holds t)
     (cast-word-after t)
     (word-after-requires t)
+    (sub-rest t)
+    (same-ahead-requires t)
     (mul-from t)
     (add-from t)
     (feed-entry-requires t)
     (add-i t)
     (loop-less t)
     (loop-again t)
+    (add-i-2 t)
+    (loop-less-2 t)
+    (loop-again-2 t)
     (b-same-length t)
     (b-returns t))

@@ -26,6 +26,7 @@ use Rattle.targets.proofs.GivenLaws.{painted-given-small}
 use Rattle.targets.proofs.SearchLaws.{Gathers, gathers-none, gathers-more, gathers-two, gathers-all}
 use Rattle.targets.proofs.EntryLaws.{found-entry, readable-good, entry-readable, entry-found, entries-two}
 use Rattle.targets.proofs.EntryLaws.{first-mixed, entries-one}
+use Rattle.targets.proofs.LeafLaws.{seen-target}
 use Rattle.targets.proofs.entry_target.Reads as entry-target
 use Rattle.targets.proofs.entry_target.Kinds as entry-target-kinds
 use Rattle.targets.proofs.+entry_target+part+search.Lts-entry_target as e
@@ -41,6 +42,7 @@ use Rattle.targets.proofs.pack_eight.Reads as pack-eight-reads
 use Rattle.targets.proofs.part_entries.Reads as part-entries-reads
 use Rattle.targets.proofs.rights_part.Reads as rights-part-reads
 use Rattle.targets.proofs.same_entry.Reads as same-entry-reads
+use Rattle.targets.proofs.leaves.seen_mixed.Reads as seen-mixed-reads
 use Rattle.words.proofs.pool_word.Reads as pool-word-reads
 use Rattle.words.proofs.word_after.Reads as word-after-reads
 use Rattle.words.proofs.pool_index.Reads as pool-index-reads
@@ -87,6 +89,8 @@ abbrev e-calls : ℕ → e.Claims
 e-calls t = (
   at-once-reads.Asked,
   at-once-reads.Learnt,
+  seen-mixed-reads.Asked,
+  seen-mixed-reads.Learnt,
   and 1 search-kinds.ps (falls 1 search-kinds.ps _<_ μ-search t) search′.Pre,
   search′.Post,
 )
@@ -142,23 +146,31 @@ module _ (t : ℕ) where
       → 0 < c .before .before .before .before .args .height
   unknown c = rw (c .enum-told .given .1) at (c .before .before .at-once .ensures)
 
+  seen-mixed-requires : e.Need-seen-mixed-requires (e-calls t) (e-at t) entry-target.Post
+  seen-mixed-requires c κs = c .before .before .before .before .pre .1 .0
+
+  e-returns-2 : e.Need-returns-2 (e-calls t) (e-at t) entry-target.Post
+  e-returns-2 c = λ R g. seen-target _ R _ _ _ _ (c .before .seen-mixed .ensures (c .if1 .taken)) g
+
   sub-search : e.Need-sub-search (e-calls t) (e-at t) entry-target.Post
-  sub-search c = unknown c
+  sub-search c = unknown (c .before .before)
 
   search-requires : e.Need-search-requires (e-calls t) (e-at t) entry-target.Post
   search-requires c κs =
-      let a = c .before .before .before .before .args in
-      let x = c .before .before .before .before .pre .1 in
-      let up = above-below (a .height) (unknown c) in (
-        omega (arith, unknown c),
+      let d = c .before .before in
+      let a = d .before .before .before .before .args in
+      let x = d .before .before .before .before .pre .1 in
+      let up = above-below (a .height) (unknown d) in (
+        omega (arith, unknown d),
         (
           subst (λ h. Readable (a .pool .now) h (a .e)) up (x .0),
           (omega arith, subst (λ h. a .n < entryBlocks h) up (x .1 .1), x .1 .2),
         ),
       )
 
-  e-returns-2 : e.Need-returns-2 (e-calls t) (e-at t) entry-target.Post
-  e-returns-2 c = λ R g. found-entry _ _ R _ _ _ _ _ (above-below _ (unknown (c .before))) g (c .search .ensures)
+  e-returns-3 : e.Need-returns-3 (e-calls t) (e-at t) entry-target.Post
+  e-returns-3 c = λ R g. found-entry _ _ R _ _ _ _ _ (above-below _ (unknown (c .before .before .before))) g
+      (c .search .ensures)
 
   rights-part-requires : p.Need-rights-part-requires (p-calls t) (p-at t) part.Post p-Inv p-μ
   rights-part-requires c κs =
@@ -514,9 +526,11 @@ pub +entry-target+part+search-spec : {M : Type 1} → statement M
     (enum-known-known t)
     (e-returns t)
     (e-enum-told t)
+    (seen-mixed-requires t)
+    (e-returns-2 t)
     (sub-search t)
     (search-requires t)
-    (e-returns-2 t))
+    (e-returns-3 t))
     (λ t. p.spec (p-calls t) (p-at t) part.Post p-Inv p-μ
     (rights-part-requires t)
     (p-returns t)

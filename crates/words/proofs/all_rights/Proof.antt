@@ -12,11 +12,11 @@ use Rattle.words.proofs.all_rights.Statement.{statement}
 use Rattle.words.proofs.all_rights.Tie as tie
 
 abbrev Inv-loop : tie.InvT-loop
-Inv-loop pool first n₀ i₀ n i = (first + 32 ≤ length pool) × (i ≤ 32) × (n ≤ i)
+Inv-loop pool count first n₀ i₀ n i = (first + count ≤ length pool) × (i ≤ count) × (n ≤ i)
     × (n ≡ i → Passed pool first (first + i))
 
 abbrev μ-loop : tie.MeasureT-loop
-μ-loop pool first n₀ i₀ n i = 32 - i
+μ-loop pool count first n₀ i₀ n i = count - i
 
 pool-index-requires : tie.Need-pool-index-requires Inv-loop μ-loop
 pool-index-requires c κs = search needs
@@ -60,7 +60,7 @@ loop-again c =
 
 returns : tie.Need-returns Inv-loop μ-loop
 returns c t k low high =
-    let n : c .before .loop .n ≡ 32 = eqb-true _ _ t in
+    let n : c .before .loop .n ≡ c .before .before .before .before .args .count = eqb-true _ _ t in
     c .before .loop .inv .3 (omega arith) k (omega arith) (omega arith)
 
 pub all-rights-spec : {M : Type 1} → statement M

@@ -18,14 +18,14 @@ returns-2 c = ahead-all (c .before .before .pre .2)
 mul-begin : tie.Need-mul-begin
 mul-begin c = search needs
 
-pages-before-requires : tie.Need-pages-before-requires
-pages-before-requires c κs = search needs
+entries-before-requires : tie.Need-entries-before-requires
+entries-before-requires c κs = search needs
 
-add-pages-before : tie.Need-add-pages-before
-add-pages-before c = search needs
+add-entries-before : tie.Need-add-entries-before
+add-entries-before c = search needs
 
-pages-before-requires-2 : tie.Need-pages-before-requires-2
-pages-before-requires-2 c κs = search needs
+entries-before-requires-2 : tie.Need-entries-before-requires-2
+entries-before-requires-2 c κs = search needs
 
 pool-word-requires : tie.Need-pool-word-requires
 pool-word-requires c κs = search needs
@@ -36,7 +36,7 @@ cast-word-after c = search needs
 word-after-requires : tie.Need-word-after-requires
 word-after-requires c κs =
     let e = ap (λ w. w .0) (c .pool-word .ensures) in
-    let p = c .before .before .before .pages-before .ensures .most in
+    let p = c .before .before .before .entries-before .ensures .most in
     omega (arith, c .before .before .before .before .before .before .before .before .if1 .left)
 
 cast-word-after-2 : tie.Need-cast-word-after-2
@@ -45,7 +45,7 @@ cast-word-after-2 c = search needs
 word-after-requires-2 : tie.Need-word-after-requires-2
 word-after-requires-2 c κs =
     let e = ap (λ w. w .0) (c .before .pool-word .ensures) in
-    let p = c .before .before .pages-before2 .ensures .most in
+    let p = c .before .before .entries-before2 .ensures .most in
     omega (arith, c .before .before .before .before .before .before .before .before .before .if1 .left)
 
 nearer-requires : tie.Need-nearer-requires
@@ -62,7 +62,7 @@ returns-3 c =
     let past = ap (λ w. w .0) (c .before .word-after2 .ensures) in
     ahead-as (rw (past, start, table) at (c .nearer .ensures))
     (λ j. middle-outside (a .args .plan) (a .pre .0) (a .args .block) _ _ j
-    (left .if2 .left) (b1 .pages-before .ensures) (b2 .pages-before2 .ensures))
+    (left .if2 .left) (b1 .entries-before .ensures) (b2 .entries-before2 .ensures))
 
 pub near-middle-spec : {M : Type 1} → statement M
 near-middle-spec =
@@ -71,9 +71,9 @@ near-middle-spec =
     returns
     returns-2
     mul-begin
-    pages-before-requires
-    add-pages-before
-    pages-before-requires-2
+    entries-before-requires
+    add-entries-before
+    entries-before-requires-2
     pool-word-requires
     cast-word-after
     word-after-requires

@@ -6,19 +6,19 @@ use native.Mathlib.Omega.{arith}
 use borrow.Author.Needs.{needs}
 use Rattle.change.specs.declared.Work.the-variants.{Change}
 use Rattle.change.specs.Runs.{Run, Stands}
-use Rattle.change.proofs.AheadLaws.{few-words}
+use Rattle.change.proofs.AheadLaws.{few-words, at-plain}
 use Rattle.change.proofs.RunLaws.{in-store, in-none, wanted-from}
 use Rattle.change.proofs.ahead.next_in_row.Statement.{statement}
 use Rattle.change.proofs.ahead.next_in_row.Tie as tie
 
 abbrev Inv-loop : tie.InvT-loop
-Inv-loop pool shape plan phase past left₀ word₀ left word =
+Inv-loop pool shape plan phase past count plain left₀ word₀ left word =
     (word .0 + left ≡ past .0)
     × ((u : Run shape (Change plan)) → Stands shape (Change plan) u phase (word₀ .0) pool
     → Stands shape (Change plan) u phase (word .0) pool)
 
 abbrev μ-loop : tie.MeasureT-loop
-μ-loop pool shape plan phase past left₀ word₀ left word = left
+μ-loop pool shape plan phase past count plain left₀ word₀ left word = left
 
 pool-index-requires : tie.Need-pool-index-requires Inv-loop μ-loop
 pool-index-requires c κs = search needs
@@ -26,15 +26,39 @@ pool-index-requires c κs = search needs
 pool-index-requires-2 : tie.Need-pool-index-requires-2 Inv-loop μ-loop
 pool-index-requires-2 c κs = search needs
 
+sub-count : tie.Need-sub-count Inv-loop μ-loop
+sub-count c = omega (arith, c .before .before .before .before .before .pre .follows .1)
+
+plain-words-requires : tie.Need-plain-words-requires Inv-loop μ-loop
+plain-words-requires c κs = let f = c .before .before .before .before .before .pre .follows in omega (arith, f .1, f .2)
+
 sub-left : tie.Need-sub-left Inv-loop μ-loop
-sub-left c = omega (arith, c .before .before .before .before .before .pre .follows .1)
+sub-left c = omega (arith, c .plain-words .ensures .most)
+
+word-after-requires : tie.Need-word-after-requires Inv-loop μ-loop
+word-after-requires c κs =
+    let p = c .before .before .before .before .before .before .pre in
+    omega (arith, c .plain-words .ensures .most, p .follows .1, p .follows .2, few-words (p .fits))
 
 loop-holds : tie.Need-loop-holds Inv-loop μ-loop
-loop-holds c = (omega (arith, c .before .before .before .before .before .pre .follows .1), λ u y. y)
+loop-holds c =
+    let e = ap (λ w. w .0) (c .word-after .ensures) in
+    let p = c .before .before .before .before .before .before .before .pre in
+    (omega (arith, c .before .plain-words .ensures .most, p .follows .1), λ u y. y)
+
+-- The loop begins past the words that are plain.
+begins : (c : tie.At-loop Inv-loop μ-loop) → let f = c .before .before in
+    let a = f .before .before .before .before .before .before .args in
+    (u : Run (a .shape) (Change (a .plan))) → Stands (a .shape) (Change (a .plan)) u (a .at .phase) (a .at .word .0)
+    (a .pool .now)
+    → Stands (a .shape) (Change (a .plan)) u (a .at .phase) (c .loop .word .0) (a .pool .now)
+begins c u y =
+    let e = ap (λ w. w .0) (c .before .word-after .ensures) in
+    c .loop .inv .1 u (rw e (at-plain (c .before .before .plain-words .ensures) y))
 
 next-here-requires : tie.Need-next-here-requires Inv-loop μ-loop
 next-here-requires c κs =
-    let p = c .before .before .before .before .before .before .before .pre in
+    let p = c .before .before .before .before .before .before .before .before .before .pre in
     let i = c .before .loop .inv .0 in (
       record { fits = p .fits; sound = p .sound; follows = (p .follows .0, omega arith, p .follows .2) },
       omega (arith, c .loop-test .taken),
@@ -49,13 +73,13 @@ enum-told-2 c = search needs
 returns : tie.Need-returns Inv-loop μ-loop
 returns c =
     let g = c .enum-told2 .given .1 in
-    rw g (wanted-from (c .before .before .before .before .loop .inv .1)
+    rw g (wanted-from (begins (c .before .before .before .before))
     (in-store _ g (c .before .before .next-here .ensures)))
 
-word-after-requires : tie.Need-word-after-requires Inv-loop μ-loop
-word-after-requires c κs =
+word-after-requires-2 : tie.Need-word-after-requires-2 Inv-loop μ-loop
+word-after-requires-2 c κs =
     let l = c .before .before .before .before in
-    let p = l .before .before .before .before .before .before .pre in
+    let p = l .before .before .before .before .before .before .before .before .pre in
     omega (arith, l .loop .inv .0, c .before .before .before .loop-test .taken, p .follows .2, few-words (p .fits))
 
 sub-left-2 : tie.Need-sub-left-2 Inv-loop μ-loop
@@ -67,7 +91,7 @@ loop-less c = omega (arith, c .before .before .before .before .loop-test .taken)
 loop-again : tie.Need-loop-again Inv-loop μ-loop
 loop-again c =
     let l = c .before .before .before .before .before in
-    let e = ap (λ w. w .0) (c .word-after .ensures) in (
+    let e = ap (λ w. w .0) (c .word-after2 .ensures) in (
       omega (arith, l .loop .inv .0, c .before .before .before .before .loop-test .taken),
       λ u y. rw e (in-none _ (c .before .enum-told .given .1) (c .before .before .before .next-here .ensures) u
           (l .loop .inv .1 u y)),
@@ -76,9 +100,9 @@ loop-again c =
 returns-2 : tie.Need-returns-2 Inv-loop μ-loop
 returns-2 c =
     let l = c .before .loop in
-    let e : l .word .0 ≡ c .before .before .before .before .before .before .before .args .at .past .0 =
+    let e : l .word .0 ≡ c .before .before .before .before .before .before .before .before .before .args .at .past .0 =
     omega (arith, l .inv .0, c .loop-test .left) in
-    λ u y. rw e at (l .inv .1 u y)
+    λ u y. rw e at (begins (c .before) u y)
 
 pub next-in-row-spec : {M : Type 1} → statement M
 next-in-row-spec =
@@ -88,13 +112,16 @@ next-in-row-spec =
     μ-loop
     pool-index-requires
     pool-index-requires-2
+    sub-count
+    plain-words-requires
     sub-left
+    word-after-requires
     loop-holds
     next-here-requires
     enum-told
     enum-told-2
     returns
-    word-after-requires
+    word-after-requires-2
     sub-left-2
     loop-less
     loop-again
