@@ -32,9 +32,10 @@ CALLS = {
 }
 
 # The only thing that such a call may require: that lent words are as many as a state has. The C face answers 101
-# where they are not, and requires nothing. The one store is called by the loop alone.
+# where they are not, and requires nothing. The one store is called by the loop alone, and the program's parts by the
+# program.
 LENT = r"Is(?:Buffer|Gates|Stack) \(now \w+\)"
-NOT_BY_USERS = {"put"}
+NOT_BY_USERS = {"put", "serve", "serve_last", "write_page"}
 
 
 def requires_more(name, said):

@@ -32,6 +32,9 @@ BARE = {
     ("listing", "close", "at"): "a memory word number",
     ("listing", "feed_right", "at"): "a memory word number",
     ("listing", "feed_rights", "at"): "a memory word number",
+    ("listing", "turn_to", "at"): "a memory word number",
+    ("listing", "feed_turns", "at"): "a memory word number",
+    ("listing", "feed_chunk", "at"): "a memory word number",
     ("listing", "feed_leaf", "at"): "a memory word number",
     ("listing", "feed_table", "at"): "a memory word number",
     ("listing", "feed_entry", "at"): "a memory word number",
@@ -82,7 +85,7 @@ OFFSETS = {
 }
 
 # The names of slices of words that are not the pool.
-SLICES = {"owners", "runs", "out", "ws", "shape", "buffer", "gates", "stack", "part"}
+SLICES = {"owners", "runs", "turns", "out", "ws", "shape", "buffer", "gates", "stack", "part"}
 
 
 def closing(text, start, pair):

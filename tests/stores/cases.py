@@ -3,6 +3,7 @@ import re
 
 CHANGE, TIDYING, AHEAD = (f"crates/change/src/{name}.rt" for name in ("lib", "tidying", "ahead"))
 FACE, TABLE, CENSUS = (f"crates/{name}/src/lib.rt" for name in ("goleuthan", "table", "census"))
+BUFFER, STEPS = "crates/lookaside/src/lib.rt", "crates/gates/src/steps.rt"
 MAIN, SERVING = (f"crates/rights_listing/src/{name}.rt" for name in ("main", "serving"))
 
 ASKED = "let request = plan_request("
@@ -90,6 +91,7 @@ HARMLESS = [
      [(CHANGE, ASKED, ASKED.replace("request", "asked", 1)), (CHANGE, "match request", "match asked")]),
     ("has a store in a comment", [before(CHANGE, ASKED, "// pool[0] = allowance; put(pool) loop\n   ")]),
     ("breaks its lines elsewhere", [(CHANGE, PUT, PUT.replace(", ", ",\n            "))]),
+    ("calls the pointer of a buffer by another name", [(BUFFER, "next", "pointer")]),
     ("has one more function that reads",
      [before(CHANGE, "\nfn put(", "\nfn first(pool: &[u32]) -> u32 { pool[0] }\n")]),
 ]
@@ -97,6 +99,14 @@ HARMLESS = [
 WRONG += [
     ("loads a word twice", "loads", [before(TABLE, LOAD, LOAD)]),
     ("reads a word without counting it", "loads", [before(TABLE, LOAD, "let seen = pool[0];")]),
+    ("writes a word of a buffer and writes it back before a check", "states",
+     [before(BUFFER, "let hit = layout::find(", "let was = buffer[0]; buffer[0] = 7; buffer[0] = was;")]),
+    ("stores a slot that stays in a flush", "states",
+     [before(BUFFER, "if is_flushed(f, s) {", "layout::put_slot(ws, 4 * i, s);")]),
+    ("stores the depth of a stack that a refusal leaves as it came", "states",
+     [before(STEPS, "    if back != asked {", "stack[DEPTH] = depth;")]),
+    ("holds a stack to write in where nothing is stored", "states",
+     [(STEPS, "fn frames_below(ws: &[u32]", "fn frames_below(ws: &mut [u32]")]),
 ]
 
 

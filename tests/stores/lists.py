@@ -7,7 +7,7 @@ HOLDERS = {
         "put": ["store"],
         "make_stores": ["to next_store", "to put"],
         "change": ["to plan_request", "to make_stores"],
-        "tidy": ["length", "to census::census", "to make_stores"],
+        "tidy": ["length", "to census::census", "to targets::settled", "to make_stores"],
     },
     "goleuthan": {
         "gol_fresh": ["to table::fresh"],
@@ -55,6 +55,37 @@ EXPORTED = {
     "gol_set_return_gate": ["gates"],
     "gol_remove_gate": ["gates"],
     "gol_step": ["stack", "out"],
+}
+
+# Who holds the words of a lent state to write in, and all that each does with them, in this order.
+STATES = {
+    "lookaside": {
+        "put_slot": ["store"] * 4,
+        "fill_next": ["read", "to put_slot", "store"],
+        "check": ["read", "to layout::find", "to layout::fill_next"],
+        "flush": ["to layout::slot_at", "to layout::put_slot"],
+        "emptied": ["to flush", "store"],
+        "flush_all": ["read", "to flush"],
+        "flush_domain": ["read", "to flush"],
+        "flush_region": ["read", "to flush"],
+    },
+    "gates": {
+        "put_gate": ["store"] * 3,
+        "move_gate": ["read"] * 3 + ["store"] * 3,
+        "put_frame": ["store"] * 2,
+        "store_gate": ["to layout::put_gate", "store"],
+        "close_up": ["read", "to layout::move_gate", "store"],
+        "no_gates": ["to layout::put_gate", "store"],
+        "call_stack": ["to layout::put_frame", "store", "store"],
+        "set_gate": ["read", "to places::place_of", "to places::store_gate", "to places::store_gate"],
+        "remove_gate": ["read", "to places::place_of", "to places::close_up"],
+        "push": ["read", "to layout::put_frame", "store", "store"],
+        "switch_step": ["read", "read", "to push"],
+        "give_back": ["read", "to layout::frame_at", "store", "store"],
+        "return_step": ["read", "to give_back"],
+        "fetch_step": ["to steps::step_refusal", "read"]
+        + [f"to steps::{step}" for step in ("plain_step", "switch_step", "return_step")],
+    },
 }
 
 # What a lookup's code does with the pool.

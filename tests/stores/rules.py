@@ -1,7 +1,7 @@
 """The rules of one loop of stores: each gives what is wrong with a source."""
 import re
 
-from lists import BELOW, EXPORTED, HOLDERS, LOOP, MAIN, OWNERS, READERS, TOLD
+from lists import BELOW, EXPORTED, HOLDERS, LOOP, MAIN, OWNERS, READERS, STATES, TOLD
 from source import assigned, use, uses
 
 
@@ -129,6 +129,21 @@ def nobody_else(house):
     return wrong
 
 
+def states(house):
+    """Who holds the words of a lent state does with them what is listed: what stays is not stored and stored back."""
+    wrong = []
+    for crate, listed in STATES.items():
+        holders = [f for f in house.functions[crate] if f.lent()]
+        wrong += [f"{crate}: {name} holds a state's words, or must" for name in {f.name for f in holders} ^ set(listed)]
+        for f in holders:
+            done = [uses(f.body, name) for name in f.lent()]
+            if f.name in listed and done != [listed[f.name]]:
+                wrong.append(f"{crate}: {f.name} does with a state {done}, and may do {listed[f.name]}")
+        if "mut" in house.outside[crate]:
+            wrong.append(f"{crate}: something that is no function holds words to write in")
+    return wrong
+
+
 def loads(house):
     """A lookup reads the pool in one place, which counts."""
     wrong = []
@@ -150,5 +165,6 @@ RULES = {
     "below": below,
     "above": above,
     "nobody else": nobody_else,
+    "states": states,
     "loads": loads,
 }

@@ -56,14 +56,18 @@ tidy-settled m e (done f u q d) = record { settled = d .finished .settled; right
 tidy-settled m e (cut f u x c) = absurd (let z : _≡_ {A = ℕ} 0 1 = cc in omega arith)
 
 -- A settled pool is tidy already.
-pub tidy-none : {p : List ℕ} {s : Shape} {n : ℕ} {a : Answer} {q : List ℕ} → Fits s (length p)
-    → Settled (formOf s) (words p) → Tidies p s n a q
-    → (a ≡ Done 0) × (q ≡ p)
-tidy-none {p} {s} {n} f t y =
+pub settled-tidies : {p : List ℕ} {s : Shape} {n : ℕ} → Fits s (length p) → Settled (formOf s) (words p)
+    → Tidies p s n (Done 0) p
+settled-tidies {p} {s} {n} f t =
     let d : IsDone s noAim p n p = record {
       finished = settled-finished (formOf s) t;
       long = refl;
       enough = let z = differing-self p in omega arith;
     } in
-    let (e, g) = one-tidy y (done f (t .sound) p d) in
-    (e ∙ ap Done (differing-self p), g)
+    let y : Tidies p s n (Done (differing p p)) p = done f (t .sound) p d in
+    rw (differing-self p) at y
+
+pub tidy-none : {p : List ℕ} {s : Shape} {n : ℕ} {a : Answer} {q : List ℕ} → Fits s (length p)
+    → Settled (formOf s) (words p) → Tidies p s n a q
+    → (a ≡ Done 0) × (q ≡ p)
+tidy-none f t y = one-tidy y (settled-tidies f t)

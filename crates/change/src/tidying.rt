@@ -132,5 +132,10 @@ pub fn tidy(pool: &mut [u32], shape: Shape, allowance: u32) -> Answer
     if !sound {
         return Answer::Refused(6);
     }
+    // Nearly every reset finds a settled pool, in which nothing is to be given up.
+    let settled = targets::settled(pool, shape, &owners);
+    if settled {
+        return Answer::Done(0);
+    }
     make_stores(pool, shape, &owners, 0, UNPAINTED, Work::Tidying, allowance)
 }

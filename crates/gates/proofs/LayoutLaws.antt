@@ -3,12 +3,11 @@
 -- switch to 0xFFFFFFFF, which no set read from words holds. Assumes nothing.
 use Prim.Native.Nat.{ℕ, suc, _+_, _*_, _≤_, _<_}
 use mathlib.Core.Path.{_≡_, refl, sym, ap, _∙_}
-use mathlib.Core.Logic.{_≢_}
 use mathlib.Core.Bool.{Bool, true, false, cond, not}
 use mathlib.Core.List.{List, [], _∷_, _++_}
 use native.Mathlib.Numerals.{add-one}
 use native.Mathlib.Omega.{arith}
-use borrow.Author.Tests.{eqb-true, eqb-false, ne-eqb, not-true}
+use borrow.Author.Tests.{eqb-true, not-true}
 use lib.Dec.{eqb}
 use lib.ListN.{length, getD, take, drop, set, length-set, length-append, drop-of-length-le}
 use lib.Seq.{sets, drop-cons, getD-at, getD-append-seam, getD-append-add}
@@ -45,10 +44,6 @@ hasWord Return = true
 pub gate-in : (g : Gate) → hasWord g ≡ true → gateSaid (gateWord g) ≡ g
 gate-in Return h = refl
 gate-in (Switch d) h = rw (not-true (eqb d returnWord) h)
-
-pub has-word : (g : Gate) → g ≢ Switch returnWord → hasWord g ≡ true
-has-word Return h = refl
-has-word (Switch d) h = rw (ne-eqb d returnWord (λ e. h (ap Switch e)))
 
 -- Words of a gate with its place.
 pub gate-words : (ws : List ℕ) (j : ℕ) → j + 3 ≤ length ws → gateWords (gateAt ws j) ≡ take 3 (drop j ws)
@@ -94,10 +89,10 @@ gates-words ws h =
     ∙ words-said gateLayout ws 64 (omega arith)
 
 pub gates-again : (G : Gates) → length (G .places) ≡ 64
-    → ((i : ℕ) → i < 64 → getD (G .places) i noGate .gate ≢ Switch returnWord)
+    → ((i : ℕ) → i < 64 → hasWord (getD (G .places) i noGate .gate) ≡ true)
     → gatesOf (gatesWords G) ≡ G
 gates-again G h real =
-    let r = rows-words gateLayout (G .places) (G .count ∷ []) noGate (λ i l. has-word _ (real i (omega arith))) in
+    let r = rows-words gateLayout (G .places) (G .count ∷ []) noGate (λ i l. real i (omega arith)) in
     let e = rw h at r in
     let n = length-words gateLayout (G .places) in
     let t = getD-at (wordsOf gateWords (G .places)) (G .count) [] 0 192 (omega arith) in
@@ -142,11 +137,11 @@ stored-words ws i g m h l =
     ∙ count-stored (set xs i g) (getD ws 192 0) m (omega arith)
 
 -- What setting or removing leaves in the words `ws`, where it is refused and where it is done.
-pub refused-as : (ws : List ℕ) → IsGates ws → (r : GatesSet) (n : ℕ) → r ≡ setRefused n (gatesOf ws) → SetAs r n ws
-refused-as ws h r n e = rw e (refl, sym (gates-words ws h))
+pub set-refused-as : (ws : List ℕ) → IsGates ws → (r : GatesSet) (n : ℕ) → r ≡ setRefused n (gatesOf ws) → SetAs r n ws
+set-refused-as ws h r n e = rw e (refl, sym (gates-words ws h))
 
-pub done-as : (ws : List ℕ) (r : GatesSet) (G : Gates) → r ≡ setDone G → ws ≡ gatesWords G → SetAs r 0 ws
-done-as ws r G e q = rw e (refl, q)
+pub set-done-as : (ws : List ℕ) (r : GatesSet) (G : Gates) → r ≡ setDone G → ws ≡ gatesWords G → SetAs r 0 ws
+set-done-as ws r G e q = rw e (refl, q)
 
 -- Words of a frame.
 pub frame-words : (ws : List ℕ) (j : ℕ) → j + 2 ≤ length ws → frameWords (frameAt ws j) ≡ take 2 (drop j ws)
@@ -232,6 +227,6 @@ pushed-words ws i f d c h l =
     ∙ ends-stored (record { frames = set (k .frames) i f; depth = k .depth; current = k .current }) d c (m ∙ n)
 
 -- A step that leaves the stack as it came.
-pub stays-as : (ws : List ℕ) → IsStack ws → (r : Step) (a : Stepped) → r ≡ record { answer = a; stack = stackOf ws }
-    → SteppedAs r a ws
-stays-as ws h r a e = rw e (refl, sym (stack-words ws h))
+pub step-stays-as : (ws : List ℕ) → IsStack ws → (r : Step) (a : Stepped)
+    → r ≡ record { answer = a; stack = stackOf ws } → SteppedAs r a ws
+step-stays-as ws h r a e = rw e (refl, sym (stack-words ws h))

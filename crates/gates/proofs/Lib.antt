@@ -4,4 +4,5 @@ pub mod LayoutLaws
 pub mod GateLaws
 pub mod SetLaws
 pub mod StepLaws
+pub mod SaysLaws
 pub mod Examples

@@ -86,4 +86,12 @@ module _ (p sh gs ws : List ℕ) (a t : ℕ) (out res : List ℕ) where
       → back n new res ≡ stepCall p sh gs ws a t out
   unfolding stepCall
   step-made f g h r new (ea, ew) n en er =
-      rw (en, er, ew, ea, eq-eqb (length sh) shapeLong f, eq-eqb (length gs) gatesLong g, eq-eqb (length ws) stackLong h)
+      rw (
+        en,
+        er,
+        ew,
+        ea,
+        eq-eqb (length sh) shapeLong f,
+        eq-eqb (length gs) gatesLong g,
+        eq-eqb (length ws) stackLong h,
+      )

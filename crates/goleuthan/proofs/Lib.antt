@@ -4,7 +4,5 @@ pub mod CallLaws
 pub mod UniqueLaws
 pub mod ShapeLaws
 pub mod RefusalLaws
-pub mod SaysLaws
-pub mod GateSaysLaws
 pub mod StateRefusalLaws
 pub mod Examples

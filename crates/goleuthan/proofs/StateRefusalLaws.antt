@@ -45,7 +45,7 @@ use Rattle.lookaside.specs.Layout.{bufferLong, bufferOf, bufferWords}
 use Rattle.lookaside.proofs.LayoutLaws.{buffer-words}
 use Rattle.gates.specs.Layout.{gatesLong, gatesOf, gatesWords, stackLong, stackOf, stackWords}
 use Rattle.gates.proofs.LayoutLaws.{gates-words, stack-words}
-use Rattle.goleuthan.proofs.SaysLaws.{Flushes, refuses, empties}
+use Rattle.lookaside.proofs.SaysLaws.{Flushes, refuses, empties}
 
 -- A check that is refused keeps the buffer.
 module _ (p : List ℕ) (s : Shape) (b : Buffer) (d kind size a : ℕ) where

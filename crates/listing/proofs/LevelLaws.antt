@@ -16,15 +16,15 @@ use Rattle.table.specs.declared.Shape.{Shape}
 use Rattle.table.specs.declared.Entry.the-variants.{Rights, Leads, Bad}
 use Rattle.table.specs.Shape.{Fits, size}
 use Rattle.table.specs.Map.{part, parts, index, formOf}
-use Rattle.table.specs.Wants.{wordsIn}
+use Rattle.table.specs.Wants.{wordsIn, levelOf, blockWords, sameOf}
 use Rattle.table.specs.Entries.{decodeOf}
 use Rattle.table.proofs.BlockLaws.{first-word}
 use Rattle.table.proofs.EntryLaws.{decode-rights, bad-rights, rights-leads}
 use Rattle.census.proofs.ReadableLaws.{Walkable, sound-readable, reached-not-bad, reached-rights-right, reached-leads}
-use Rattle.listing.specs.declared.Level.{Level}
+use Rattle.table.specs.declared.geometry.Level.{Level}
 use Rattle.listing.specs.Runs.{memoryWords}
 use Rattle.listing.specs.Sheets.{Sheet, feed, fed}
-use Rattle.listing.specs.Levels.{blockWords, tableWords, levelOf, sameOf, entrySays, entryRight, tableRight}
+use Rattle.listing.specs.Levels.{tableWords, entrySays, entryRight, tableRight}
 use Rattle.listing.specs.Levels.{AllSay, EntryAt, TableAt}
 use Rattle.listing.proofs.SheetLaws.{feed-again, fed-alike, fed-same, Along, along-next, room}
 
@@ -110,21 +110,18 @@ same-said : (h w j : ℕ) → w ≡ sameOf h (rightAt w 0) → entrySays h w j �
 same-said zero w j e = ap (λ v. rightAt v (4 * j / 4 % 16)) e ∙ sixteen-right (rightAt w 0) (4 * j / 4 % 16)
     (right-small w 0) (omega arith)
 same-said (suc h) w j e =
-    let f = simp (ne-eqb (suc h) 0 (λ z. omega arith)) at e in
-    ap (λ v. rightAt v (4 * j / part (suc h) % 8)) f ∙ eight-right (rightAt w 0) (4 * j / part (suc h) % 8)
+    ap (λ v. rightAt v (4 * j / part (suc h) % 8)) e ∙ eight-right (rightAt w 0) (4 * j / part (suc h) % 8)
     (right-small w 0) (omega arith)
 
 -- Its first right, and what it decodes to.
 same-first : (h w q : ℕ) → w ≡ sameOf h q → q < 4 → rightAt w 0 ≡ q
 same-first zero w q e b = ap (λ v. rightAt v 0) e ∙ sixteen-right q 0 b (omega arith)
-same-first (suc h) w q e b =
-    ap (λ v. rightAt v 0) (simp (ne-eqb (suc h) 0 (λ z. omega arith)) at e) ∙ eight-right q 0 b (omega arith)
+same-first (suc h) w q e b = ap (λ v. rightAt v 0) e ∙ eight-right q 0 b (omega arith)
 
 same-decoded : (s : Shape) (h w q : ℕ) → w ≡ sameOf h q → q < 4 → decodeOf s h w ≡ Rights w
 same-decoded s zero w q e b = refl
 same-decoded s (suc h) w q e b =
-    let f : w ≡ eightOf q = simp (ne-eqb (suc h) 0 (λ z. omega arith)) at e in
-    decode-rights s (suc h) w (λ z. omega arith) (omega arith) ∙ simp (f, eight-good q b)
+    decode-rights s (suc h) w (λ z. omega arith) (omega arith) ∙ simp (e, eight-good q b)
 
 -- .. is fed at once.
 pub same-fed : (h w a : ℕ) (s : Sheet) → w ≡ sameOf h (rightAt w 0) → fed (blockWords h) (entrySays h w) a s

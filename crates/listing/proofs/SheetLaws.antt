@@ -10,7 +10,7 @@ use Rattle.listing.specs.Sheets.{Sheet, sheet, putRun, counted, runTo, c
 
 -- Feeding.
 
-feed-leaves : (q a : ℕ) (s : Sheet) → feed q a s .run .right ≡ q
+pub feed-leaves : (q a : ℕ) (s : Sheet) → feed q a s .run .right ≡ q
 unfolding feed
 feed-leaves q a s = go (eqb q (s .run .right)) refl
   where

@@ -2,34 +2,19 @@
 -- below: 0 a leaf, 2 a root.
 use Prim.Native.Nat.{ℕ, _+_, _*_, _/_, _%_, _<_, _≤_}
 use mathlib.Core.Path.{_≡_}
-use mathlib.Core.Bool.{cond}
 use mathlib.Core.List.{List}
-use lib.Dec.{eqb}
 use lib.ListN.{length}
 use Rattle.theory.specs.Pool.{words, Reach, SoundPool, Roots, right}
-use Rattle.words.specs.Rights.{rightAt, eightOf, sixteenOf}
+use Rattle.words.specs.Rights.{rightAt}
 use Rattle.table.specs.declared.Shape.{Shape}
 use Rattle.table.specs.Shape.{Fits, size}
-use Rattle.table.specs.Map.{block, part, parts, index, formOf}
-use Rattle.table.specs.Wants.{wordsIn}
-use Rattle.listing.specs.declared.Level.{Level}
+use Rattle.table.specs.Map.{part, parts, index, formOf}
+use Rattle.table.specs.Wants.{blockWords, sameOf}
 use Rattle.listing.specs.Runs.{memoryWords}
-
--- For how many words an entry stands.
-abbrev pub blockWords : ℕ → ℕ
-blockWords h = block h / 4
 
 -- For how many words a table stands.
 abbrev pub tableWords : ℕ → ℕ
 tableWords h = size h * blockWords h
-
--- The numbers of a height.
-abbrev pub levelOf : ℕ → Level
-levelOf h = record { entries = size h; parts = parts h; step = wordsIn h; block = blockWords h }
-
--- The entry that says one right for its whole block.
-abbrev pub sameOf : ℕ → ℕ → ℕ
-sameOf h q = cond (eqb h 0) (sixteenOf q) (eightOf q)
 
 -- The `n` entries of a height from pool word `k` on say the right `q` for their whole blocks.
 abbrev pub AllSay : List ℕ → ℕ → ℕ → ℕ → ℕ → Type 0

@@ -5,3 +5,4 @@ pub mod Listing
 pub mod Scan
 pub mod Sheets
 pub mod Levels
+pub mod Turns

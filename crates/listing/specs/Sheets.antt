@@ -48,9 +48,13 @@ opened q at s =
     sheet (record { domain = s .run .domain; right = q; first = at; count = s .run .count; from = s .run .from })
     (s .out)
 
+-- At word `at` the right turns to `q`.
+abbrev pub turned : ℕ → ℕ → Sheet → Sheet
+turned q at s = opened q at (closed at s)
+
 -- From word `at` on the right is `q`.
 unfoldable pub feed : ℕ → ℕ → Sheet → Sheet
-feed q at s = cond (eqb q (s .run .right)) s (opened q at (closed at s))
+feed q at s = cond (eqb q (s .run .right)) s (turned q at s)
 
 -- The `n` words from word `a` on have the rights that `f` gives them.
 unfoldable pub fed : ℕ → (ℕ → ℕ) → ℕ → Sheet → Sheet

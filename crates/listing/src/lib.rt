@@ -11,9 +11,13 @@ ghost use Rattle.listing.specs.Runs.{memoryWords};
 ghost use Rattle.listing.specs.Scan.{listingOf};
 ghost use Rattle.listing.specs.Sheets.{putRun, sheet, counted, closed, feed, fed, OpenAt, written, opening};
 ghost use Rattle.listing.specs.Sheets.{countOf};
-ghost use Rattle.listing.specs.Levels.{levelOf, blockWords, tableWords, sameOf, entrySays, entryRight};
+ghost use Rattle.listing.specs.Levels.{tableWords, entrySays, entryRight};
+ghost use Rattle.table.specs.Wants.{blockWords};
 ghost use Rattle.listing.specs.Levels.{tableRight, AllSay, EntryAt, TableAt};
 ghost use Rattle.listing.specs.Listing.{wordRight, Lists};
+
+mod turns; // turns.rt: the rights of a leaf entry, turn by turn
+
 use table::Entry;
 use table::Shape;
 use words::PoolWord;
@@ -38,57 +42,10 @@ pub struct Open {
     pub from: usize,
 }
 
-// Of a height: the entries of a table, the rights of an entry, and the memory words of a right and of an entry.
-pub struct Level {
-    pub entries: u32,
-    pub parts: u32,
-    pub step: u32,
-    pub block: u32,
-}
-
 // How many runs there are in all; or the number of the refusal.
 pub enum Listed {
     Runs(usize),
     Refused(u32),
-}
-
-// The numbers of a height.
-fn level_of(height: u32) -> Level
-    ensures { λ r. ⌜ r ≡ levelOf height ⌝ }
-{
-    if height == 0 {
-        return Level {
-            entries: 64,
-            parts: 16,
-            step: 1,
-            block: 16,
-        };
-    }
-    if height == 1 {
-        return Level {
-            entries: 1024,
-            parts: 8,
-            step: 128,
-            block: 1024,
-        };
-    }
-    Level {
-        entries: 1024,
-        parts: 8,
-        step: 131072,
-        block: 1048576,
-    }
-}
-
-// The entry of a height that says one right for its whole block.
-fn same_entry(height: u32, right: u32) -> u32
-    requires { ⌜ right < 4 ⌝ }
-    ensures { λ r. ⌜ r ≡ sameOf height right ⌝ }
-{
-    if height == 0 {
-        return words::sixteen_of(right);
-    }
-    words::eight_of(right)
 }
 
 // Run number `n`, at its place in the lent words, where it has one. The last byte is reckoned so that no sum reaches
@@ -162,11 +119,11 @@ fn feed_rights(height: u32, w: u32, at: u32, run: Open, runs: &mut [u32]) -> Ope
         at (sheet run (now (runs .entry))) ⌝ }
 {
     let first = words::right_at(w, 0);
-    let same = same_entry(height, first);
+    let same = table::same_entry(height, first);
     if w == same {
         return feed_right(first, at, run, runs);
     }
-    let level = level_of(height);
+    let level = table::level_of(height);
     let parts = level.parts;
     let step = level.step;
     let mut s = run;
@@ -201,7 +158,7 @@ fn feed_leaf(
     while i < 64 {
         let w = pool[start + i as usize];
         let from = at + i * 16;
-        s = feed_rights(0, w, from, s, runs);
+        s = turns::feed_chunk(w, from, s, runs);
         i += 1;
     }
     s
@@ -219,7 +176,7 @@ fn same_ahead(pool: &[u32], height: u32, word: PoolWord, rest: u32, right: u32) 
     if first != right {
         return 0;
     }
-    let same = same_entry(height, first);
+    let same = table::same_entry(height, first);
     if w != same {
         return 0;
     }
@@ -250,7 +207,7 @@ fn feed_table(
         ≡ fed (tableWords height) (tableRight shape (now (pool .entry)) height (base .0))
         at (sheet run (now (runs .entry))) ⌝ }
 {
-    let level = level_of(height);
+    let level = table::level_of(height);
     let entries = level.entries;
     let block = level.block;
     let mut s = run;

@@ -144,7 +144,8 @@ unfolding flushedSlot flushes
 all-empty [] = refl
 all-empty (s ∷ l) = ap (λ (r : List Slot). emptySlot ∷ r) (all-empty l)
 
-pub emptied-words : (ws : List ℕ) → set (bufferWords (flushedBuffer Whole (bufferOf ws))) 256 0 ≡ bufferWords emptyBuffer
+pub emptied-words : (ws : List ℕ) → set (bufferWords (flushedBuffer Whole (bufferOf ws))) 256 0
+    ≡ bufferWords emptyBuffer
 unfolding flushedBuffer emptyBuffer
 emptied-words ws =
     let l = bufferOf ws .slots in
@@ -154,9 +155,10 @@ emptied-words ws =
     ∙ ap (λ (x : List Slot). bufferWords (record { slots = x; next = 0 })) e
 
 -- What a flush leaves in the words `ws`, where it is refused and where it is done.
-pub refused-as : (ws : List ℕ) → IsBuffer ws → (r : Flushed) (n : ℕ) → r ≡ refused n (bufferOf ws) → FlushedAs r n ws
-refused-as ws h r n e = rw e (refl, sym (buffer-words ws h))
+pub flush-refused-as : (ws : List ℕ) → IsBuffer ws → (r : Flushed) (n : ℕ) → r ≡ refused n (bufferOf ws)
+    → FlushedAs r n ws
+flush-refused-as ws h r n e = rw e (refl, sym (buffer-words ws h))
 
-pub done-as : (b : Buffer) (ws : List ℕ) (r : Flushed) (f : Flushing) → r ≡ done f b
+pub flush-done-as : (b : Buffer) (ws : List ℕ) (r : Flushed) (f : Flushing) → r ≡ done f b
     → ws ≡ bufferWords (flushedBuffer f b) → FlushedAs r 0 ws
-done-as b ws r f e q = rw e (refl, q)
+flush-done-as b ws r f e q = rw e (refl, q)

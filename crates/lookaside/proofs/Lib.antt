@@ -8,4 +8,5 @@ pub mod FlushLaws
 pub mod AgreeLaws
 pub mod VerdictLaws
 pub mod AgainLaws
+pub mod SaysLaws
 pub mod Examples

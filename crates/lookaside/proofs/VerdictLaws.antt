@@ -107,11 +107,11 @@ module _ (p : List ℕ) (s : Shape) (x : Places) (d kind size a : ℕ) (z : x d 
           ))
           (lookup-cases p s d a (ok .fits) (ok .domain))
 
-  pub check-says : (b : Buffer) → AgreesBut (s .domains) (rightsOf s p) x b → refusalOf s (length p) (b .next) d kind
+  pub check-verdict : (b : Buffer) → AgreesBut (s .domains) (rightsOf s p) x b → refusalOf s (length p) (b .next) d kind
       size a ≡ 0
       → withoutLoads (checkOf p s b d kind size a .verdict)
       ≡ record { refusal = 0; verdict = cond (passesOf kind (rightsOf s p d a)) 1 0; loads = 0 }
-  check-says b g e =
+  check-verdict b g e =
       let (n, _, q) = check-right b g e in
       ap withoutLoads q ∙ said-verdict kind (rightsOf s p d a) n
 
@@ -121,7 +121,8 @@ module _ (p : List ℕ) (s : Shape) (x : Places) (d kind size a : ℕ) (z : x d 
       ≡ withoutLoads (checkOf p s emptyBuffer d kind size a .verdict)
   unfolding emptyBuffer
   check-as-emptied b g h = elim (ℕ-discrete m 0) [
-    | yes e ↦ check-says b g (same ∙ e) ∙ sym (check-says emptyBuffer (emptied-agrees (s .domains) (rightsOf s p) x) e)
+    | yes e ↦ check-verdict b g (same ∙ e)
+        ∙ sym (check-verdict emptyBuffer (emptied-agrees (s .domains) (rightsOf s p) x) e)
     | no e ↦ ap (λ c. withoutLoads (c .verdict)) (check-refused p s b d kind size a m same e)
         ∙ sym (ap (λ c. withoutLoads (c .verdict)) (check-refused p s emptyBuffer d kind size a m refl e))
   ]

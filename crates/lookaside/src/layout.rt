@@ -12,6 +12,8 @@ ghost use Rattle.lookaside.specs.Check.{filledBy};
 ghost use Rattle.lookaside.specs.Layout.{IsBuffer, slotAt, slotWords, bufferOf, bufferWords};
 use super::Fill;
 use super::Hit;
+use super::NEXT;
+use super::SLOTS;
 use super::Slot;
 use super::slots;
 use words::ByteAddr;
@@ -91,8 +93,8 @@ pub fn fill_next(ws: &mut [u32], todo: Fill)
     let Fill::Put(s) = todo else {
         return;
     };
-    let next = ws[256];
+    let next = ws[NEXT];
     let at = next as usize;
     put_slot(ws, 4 * at, s);
-    ws[256] = (next + 1) % 64;
+    ws[NEXT] = (next + 1) % SLOTS;
 }

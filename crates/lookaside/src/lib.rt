@@ -26,6 +26,9 @@ pub const SLOTS: u32 = 64;
 // The words of a buffer: 64 slots of four, then next.
 pub const BUFFER_WORDS: usize = 257;
 
+// Which word of a buffer is next, its pointer.
+const NEXT: usize = 256;
+
 // One entry that decided a lookup, for a domain and the block of a level (1 root, 2 middle, 3 leaf).
 pub struct Slot {
     pub domain: u32,
@@ -245,7 +248,7 @@ pub fn check(
     ensures { λ r. ⌜ CheckedAs (checkOf (now (pool .entry)) shape (bufferOf (now (buffer .entry))) domain kind size
         (address .0)) r (now (buffer .exit)) ⌝ }
 {
-    let next = buffer[256];
+    let next = buffer[NEXT];
     let hit = layout::find(buffer, domain, address);
     let decided = decide(pool, shape, next, hit, domain, kind, size, address);
     let todo = decided.fill;
@@ -292,7 +295,7 @@ pub fn emptied(buffer: &mut [u32])
 {
     let all = Flushing::Whole;
     flush(buffer, all);
-    buffer[256] = 0;
+    buffer[NEXT] = 0;
 }
 
 // Empties every slot.
@@ -300,7 +303,7 @@ pub fn flush_all(buffer: &mut [u32]) -> u32
     requires { ⌜ IsBuffer (now buffer) ⌝ }
     ensures { λ r. ⌜ FlushedAs (flushedWhole (bufferOf (now (buffer .entry)))) r (now (buffer .exit)) ⌝ }
 {
-    let next = buffer[256];
+    let next = buffer[NEXT];
     if next >= SLOTS {
         return 18;
     }
@@ -313,7 +316,7 @@ pub fn flush_domain(buffer: &mut [u32], domain: u32) -> u32
     requires { ⌜ IsBuffer (now buffer) ⌝ }
     ensures { λ r. ⌜ FlushedAs (flushedDomain (bufferOf (now (buffer .entry))) domain) r (now (buffer .exit)) ⌝ }
 {
-    let next = buffer[256];
+    let next = buffer[NEXT];
     if next >= SLOTS {
         return 18;
     }
@@ -327,7 +330,7 @@ pub fn flush_region(buffer: &mut [u32], domain: u32, start: ByteAddr, length: u3
     ensures { λ r. ⌜ FlushedAs (flushedRegion (bufferOf (now (buffer .entry))) domain (start .0) length) r
         (now (buffer .exit)) ⌝ }
 {
-    let next = buffer[256];
+    let next = buffer[NEXT];
     if next >= SLOTS {
         return 18;
     }

@@ -14,12 +14,12 @@ pub fn block_bytes(level: u32) -> u32
     ensures { λ r. ⌜ r ≡ blockBytes level ⌝ }
 {
     if level < 2 {
-        return 4194304;
+        return table::BLOCK_BYTES;
     }
     if level == 2 {
-        return 4096;
+        return table::PAGE_BYTES;
     }
-    64
+    table::LINE_BYTES
 }
 
 // The first byte of the block of a level that an address lies in.

@@ -4,8 +4,8 @@
 ghost use mathlib.Core.Path.{_≡_};
 ghost use Prim.Native.Nat.{_+_, _*_, _/_, _<_, _≤_};
 ghost use Rattle.table.specs.Shape.{InRange, firstPlace, places, size};
-ghost use Rattle.table.specs.Map.{block, parts, leads};
-ghost use Rattle.table.specs.Wants.{wordsIn, sameOf};
+ghost use Rattle.table.specs.Map.{parts, leads};
+ghost use Rattle.table.specs.Wants.{blockWords, wordsIn, levelOf, sameOf};
 use crate::Shape;
 use words::PoolWord;
 
@@ -49,7 +49,7 @@ pub fn parts_of(height: u32) -> u32
 
 // How many memory words the block of an entry has.
 pub fn block_words(height: u32) -> u32
-    ensures { λ r. ⌜ r ≡ block height / 4 ⌝ }
+    ensures { λ r. ⌜ r ≡ blockWords height ⌝ }
 {
     if height == 0 {
         return LINE_BYTES / 4;
@@ -71,6 +71,30 @@ pub fn part_words(height: u32) -> u32
         return 128;
     }
     131072
+}
+
+// All of these of one height: the entries of a table, the rights of an entry, and the memory words that one of them and
+// that all of them cover.
+pub struct Level {
+    pub entries: u32,
+    pub parts: u32,
+    pub step: u32,
+    pub block: u32,
+}
+
+pub fn level_of(height: u32) -> Level
+    ensures { λ r. ⌜ r ≡ levelOf height ⌝ }
+{
+    let entries = size_of(height);
+    let parts = parts_of(height);
+    let step = part_words(height);
+    let block = block_words(height);
+    Level {
+        entries,
+        parts,
+        step,
+        block,
+    }
 }
 
 // Whether the word `w` leads to a table: no word of a leaf does.

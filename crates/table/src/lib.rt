@@ -28,6 +28,8 @@ pub use geometry::block_words;
 pub use geometry::first_place;
 pub use geometry::leads;
 pub use geometry::part_words;
+pub use geometry::Level;
+pub use geometry::level_of;
 pub use geometry::parts_of;
 pub use geometry::places_of;
 pub use geometry::root_word;

@@ -9,7 +9,7 @@ use Rattle.gates.specs.declared.CallStack.{CallStack}
 use Rattle.gates.specs.Steps.{stepRefusal, fetchOf, gateStep, stepOf}
 use Rattle.gates.specs.Layout.{gatesOf, stackOf}
 use Rattle.gates.proofs.StepLaws.{step-in-order, step-refused, step-by-gate}
-use Rattle.gates.proofs.LayoutLaws.{stack-words, stays-as}
+use Rattle.gates.proofs.LayoutLaws.{stack-words, step-stays-as}
 use Rattle.gates.proofs.fetch_step.Statement.{statement}
 use Rattle.gates.proofs.fetch_step.Tie as tie
 
@@ -24,7 +24,7 @@ returns c =
     let r = c .before .step-refusal in
     let s = c .before .before .before .before .before .before in
     let a = s .args in
-    stays-as (a .stack .now) (s .pre .1) _ _ (rw (r .ensures) (step-refused (a .pool .now) (a .shape)
+    step-stays-as (a .stack .now) (s .pre .1) _ _ (rw (r .ensures) (step-refused (a .pool .now) (a .shape)
     (gatesOf (a .gates .now)) (stackOf (a .stack .now)) (a .address) (a .target)
     (λ e. c .if1 .taken (r .ensures ∙ e))))
 

@@ -9,7 +9,7 @@ use Rattle.gates.specs.declared.Gates.{Gates}
 use Rattle.gates.specs.Gates.{placeOf, placeRefusal, without, removeOf}
 use Rattle.gates.specs.Layout.{gatesOf, gatesWords}
 use Rattle.gates.proofs.GateLaws.{place-in-order, remove-missing, remove-takes-out}
-use Rattle.gates.proofs.LayoutLaws.{refused-as, done-as}
+use Rattle.gates.proofs.LayoutLaws.{set-refused-as, set-done-as}
 use Rattle.gates.proofs.remove_gate.Statement.{statement}
 use Rattle.gates.proofs.remove_gate.Tie as tie
 
@@ -24,7 +24,7 @@ unfolding removeOf
 returns c =
     let r = c .before .place-refusal in
     let s = c .before .before .before .before in
-    refused-as (s .args .gates .now) (s .pre) _ _ (rw (← r .ensures, ne-eqb (r .result) 0 (c .if1 .taken)))
+    set-refused-as (s .args .gates .now) (s .pre) _ _ (rw (← r .ensures, ne-eqb (r .result) 0 (c .if1 .taken)))
 
 -- What the call was given, where nothing is refused of the place.
 module _ (c : tie.Else1) where
@@ -63,7 +63,7 @@ returns-2 c =
     let e = p .before .before in
     let a = start e .args in
     let G = set-of e in
-    done-as _ _ (without G (placeOf G (a .domain) (a .address .0)))
+    set-done-as _ _ (without G (placeOf G (a .domain) (a .address .0)))
     (remove-takes-out (a .domains) G (a .domain) (a .address) (in-order e)
     (rw (p .place-of .ensures) at (t .before .before .if2 .taken)))
     (t .close-up .ensures ∙ ap (λ (k : ℕ). gatesWords (without G k)) (p .place-of .ensures))
@@ -77,7 +77,7 @@ returns-3 c =
     let e = p .before .before in
     let s = start e in
     let a = s .args in
-    refused-as (a .gates .now) (s .pre) _ _ (remove-missing (a .domains) (set-of e) (a .domain) (a .address)
+    set-refused-as (a .gates .now) (s .pre) _ _ (remove-missing (a .domains) (set-of e) (a .domain) (a .address)
     (in-order e) (rw (p .place-of .ensures) at (c .if2 .left)))
 
 pub remove-gate-spec : {M : Type 1} → statement M

@@ -9,7 +9,7 @@ use Rattle.gates.specs.declared.Gates.{Gates}
 use Rattle.gates.specs.Gates.{placeRefusal, stored, setOf}
 use Rattle.gates.specs.Layout.{gatesOf, gatesWords}
 use Rattle.gates.proofs.GateLaws.{new, place-in-order, set-own, set-replaces, set-full, set-adds}
-use Rattle.gates.proofs.LayoutLaws.{refused-as, done-as}
+use Rattle.gates.proofs.LayoutLaws.{set-refused-as, set-done-as}
 use Rattle.gates.proofs.set_gate.Statement.{statement}
 use Rattle.gates.proofs.set_gate.Tie as tie
 
@@ -24,7 +24,7 @@ unfolding setOf
 returns c =
     let r = c .before .place-refusal in
     let s = c .before .before .before .before in
-    refused-as (s .args .gates .now) (s .pre) _ _ (rw (← r .ensures, ne-eqb (r .result) 0 (c .if1 .taken)))
+    set-refused-as (s .args .gates .now) (s .pre) _ _ (rw (← r .ensures, ne-eqb (r .result) 0 (c .if1 .taken)))
 
 -- What the call was given, where nothing is refused of the place.
 module _ (c : tie.Else1) where
@@ -50,7 +50,7 @@ returns-2 c =
     let e = c .before .before in
     let s = start e in
     let a = s .args in
-    refused-as (a .gates .now) (s .pre) _ _ (set-own (a .domains) (set-of e) (a .domain) (a .address) (a .gate)
+    set-refused-as (a .gates .now) (s .pre) _ _ (set-own (a .domains) (set-of e) (a .domain) (a .address) (a .gate)
     (in-order e) (sym (c .before .leads-to .ensures) ∙ c .if2 .taken))
 
 place-of-requires : tie.Need-place-of-requires
@@ -76,7 +76,7 @@ returns-3 c =
     let e = o .before .before in
     let a = start e .args in
     let G = set-of e in
-    done-as _ _ (stored G _ (new (a .domains) G (a .domain) (a .address) (a .gate)) (G .count))
+    set-done-as _ _ (stored G _ (new (a .domains) G (a .domain) (a .address) (a .gate)) (G .count))
     (set-replaces (a .domains) G (a .domain) (a .address) (a .gate) (in-order e)
     (sym (o .before .leads-to .ensures) ∙ o .if2 .left) (rw (p .place-of .ensures) at (t .before .before .if3 .taken)))
     (t .store-gate .ensures ∙ ap (λ (k : ℕ). gatesWords (stored G k
@@ -92,7 +92,7 @@ returns-4 c =
     let e = o .before .before in
     let s = start e in
     let a = s .args in
-    refused-as (a .gates .now) (s .pre) _ _ (set-full (a .domains) (set-of e) (a .domain) (a .address) (a .gate)
+    set-refused-as (a .gates .now) (s .pre) _ _ (set-full (a .domains) (set-of e) (a .domain) (a .address) (a .gate)
     (in-order e) (sym (o .before .leads-to .ensures) ∙ o .if2 .left)
     (rw (p .place-of .ensures) at (c .before .if3 .left)) (c .if4 .taken))
 
@@ -117,7 +117,7 @@ returns-5 c =
     let e = o .before .before in
     let a = start e .args in
     let G = set-of e in
-    done-as _ _ (stored G (G .count) (new (a .domains) G (a .domain) (a .address) (a .gate)) (G .count + 1))
+    set-done-as _ _ (stored G (G .count) (new (a .domains) G (a .domain) (a .address) (a .gate)) (G .count + 1))
     (set-adds (a .domains) G (a .domain) (a .address) (a .gate) (in-order e)
     (sym (o .before .leads-to .ensures) ∙ o .if2 .left) (rw (p .place-of .ensures) at (f .before .if3 .left))
     (f .if4 .left))

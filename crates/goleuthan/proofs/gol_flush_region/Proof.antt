@@ -8,8 +8,8 @@ use Rattle.goleuthan.proofs.gol_flush_region.Statement.{statement}
 use Rattle.goleuthan.proofs.gol_flush_region.Tie as tie
 
 returns : tie.Need-returns
-returns c = let a = c .before .before .args in flush-wrong (λ b. flushedRegion b (a .domain) (a .start) (a .length)) (a .buffer .now)
-    (c .if1 .taken)
+returns c = let a = c .before .before .args in flush-wrong (λ b. flushedRegion b (a .domain) (a .start) (a .length))
+    (a .buffer .now) (c .if1 .taken)
 
 byte-addr-requires : tie.Need-byte-addr-requires
 byte-addr-requires c κs = search needs

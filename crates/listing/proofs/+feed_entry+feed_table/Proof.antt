@@ -26,7 +26,7 @@ use Rattle.listing.proofs.feed_table.Kinds as feed-table-kinds
 use Rattle.listing.proofs.+feed_entry+feed_table.Lts-feed_table as b
 use Rattle.listing.proofs.feed_rights.Reads as feed-rights-reads
 use Rattle.listing.proofs.feed_leaf.Reads as feed-leaf-reads
-use Rattle.listing.proofs.level_of.Reads as level-of-reads
+use Rattle.table.proofs.level_of.Reads as level-of-reads
 use Rattle.listing.proofs.same_ahead.Reads as same-ahead-reads
 use Rattle.table.proofs.decode.Reads as decode-reads
 use Rattle.words.proofs.pool_index.Reads as pool-index-reads

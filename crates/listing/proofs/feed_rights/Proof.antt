@@ -5,7 +5,8 @@ use native.Mathlib.Omega.{arith}
 use borrow.Author.Needs.{needs}
 use lib.ListN.{length}
 use Rattle.words.specs.Rights.{rightAt}
-use Rattle.listing.specs.Levels.{blockWords, sameOf, entrySays}
+use Rattle.table.specs.Wants.{blockWords, sameOf}
+use Rattle.listing.specs.Levels.{entrySays}
 use Rattle.listing.specs.Sheets.{sheet, feed}
 use Rattle.listing.proofs.SheetLaws.{Along, along-start, along-end}
 use Rattle.listing.proofs.LevelLaws.{same-fed, part-few, part-room, whole-block, part-next}

@@ -14,7 +14,8 @@ same-length : tie.Need-same-length
 same-length c = search needs
 
 returns : tie.Need-returns
-returns c = rw (c .before .before .flush .ensures) (emptied-words (c .before .before .before .before .before .args .buffer .now))
+returns c = rw (c .before .before .flush .ensures)
+    (emptied-words (c .before .before .before .before .before .args .buffer .now))
 
 pub emptied-spec : {M : Type 1} → statement M
 emptied-spec = tie.close (tie.spec flush-requires slice-write-buffer same-length returns)

@@ -3,7 +3,7 @@ use mathlib.Core.Path.{sym, _∙_}
 use borrow.Author.Needs.{needs}
 use Rattle.lookaside.specs.Layout.{bufferOf}
 use Rattle.lookaside.proofs.FlushLaws.{pointed-refused, region-refused, region-done}
-use Rattle.lookaside.proofs.LayoutLaws.{refused-as, done-as}
+use Rattle.lookaside.proofs.LayoutLaws.{flush-refused-as, flush-done-as}
 use Rattle.lookaside.proofs.flush_region.Statement.{statement}
 use Rattle.lookaside.proofs.flush_region.Tie as tie
 
@@ -11,7 +11,7 @@ slice-read-next : tie.Need-slice-read-next
 slice-read-next c = search needs
 
 returns : tie.Need-returns
-returns c = let s = c .before .before .before in refused-as (s .args .buffer .now) (s .pre) _ 18
+returns c = let s = c .before .before .before in flush-refused-as (s .args .buffer .now) (s .pre) _ 18
     (pointed-refused _ _ (c .if1 .taken))
 
 round-region-requires : tie.Need-round-region-requires
@@ -31,7 +31,7 @@ returns-2 c =
     let r = c .before .before .before in
     let s = r .before .before .before .before in
     let a = s .args in
-    refused-as (a .buffer .now) (s .pre) _ _ (region-refused (bufferOf (a .buffer .now)) (a .domain) (a .start .0)
+    flush-refused-as (a .buffer .now) (s .pre) _ _ (region-refused (bufferOf (a .buffer .now)) (a .domain) (a .start .0)
     (a .length) (r .before .if1 .left) _ (sym (r .round-region .ensures) ∙ c .before .asked .given .1))
 
 same-length : tie.Need-same-length
@@ -42,7 +42,7 @@ returns-3 c =
     let f = c .before .before in
     let r = f .before .before .before .before .before in
     let a = r .before .before .before .before .args in
-    done-as _ _ _ _ (region-done (bufferOf (a .buffer .now)) (a .domain) (a .start .0) (a .length)
+    flush-done-as _ _ _ _ (region-done (bufferOf (a .buffer .now)) (a .domain) (a .start .0) (a .length)
     (r .before .if1 .left) _ (sym (r .round-region .ensures) ∙ f .before .before .before .asked2 .given .1))
     (f .flush .ensures)
 

@@ -10,6 +10,7 @@ use Rattle.table.specs.Map.{formOf}
 use Rattle.table.proofs.ShapeLaws.{test-fits, fits-test}
 use Rattle.change.specs.Answers.{no-shape, unsound}
 use Rattle.change.proofs.TidyAimLaws.{owners-begin}
+use Rattle.change.proofs.TidiesLaws.{settled-tidies}
 use Rattle.change.proofs.TidyEndLaws.{tidy-ready, tidy-answers}
 use Rattle.change.proofs.tidying.tidy.Statement.{statement}
 use Rattle.change.proofs.tidying.tidy.Tie as tie
@@ -42,16 +43,14 @@ returns-2 : tie.Need-returns-2
 returns-2 c = unsound (fits-at (c .before .before .before .before .before))
     (λ o. true≢false (sym (c .before .before .census .ensures .whole o) ∙ not-true _ (c .if2 .taken)))
 
-slice-aggregate-make-stores : tie.Need-slice-aggregate-make-stores
-slice-aggregate-make-stores c = search needs
+slice-aggregate-settled : tie.Need-slice-aggregate-settled
+slice-aggregate-settled c = search needs
 
-make-stores-requires : tie.Need-make-stores-requires
-make-stores-requires c κs =
-    let e = c .before .before in
-    let fits = fits-at (e .before .before .before .before .before) in (
-      tidy-ready _ _ fits (sound-at e),
-      owners-begin fits
-          (e .before .before .census .ensures .owners (not-false _ (e .if2 .left))),
+settled-requires : tie.Need-settled-requires
+settled-requires c κs =
+    let e = c .before .before in (
+      fits-at (e .before .before .before .before .before),
+      (sound-at e, e .before .before .census .ensures .owners (not-false _ (e .if2 .left))),
     )
 
 same-length-2 : tie.Need-same-length-2
@@ -59,7 +58,28 @@ same-length-2 c = search needs
 
 returns-3 : tie.Need-returns-3
 returns-3 c =
-    let e = c .before .before .before .before .before in
+    let e = c .before .before .before .before in
+    settled-tidies (fits-at (e .before .before .before .before .before))
+    (c .before .settled .ensures .holds (c .if3 .taken))
+
+slice-aggregate-make-stores : tie.Need-slice-aggregate-make-stores
+slice-aggregate-make-stores c = search needs
+
+make-stores-requires : tie.Need-make-stores-requires
+make-stores-requires c κs =
+    let e = c .before .before .before .before .before .before in
+    let fits = fits-at (e .before .before .before .before .before) in (
+      tidy-ready _ _ fits (sound-at e),
+      owners-begin fits
+          (e .before .before .census .ensures .owners (not-false _ (e .if2 .left))),
+    )
+
+same-length-3 : tie.Need-same-length-3
+same-length-3 c = search needs
+
+returns-4 : tie.Need-returns-4
+returns-4 c =
+    let e = c .before .before .before .before .before .before .before .before .before in
     tidy-answers (fits-at (e .before .before .before .before .before)) (sound-at e)
     (c .before .before .make-stores .ensures)
 
@@ -73,7 +93,11 @@ tidy-spec =
     census-requires
     same-length
     returns-2
+    slice-aggregate-settled
+    settled-requires
+    same-length-2
+    returns-3
     slice-aggregate-make-stores
     make-stores-requires
-    same-length-2
-    returns-3)
+    same-length-3
+    returns-4)

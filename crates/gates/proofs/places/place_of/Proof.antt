@@ -12,7 +12,8 @@ use Rattle.gates.proofs.places.place_of.Statement.{statement}
 use Rattle.gates.proofs.places.place_of.Tie as tie
 
 abbrev Inv-loop : tie.InvT-loop
-Inv-loop ws domain address n count i₀ i = (i ≤ getD ws 192 0) × Passed (standsAt domain (address .0)) (gatesOf ws .places) (getD ws 192 0) i
+Inv-loop ws domain address n count i₀ i =
+    (i ≤ getD ws 192 0) × Passed (standsAt domain (address .0)) (gatesOf ws .places) (getD ws 192 0) i
 
 abbrev μ-loop : tie.MeasureT-loop
 μ-loop ws domain address n count i₀ i = getD ws 192 0 - i
@@ -41,7 +42,8 @@ returns c =
     let l = g .before .before in
     let a = l .before .before .before .args in
     let n = gates-said (a .ws .now) in
-    sym (passed-hit (standsAt (a .domain) (a .address .0)) (gatesOf (a .ws .now) .places) (getD (a .ws .now) 192 0) noGate (omega arith)
+    sym (passed-hit (standsAt (a .domain) (a .address .0)) (gatesOf (a .ws .now) .places)
+    (getD (a .ws .now) 192 0) noGate (omega arith)
     (l .loop .i) (omega arith)
     (ap (standsAt (a .domain) (a .address .0)) (gates-at (a .ws .now) (l .loop .i) (omega arith) ∙ sym
     (g .gate-at .ensures)) ∙ sym (c .before .stands-at .ensures) ∙ c .if1 .taken) (l .loop .inv .1))
@@ -59,7 +61,8 @@ loop-again c =
     let a = l .before .before .before .args in
     let n = gates-said (a .ws .now) in (
       omega arith,
-      passed-more (standsAt (a .domain) (a .address .0)) (gatesOf (a .ws .now) .places) (getD (a .ws .now) 192 0) noGate (omega arith)
+      passed-more (standsAt (a .domain) (a .address .0)) (gatesOf (a .ws .now) .places)
+          (getD (a .ws .now) 192 0) noGate (omega arith)
           (l .loop .i) (omega arith)
           (ap (standsAt (a .domain) (a .address .0)) (gates-at (a .ws .now) (l .loop .i) (omega arith) ∙ sym
           (g .gate-at .ensures)) ∙ sym (c .before .stands-at .ensures) ∙ c .if1 .left) (l .loop .inv .1),
@@ -71,7 +74,8 @@ returns-2 c =
     let a = l .before .before .before .args in
     let n = gates-said (a .ws .now) in
     let e : l .loop .i ≡ getD (a .ws .now) 192 0 = omega arith in
-    sym (passed-all (standsAt (a .domain) (a .address .0)) (gatesOf (a .ws .now) .places) (getD (a .ws .now) 192 0) noGate (omega arith)
+    sym (passed-all (standsAt (a .domain) (a .address .0)) (gatesOf (a .ws .now) .places)
+    (getD (a .ws .now) 192 0) noGate (omega arith)
     (rw e at (l .loop .inv .1)))
 
 pub place-of-spec : {M : Type 1} → statement M

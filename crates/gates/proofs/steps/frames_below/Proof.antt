@@ -13,7 +13,8 @@ use Rattle.gates.proofs.steps.frames_below.Statement.{statement}
 use Rattle.gates.proofs.steps.frames_below.Tie as tie
 
 abbrev Inv-loop : tie.InvT-loop
-Inv-loop ws domains n depth i₀ i = (i ≤ getD ws 32 0) × Tested (frameBelow domains) (stackOf ws .frames) (getD ws 32 0) i
+Inv-loop ws domains n depth i₀ i =
+    (i ≤ getD ws 32 0) × Tested (frameBelow domains) (stackOf ws .frames) (getD ws 32 0) i
 
 abbrev μ-loop : tie.MeasureT-loop
 μ-loop ws domains n depth i₀ i = getD ws 32 0 - i
@@ -39,7 +40,8 @@ returns c =
     let l = g .before .before in
     let a = l .before .before .before .args in
     let n = frames-said (a .ws .now) in
-    sym (tested-fails (frameBelow (a .domains)) (stackOf (a .ws .now) .frames) (getD (a .ws .now) 32 0) noFrame (omega arith) (l .loop .i) (omega arith)
+    sym (tested-fails (frameBelow (a .domains)) (stackOf (a .ws .now) .frames)
+    (getD (a .ws .now) 32 0) noFrame (omega arith) (l .loop .i) (omega arith)
     (ap (frameBelow (a .domains)) (frames-at (a .ws .now) (l .loop .i) (omega arith) ∙ sym (g .frame-at .ensures))
     ∙ le-ltb (g .frame-at .result .domain) (a .domains) (c .if1 .taken)) (l .loop .inv .1))
 
@@ -56,7 +58,8 @@ loop-again c =
     let a = l .before .before .before .args in
     let n = frames-said (a .ws .now) in (
       omega arith,
-      tested-more (frameBelow (a .domains)) (stackOf (a .ws .now) .frames) (getD (a .ws .now) 32 0) noFrame (omega arith) (l .loop .i) (omega arith)
+      tested-more (frameBelow (a .domains)) (stackOf (a .ws .now) .frames)
+          (getD (a .ws .now) 32 0) noFrame (omega arith) (l .loop .i) (omega arith)
           (ap (frameBelow (a .domains)) (frames-at (a .ws .now) (l .loop .i) (omega arith) ∙ sym (g .frame-at .ensures))
           ∙ lt-ltb (g .frame-at .result .domain) (a .domains) (c .if1 .left)) (l .loop .inv .1),
     )
@@ -67,7 +70,8 @@ returns-2 c =
     let a = l .before .before .before .args in
     let n = frames-said (a .ws .now) in
     let e : l .loop .i ≡ getD (a .ws .now) 32 0 = omega arith in
-    sym (tested-all (frameBelow (a .domains)) (stackOf (a .ws .now) .frames) (getD (a .ws .now) 32 0) noFrame (omega arith) (rw e at (l .loop .inv .1)))
+    sym (tested-all (frameBelow (a .domains)) (stackOf (a .ws .now) .frames)
+    (getD (a .ws .now) 32 0) noFrame (omega arith) (rw e at (l .loop .inv .1)))
 
 pub frames-below-spec : {M : Type 1} → statement M
 frames-below-spec =

@@ -14,7 +14,8 @@ use Rattle.gates.proofs.steps.gates_below.Statement.{statement}
 use Rattle.gates.proofs.steps.gates_below.Tie as tie
 
 abbrev Inv-loop : tie.InvT-loop
-Inv-loop ws domains n count i₀ i = (i ≤ getD ws 192 0) × Tested (gateBelow domains) (gatesOf ws .places) (getD ws 192 0) i
+Inv-loop ws domains n count i₀ i =
+    (i ≤ getD ws 192 0) × Tested (gateBelow domains) (gatesOf ws .places) (getD ws 192 0) i
 
 abbrev μ-loop : tie.MeasureT-loop
 μ-loop ws domains n count i₀ i = getD ws 192 0 - i
@@ -43,7 +44,8 @@ returns c =
     let l = g .before .before in
     let a = l .before .before .before .args in
     let n = gates-said (a .ws .now) in
-    sym (tested-fails (gateBelow (a .domains)) (gatesOf (a .ws .now) .places) (getD (a .ws .now) 192 0) noGate (omega arith) (l .loop .i) (omega arith)
+    sym (tested-fails (gateBelow (a .domains)) (gatesOf (a .ws .now) .places)
+    (getD (a .ws .now) 192 0) noGate (omega arith) (l .loop .i) (omega arith)
     (ap (gateBelow (a .domains)) (gates-at (a .ws .now) (l .loop .i) (omega arith) ∙ sym (g .gate-at .ensures))
     ∙ sym (c .before .gate-below .ensures) ∙ not-true _ (c .if1 .taken)) (l .loop .inv .1))
 
@@ -60,7 +62,8 @@ loop-again c =
     let a = l .before .before .before .args in
     let n = gates-said (a .ws .now) in (
       omega arith,
-      tested-more (gateBelow (a .domains)) (gatesOf (a .ws .now) .places) (getD (a .ws .now) 192 0) noGate (omega arith) (l .loop .i) (omega arith)
+      tested-more (gateBelow (a .domains)) (gatesOf (a .ws .now) .places)
+          (getD (a .ws .now) 192 0) noGate (omega arith) (l .loop .i) (omega arith)
           (ap (gateBelow (a .domains)) (gates-at (a .ws .now) (l .loop .i) (omega arith) ∙ sym (g .gate-at .ensures))
           ∙ sym (c .before .gate-below .ensures) ∙ not-false _ (c .if1 .left)) (l .loop .inv .1),
     )
@@ -71,7 +74,8 @@ returns-2 c =
     let a = l .before .before .before .args in
     let n = gates-said (a .ws .now) in
     let e : l .loop .i ≡ getD (a .ws .now) 192 0 = omega arith in
-    sym (tested-all (gateBelow (a .domains)) (gatesOf (a .ws .now) .places) (getD (a .ws .now) 192 0) noGate (omega arith) (rw e at (l .loop .inv .1)))
+    sym (tested-all (gateBelow (a .domains)) (gatesOf (a .ws .now) .places)
+    (getD (a .ws .now) 192 0) noGate (omega arith) (rw e at (l .loop .inv .1)))
 
 pub gates-below-spec : {M : Type 1} → statement M
 gates-below-spec =

@@ -6,7 +6,7 @@ use lib.ListN.{getD}
 use Rattle.gates.specs.declared.Frame.{Frame}
 use Rattle.gates.specs.Steps.{top, givenBack}
 use Rattle.gates.specs.Layout.{stackOf}
-use Rattle.gates.proofs.LayoutLaws.{frames-at, stays-as, popped-words}
+use Rattle.gates.proofs.LayoutLaws.{frames-at, step-stays-as, popped-words}
 use borrow.Author.Needs.{needs}
 use Rattle.gates.proofs.steps.give_back.Statement.{statement}
 use Rattle.gates.proofs.steps.give_back.Tie as tie
@@ -18,7 +18,7 @@ returns : tie.Need-returns
 unfolding givenBack
 returns c =
     let s = c .before .before .before in
-    stays-as (s .args .stack .now) (s .pre .0) _ _ (rw (eq-eqb _ 0 (c .if1 .taken)))
+    step-stays-as (s .args .stack .now) (s .pre .0) _ _ (rw (eq-eqb _ 0 (c .if1 .taken)))
 
 sub-left : tie.Need-sub-left
 sub-left c = search needs
@@ -56,7 +56,7 @@ returns-2 c =
     let e = f .before .before in
     let s = e .before .before .before in
     let n = c .before in
-    stays-as (s .args .stack .now) (s .pre .0) _ _ (rw (
+    step-stays-as (s .args .stack .now) (s .pre .0) _ _ (rw (
       ne-eqb _ 0 (e .if1 .left),
       ne-eqb (top (stackOf (s .args .stack .now)) .back .0) (s .args .target .0)
           (λ q. c .if2 .taken (n .before .addr-number .ensures ∙ ap (λ (x : Frame). x .back .0) (sym (is-top f)) ∙ q

@@ -1,7 +1,7 @@
 -- `gates::steps::return_step` meets its contract. Assumes nothing.
 use mathlib.Core.Path.{sym, _∙_}
 use borrow.Author.Tests.{not-true, not-false}
-use Rattle.gates.proofs.LayoutLaws.{stays-as}
+use Rattle.gates.proofs.LayoutLaws.{step-stays-as}
 use borrow.Author.Needs.{needs}
 use Rattle.gates.proofs.steps.return_step.Statement.{statement}
 use Rattle.gates.proofs.steps.return_step.Tie as tie
@@ -19,7 +19,7 @@ returns : tie.Need-returns
 returns c =
     let f = c .before .before in
     let s = f .before .before .before .before in
-    stays-as (s .args .stack .now) (s .pre .0) _ _ (rw (
+    step-stays-as (s .args .stack .now) (s .pre .0) _ _ (rw (
       ← f .fetch .ensures,
       sym (c .before .is-pass .ensures) ∙ not-true _ (c .if1 .taken),
     ))

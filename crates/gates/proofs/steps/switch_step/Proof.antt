@@ -2,7 +2,7 @@
 use mathlib.Core.Path.{refl, sym, _∙_}
 use borrow.Author.Tests.{lt-ltb, le-ltb, not-true, not-false}
 use Rattle.gates.specs.Steps.{maxDepth, switchStep}
-use Rattle.gates.proofs.LayoutLaws.{stays-as}
+use Rattle.gates.proofs.LayoutLaws.{step-stays-as}
 use borrow.Author.Needs.{needs}
 use Rattle.gates.proofs.steps.switch_step.Statement.{statement}
 use Rattle.gates.proofs.steps.switch_step.Tie as tie
@@ -17,7 +17,7 @@ returns : tie.Need-returns
 unfolding switchStep
 returns c =
     let s = c .before .before .before .before .before in
-    stays-as (s .args .stack .now) (s .pre) _ _ (rw (le-ltb _ maxDepth (c .if1 .taken)))
+    step-stays-as (s .args .stack .now) (s .pre) _ _ (rw (le-ltb _ maxDepth (c .if1 .taken)))
 
 fetch-requires : tie.Need-fetch-requires
 fetch-requires c κs = search needs
@@ -30,7 +30,7 @@ unfolding switchStep
 returns-2 c =
     let f = c .before .before in
     let s = f .before .before .before .before .before .before in
-    stays-as (s .args .stack .now) (s .pre) _ _ (rw (
+    step-stays-as (s .args .stack .now) (s .pre) _ _ (rw (
       lt-ltb _ maxDepth (f .before .if1 .left),
       ← f .fetch .ensures,
       sym (c .before .is-pass .ensures) ∙ not-true _ (c .if2 .taken),

@@ -11,7 +11,8 @@ addr-number-requires-2 : tie.Need-addr-number-requires-2
 addr-number-requires-2 c κs = search needs
 
 returns : tie.Need-returns
-returns c = simp (← c .before .addr-number2 .ensures, ← c .before .before .addr-number .ensures, eq-eqb _ _ (c .if1 .taken))
+returns c =
+    simp (← c .before .addr-number2 .ensures, ← c .before .before .addr-number .ensures, eq-eqb _ _ (c .if1 .taken))
 
 addr-number-requires-3 : tie.Need-addr-number-requires-3
 addr-number-requires-3 c κs = search needs

@@ -1,5 +1,5 @@
--- A series of calls on one state is the library's series: the words that a call leaves say the state that the
--- library's call leaves. Assumes nothing.
+-- A series of calls on the words of a buffer is a series on the buffer: the words that a call leaves say the buffer
+-- that the definition leaves. Assumes nothing.
 use Prim.Native.Nat.{ℕ}
 use mathlib.Core.Path.{_≡_, refl, _∙_, ap}
 use mathlib.Core.Bool.{Bool, true, false, cond}
@@ -8,29 +8,20 @@ use lib.Dec.{ltb}
 use lib.ListN.{length, length-set, length-map}
 use Rattle.words.specs.declared.Rounded.{Rounded}
 use Rattle.words.specs.declared.Rounded.the-variants.{Covers, Refused as NoRegion}
-use Rattle.words.specs.declared.ByteAddr.{ByteAddr}
 use Rattle.words.specs.Region.{regionOf}
 use Rattle.table.specs.declared.Shape.{Shape}
 use Rattle.lookaside.specs.declared.Buffer.{Buffer}
 use Rattle.lookaside.specs.declared.Flushed.{Flushed}
 use Rattle.lookaside.specs.declared.Flushing.{Flushing}
-use Rattle.lookaside.specs.Check.{checkOf, filledBy, decideOf}
-use Rattle.lookaside.specs.Flushes.{flushedSlot, flushedBuffer, done, refused, pointed, flushedRounded, flushedWhole}
-use Rattle.lookaside.specs.Flushes.{flushedDomain, flushedRegion}
-use Rattle.gates.specs.declared.CallStack.{CallStack}
-use Rattle.gates.specs.declared.Gates.{Gates}
-use Rattle.gates.specs.declared.Step.{Step}
-use Rattle.gates.specs.Moves.{Moves, stays, calls, returns}
-use Rattle.gates.specs.Steps.{stepOf}
-use Rattle.gates.proofs.StepLaws.{step-moves}
-use Rattle.lookaside.specs.Layout.{bufferOf, bufferWords}
-use Rattle.lookaside.proofs.LayoutLaws.{slots-said, buffer-again}
-use Rattle.gates.specs.Layout.{stackOf, stackWords}
-use Rattle.gates.proofs.LayoutLaws.{frames-said, stack-again}
 use Rattle.lookaside.specs.declared.Fill.{Fill}
 use Rattle.lookaside.specs.declared.Fill.the-variants.{Keep, Put}
 use Rattle.lookaside.specs.Slots.{firstMatch}
+use Rattle.lookaside.specs.Check.{checkOf, filledBy, decideOf}
+use Rattle.lookaside.specs.Flushes.{flushedSlot, flushedBuffer, done, refused, pointed, flushedRounded}
+use Rattle.lookaside.specs.Flushes.{flushedWhole, flushedDomain, flushedRegion}
+use Rattle.lookaside.specs.Layout.{bufferOf, bufferWords}
 use Rattle.lookaside.proofs.CheckLaws.{check-decided}
+use Rattle.lookaside.proofs.LayoutLaws.{slots-said, buffer-again}
 
 -- A check keeps the number of slots.
 after-slots : (b : Buffer) (x : Fill) → length (filledBy b x .slots) ≡ length (b .slots)
@@ -77,14 +68,3 @@ flushed-slots {b} (empties f) = length-map (b .slots) (flushedSlot f)
 
 pub flush-says : (ws : List ℕ) {r : Flushed} → Flushes (bufferOf ws) r → bufferOf (bufferWords (r .buffer)) ≡ r .buffer
 flush-says ws {r} x = buffer-again (r .buffer) (flushed-slots x ∙ slots-said ws)
-
--- A step keeps the number of frames.
-moved-frames : {t : ByteAddr} {k : CallStack} {r : Step} → Moves t k r → length (r .stack .frames) ≡ length (k .frames)
-moved-frames (stays r) = refl
-moved-frames {k = k} (calls e l) = length-set (k .frames) (k .depth) _
-moved-frames (returns l b) = refl
-
-pub step-says : (p : List ℕ) (s : Shape) (G : Gates) (ws : List ℕ) (a t : ByteAddr)
-    → let k = stepOf p s G (stackOf ws) a t .stack in stackOf (stackWords k) ≡ k
-step-says p s G ws a t = stack-again (stepOf p s G (stackOf ws) a t .stack)
-    (moved-frames (step-moves p s G (stackOf ws) a t) ∙ frames-said ws)

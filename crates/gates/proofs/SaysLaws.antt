@@ -1,28 +1,34 @@
--- The words of a gate set that a call leaves say the library's set: no gate of a set that words say, or that a call
--- makes of one, is a switch to 0xFFFFFFFF, which is the one gate without a word. Assumes nothing.
+-- A series of calls on the words of a gate set or of a call stack is a series on the state: the words that a call
+-- leaves say the state that the definition leaves. No gate of a set that words say, or that a call makes of one, is a
+-- switch to 0xFFFFFFFF, which is the one gate without a word. Assumes nothing.
 use Prim.Native.Nat.{ℕ, zero, suc, _+_, _-_, _*_, _≤_, _<_}
 use mathlib.Core.Path.{_≡_, refl, sym, ap, _∙_}
-use mathlib.Core.Logic.{_≢_}
 use mathlib.Core.Bool.{Bool, true, false, cond, not, _&&_}
 use mathlib.Core.List.{List, [], _∷_, _++_}
 use native.Mathlib.Omega.{arith}
-use borrow.Author.Tests.{ltb-true, ltb-false, leb-true, eqb-true, eqb-false, not-false}
+use borrow.Author.Tests.{ltb-true, ltb-false, leb-true, eqb-true, ne-eqb, not-false}
 use lib.Dec.{eqb, ltb, leb}
 use lib.ListN.{length, getD, take, drop, set, length-append, length-drop, length-set}
 use lib.Seq.{length-take-le}
 use Rattle.words.specs.declared.ByteAddr.{ByteAddr}
+use Rattle.table.specs.declared.Shape.{Shape}
 use Rattle.table.specs.Shape.{maxDomains}
-use Rattle.gates.specs.declared.Gate.{Gate}
-use Rattle.gates.specs.declared.Gate.the-variants.{Switch, Return}
-use Rattle.gates.specs.declared.GateAt.{GateAt}
-use Rattle.gates.specs.declared.Gates.{Gates}
-use Rattle.gates.specs.Gates.{maxGates, noGate, placeOf, leadsBelow, leadsTo, placeRefusal, setRefused, setDone}
-use Rattle.gates.specs.Gates.{stored, setAtPlace, setOf, without, removeOf}
 use Rattle.theory.proofs.Logic.{and-both}
-use Rattle.gates.proofs.ListLaws.{none-refuses}
 use Rattle.rows.specs.Rows.{rowsOf}
-use Rattle.gates.specs.Layout.{returnWord, gateSaid, gateAt, gatesOf, gatesWords}
-use Rattle.gates.proofs.LayoutLaws.{gates-said, gates-again}
+use Rattle.gates.specs.declared.Gate.{Gate}
+use Rattle.gates.specs.declared.Gate.the-variants.{Switch, Return}
+use Rattle.gates.specs.declared.GateAt.{GateAt}
+use Rattle.gates.specs.declared.Gates.{Gates}
+use Rattle.gates.specs.declared.CallStack.{CallStack}
+use Rattle.gates.specs.declared.Step.{Step}
+use Rattle.gates.specs.Gates.{maxGates, noGate, placeOf, leadsBelow, leadsTo, placeRefusal, setRefused, setDone}
+use Rattle.gates.specs.Gates.{stored, setAtPlace, setOf, without, removeOf}
+use Rattle.gates.specs.Steps.{stepOf}
+use Rattle.gates.specs.Moves.{Moves, stays, calls, returns}
+use Rattle.gates.specs.Layout.{returnWord, gateSaid, gateAt, gatesOf, gatesWords, stackOf, stackWords}
+use Rattle.gates.proofs.ListLaws.{none-refuses}
+use Rattle.gates.proofs.StepLaws.{step-moves}
+use Rattle.gates.proofs.LayoutLaws.{hasWord, gates-said, gates-again, frames-said, stack-again}
 
 -- Every element of a list is as `P` says.
 module _ {A : Type 0} (P : A → Type 0) where
@@ -59,22 +65,16 @@ module _ {A : Type 0} (P : A → Type 0) where
   all-rows f h zero = tt
   all-rows f h (suc n) = all-append (rowsOf n f) (f n ∷ []) (all-rows f h n) (h n, tt)
 
--- A gate that has a word.
-abbrev pub Real : Gate → Type 0
-Real g = g ≢ Switch returnWord
-
+-- A gate with its place that has words.
 abbrev pub RealAt : GateAt → Type 0
-RealAt g = Real (g .gate)
+RealAt g = hasWord (g .gate) ≡ true
 
-return-real : Real Return
-return-real e = let z : _≡_ {A = ℕ} 0 1 = cc in omega arith
-
-gate-real : (w : ℕ) → Real (gateSaid w)
+gate-real : (w : ℕ) → hasWord (gateSaid w) ≡ true
 gate-real w = go (eqb w returnWord) refl
   where
-    go : (t : Bool) → eqb w returnWord ≡ t → Real (cond t Return (Switch w))
-    go true e q = return-real q
-    go false e q = let z : w ≡ returnWord = cc in eqb-false w returnWord e z
+    go : (t : Bool) → eqb w returnWord ≡ t → hasWord (cond t Return (Switch w)) ≡ true
+    go true e = refl
+    go false e = rw e
 
 -- A set of 64 such gates.
 pub record HasWords (G : Gates) : Type 0 where
@@ -82,7 +82,7 @@ pub record HasWords (G : Gates) : Type 0 where
   pub real : All RealAt (G .places)
 
 pub words-say : (G : Gates) → HasWords G → gatesOf (gatesWords G) ≡ G
-words-say G h = gates-again G (h .long) (λ i l. all-at RealAt (G .places) noGate return-real (h .real) i)
+words-say G h = gates-again G (h .long) (λ i l. all-at RealAt (G .places) noGate refl (h .real) i)
 
 pub read-words : (ws : List ℕ) → HasWords (gatesOf ws)
 read-words ws = record {
@@ -90,13 +90,13 @@ read-words ws = record {
   real = all-rows RealAt (λ i. gateAt ws (3 * i)) (λ i. gate-real (getD ws (3 * i + 2) 0)) 64;
 }
 
-stored-words : (G : Gates) (k : ℕ) (g : GateAt) (n : ℕ) → HasWords G → Real (g .gate) → HasWords (stored G k g n)
-stored-words G k g n h r =
+stored-real : (G : Gates) (k : ℕ) (g : GateAt) (n : ℕ) → HasWords G → RealAt g → HasWords (stored G k g n)
+stored-real G k g n h r =
     record { long = length-set (G .places) k g ∙ h .long; real = all-set RealAt (G .places) k g r (h .real) }
 
-placed-words : (G : Gates) (g : GateAt) → HasWords G → Real (g .gate) → HasWords (setAtPlace G g .gates)
+placed-real : (G : Gates) (g : GateAt) → HasWords G → RealAt g → HasWords (setAtPlace G g .gates)
 unfolding setAtPlace
-placed-words G g h r =
+placed-real G g h r =
     go (leadsTo (g .domain) (g .gate)) (ltb (placeOf G (g .domain) (g .address .0)) (G .count))
     (eqb (G .count) maxGates)
   where
@@ -108,12 +108,17 @@ placed-words G g h r =
         (cond u (setDone (stored G k g (G .count)))
         (cond v (setRefused 12 G) (setDone (stored G (G .count) g (G .count + 1))))) .gates)
     go true u v = h
-    go false true v = stored-words G k g (G .count) h r
+    go false true v = stored-real G k g (G .count) h r
     go false false true = h
-    go false false false = stored-words G (G .count) g (G .count + 1) h r
+    go false false false = stored-real G (G .count) g (G .count + 1) h r
 
 -- What is not refused: at most 64 gates are held, and the gate has a word.
-in-order : (D n d : ℕ) (x : Gate) (a : ℕ) → placeRefusal D n d x a ≡ 0 → (n ≤ 64) × Real x
+below-real : (D : ℕ) (x : Gate) → D ≤ maxDomains → leadsBelow D x ≡ true → hasWord x ≡ true
+below-real D Return small e = refl
+below-real D (Switch d) small e =
+    rw (ne-eqb d returnWord (λ z. let l = ltb-true d D e in omega arith))
+
+in-order : (D n d : ℕ) (x : Gate) (a : ℕ) → placeRefusal D n d x a ≡ 0 → (n ≤ 64) × (hasWord x ≡ true)
 unfolding placeRefusal
 in-order D n d x a e =
     let (p, e1) = none-refuses (not (leb 1 D && leb D maxDomains)) 1 _ (omega arith) e in
@@ -122,23 +127,23 @@ in-order D n d x a e =
     let small = leb-true D maxDomains (and-both (leb 1 D) (leb D maxDomains) (not-false _ p) .1) in
     let below = and-both (ltb d D) (leadsBelow D x) (not-false _ r) .1 in
     let few = ltb-false maxGates n q in
-    (few, λ z. let l = ltb-true returnWord D (sym (ap (leadsBelow D) z) ∙ below) in omega arith)
+    (few, below-real D x small below)
 
-set-words : (D : ℕ) (G : Gates) (d : ℕ) (a : ByteAddr) (x : Gate) → HasWords G → HasWords (setOf D G d a x .gates)
+set-real : (D : ℕ) (G : Gates) (d : ℕ) (a : ByteAddr) (x : Gate) → HasWords G → HasWords (setOf D G d a x .gates)
 unfolding setOf
-set-words D G d a x h = go (eqb n 0) refl
+set-real D G d a x h = go (eqb n 0) refl
   where
     n : ℕ
     n = placeRefusal D (G .count) d x (a .0)
 
     go : (t : Bool) → eqb n 0 ≡ t → HasWords
         (cond t (setAtPlace G (record { domain = d; address = a; gate = x })) (setRefused n G) .gates)
-    go true e = placed-words G (record { domain = d; address = a; gate = x }) h
+    go true e = placed-real G (record { domain = d; address = a; gate = x }) h
         (in-order D (G .count) d x (a .0) (eqb-true n 0 e) .1)
     go false e = h
 
-without-words : (G : Gates) (k : ℕ) → G .count ≤ 64 → k < G .count → HasWords G → HasWords (without G k)
-without-words G k few l h =
+without-real : (G : Gates) (k : ℕ) → G .count ≤ 64 → k < G .count → HasWords G → HasWords (without G k)
+without-real G k few l h =
     let xs = take (G .count) (G .places) in
     let z = all-take RealAt (G .count) (G .places) (h .real) in
     let m = h .long in
@@ -154,9 +159,9 @@ without-words G k few l h =
           (all-drop RealAt (G .count - 1) (G .places) (h .real));
     }
 
-remove-words : (D : ℕ) (G : Gates) (d : ℕ) (a : ByteAddr) → HasWords G → HasWords (removeOf D G d a .gates)
+remove-real : (D : ℕ) (G : Gates) (d : ℕ) (a : ByteAddr) → HasWords G → HasWords (removeOf D G d a .gates)
 unfolding removeOf
-remove-words D G d a h = go (eqb n 0) (ltb k (G .count)) refl refl
+remove-real D G d a h = go (eqb n 0) (ltb k (G .count)) refl refl
   where
     n : ℕ
     n = placeRefusal D (G .count) d Return (a .0)
@@ -166,15 +171,26 @@ remove-words D G d a h = go (eqb n 0) (ltb k (G .count)) refl refl
 
     go : (t u : Bool) → eqb n 0 ≡ t → ltb k (G .count) ≡ u
         → HasWords (cond t (cond u (setDone (without G k)) (setRefused 13 G)) (setRefused n G) .gates)
-    go true true e l = without-words G k (in-order D (G .count) d Return (a .0) (eqb-true n 0 e) .0)
+    go true true e l = without-real G k (in-order D (G .count) d Return (a .0) (eqb-true n 0 e) .0)
         (ltb-true k (G .count) l) h
     go true false e l = h
     go false u e l = h
 
 pub set-says : (D : ℕ) (ws : List ℕ) (d : ℕ) (a : ByteAddr) (x : Gate)
     → let G = setOf D (gatesOf ws) d a x .gates in gatesOf (gatesWords G) ≡ G
-set-says D ws d a x = words-say (setOf D (gatesOf ws) d a x .gates) (set-words D (gatesOf ws) d a x (read-words ws))
+set-says D ws d a x = words-say (setOf D (gatesOf ws) d a x .gates) (set-real D (gatesOf ws) d a x (read-words ws))
 
 pub remove-says : (D : ℕ) (ws : List ℕ) (d : ℕ) (a : ByteAddr) → let G = removeOf D (gatesOf ws) d a .gates in gatesOf
     (gatesWords G) ≡ G
-remove-says D ws d a = words-say (removeOf D (gatesOf ws) d a .gates) (remove-words D (gatesOf ws) d a (read-words ws))
+remove-says D ws d a = words-say (removeOf D (gatesOf ws) d a .gates) (remove-real D (gatesOf ws) d a (read-words ws))
+
+-- A step keeps the number of frames.
+moved-frames : {t : ByteAddr} {k : CallStack} {r : Step} → Moves t k r → length (r .stack .frames) ≡ length (k .frames)
+moved-frames (stays r) = refl
+moved-frames {k = k} (calls e l) = length-set (k .frames) (k .depth) _
+moved-frames (returns l b) = refl
+
+pub step-says : (p : List ℕ) (s : Shape) (G : Gates) (ws : List ℕ) (a t : ByteAddr)
+    → let k = stepOf p s G (stackOf ws) a t .stack in stackOf (stackWords k) ≡ k
+step-says p s G ws a t = stack-again (stepOf p s G (stackOf ws) a t .stack)
+    (moved-frames (step-moves p s G (stackOf ws) a t) ∙ frames-said ws)
