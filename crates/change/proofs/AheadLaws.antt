@@ -1,5 +1,5 @@
 -- Words outside the rows that a plan changes stay as they are.
-use Prim.Native.Nat.{ℕ, _+_, _*_, _-_, _/_, _%_, _<_, _≤_}
+use Prim.Native.Nat.{ℕ, zero, suc, _+_, _*_, _-_, _/_, _%_, _<_, _≤_}
 use mathlib.Core.Path.{_≡_, refl, sym, ap, _∙_}
 use mathlib.Core.Logic.{_≢_, _⊎_, inl, inr, ⊎-elim}
 use mathlib.Core.List.{List}
@@ -10,27 +10,31 @@ use lib.Dec.{eqb, ltb}
 use borrow.Author.Tests.{lt-ltb, le-ltb, eq-eqb, ne-eqb, eqb-true, eqb-false, not-true, not-false}
 use lib.ListN.{length}
 use Rattle.theory.specs.Pool.{words}
-use Rattle.theory.proofs.Logic.{by-cases, and-both}
-use Rattle.words.specs.Rights.{rightAt, eightOf, goodRights}
+use Rattle.theory.proofs.Logic.{by-cases}
+use Rattle.words.specs.Rights.{rightAt, goodRights}
 use Rattle.words.proofs.RightsLaws.{good-range, good-small}
 use Rattle.table.specs.declared.Shape.{Shape}
-use Rattle.table.specs.Shape.{Fits}
-use Rattle.table.specs.Map.{leads, zone}
+use Rattle.table.specs.Shape.{Fits, size}
+use Rattle.table.specs.Map.{block, leads, zone}
+use Rattle.places.specs.Count.{heights}
+use Rattle.places.proofs.HeightLaws.{each-height}
 use Rattle.targets.specs.declared.Paint.{Paint}
+use Rattle.targets.specs.Targets.{virtualOf}
 use Rattle.targets.specs.Steps.{inside}
 use Rattle.targets.proofs.EntryLaws.{leads-high}
 use Rattle.targets.proofs.PaintLaws.{inside-low, inside-high, said-after, after-apart}
 use Rattle.plan.specs.declared.Edge.{Edge}
 use Rattle.plan.specs.declared.Plan.{Plan}
-use Rattle.plan.specs.Plan.{isLead, isNew, InTable, tableOf, rootAfter, pageAfter, paintedLeaf, after}
-use Rattle.plan.specs.Plan.{newWord, PlanFits}
+use Rattle.plan.specs.Plan.{endsOf, edgeOf, InTable, ofTable, ofNew, entryAfter, entryBefore, newWord, PlanFits}
 use Rattle.plan.specs.Goals.{Planned}
 use Rattle.plan.specs.Aims.{Aim}
+use Rattle.plan.proofs.DraftLaws.{words-bytes}
+use Rattle.plan.proofs.AfterLaws.{each-end, after-any, new-in, in-new, new-any}
 use Rattle.change.specs.Runs.{phases, At}
 use Rattle.change.specs.declared.ahead.Span.{Span}
-use Rattle.change.specs.Ahead.{Ahead, Outside, Untouched, RootIdle, MiddleIdle, LeafIdle, NotNew, KeptIdle}
-use Rattle.change.specs.Ahead.{NewIdle, Idle, EntriesBefore, PlainWords}
-use Rattle.change.proofs.TableLaws.{in-within, table-within}
+use Rattle.change.specs.Ahead.{Ahead, Outside, Untouched, EntriesIdle, TableIdle, HighIdle, LowIdle, NotNew}
+use Rattle.change.specs.Ahead.{NewIdle, InLeaf, Idle, EntriesBefore, PlainWords}
+use Rattle.change.proofs.TableLaws.{in-within, of-within, table-within, edges-order}
 use Rattle.change.proofs.StateLaws.{at-pass}
 
 -- What is passed may be known in other words.
@@ -70,185 +74,126 @@ module _ (i f l : ℕ) (fl : f ≤ l) (out : (i < f) ⊎ (l < i)) where
       none true = refl
       none false = refl
 
-pub root-outside : (q : Plan) → PlanFits q → (j : ℕ) → Outside (1024 * q .domain + q .«first_block» .number)
-    (1024 * q .domain + q .«last_block» .number + 1) j
-    → RootIdle q j
-root-outside q r j o e x =
-    let (lo, hi) = in-within (1024 * q .domain) 1024 j e in
-    let i = j - 1024 * q .domain in
-    let out : (i < q .«first_block» .number) ⊎ (q .«last_block» .number < i) = side lo in
-    rw (not-first i _ _ (r .blocks) out, not-last i _ _ (r .blocks) out, not-between i _ _ (r .blocks) out) refl
-  where
-    side : 1024 * q .domain ≤ j → (j - 1024 * q .domain < q .«first_block» .number)
-        ⊎ (q .«last_block» .number < j - 1024 * q .domain)
-    side lo = elim (decLt (j - 1024 * q .domain) (q .«first_block» .number)) [
-      | yes h ↦ inl h
-      | no h ↦ elim (decLt (q .«last_block» .number) (j - 1024 * q .domain)) [
-        | yes g ↦ inr g
-        | no g ↦ absurd
-            (o (omega arith) (omega arith))
+-- An entry that the region does not meet stays as it is.
+module _ (q : Plan) (r : PlanFits q) where
+  -- The first and the last entry of a height that it meets.
+  abbrev met : ℕ → ℕ
+  met h = q .paint .lo / (block h / 4)
+
+  abbrev last-met : ℕ → ℕ
+  last-met h = (q .paint .hi - 1) / (block h / 4)
+
+  leaf-idle : (i x : ℕ) → (i < met 0) ⊎ (last-met 0 < i) → x < 4294967296 → entryAfter q 0 i x ≡ x
+  leaf-idle i x out small =
+      said-after (q .paint) x i (λ a. rightAt x (a / 4 % 16)) (λ b e. refl)
+      ∙ sym (after-apart (q .paint) x (i * 16) small apart)
+    where
+      apart : (j : ℕ) → j < 16 → inside (q .paint) (i * 16 + j) ≡ false
+      apart j b = ⊎-elim (λ e. inside-low (q .paint) (i * 16 + j) (omega arith))
+          (λ e. inside-high (q .paint) (i * 16 + j) (let z = r .region .some in omega arith)) out
+
+  entry-idle : (h i x : ℕ) → h ≤ 2 → (i < met h) ⊎ (last-met h < i) → x < 4294967296 → entryAfter q h i x ≡ x
+  entry-idle zero i x hi out small = leaf-idle i x out small
+  entry-idle (suc h) i x hi out small =
+      let (e, f) = words-bytes (q .paint) (r .region) h hi in
+      let le = edges-order q r h hi in
+      let away : (i < endsOf q h .first .number) ⊎ (endsOf q h .last .number < i) =
+      ⊎-elim (λ z. inl (rw (r .first h hi, e) z)) (λ z. inr (rw (r .last h hi, f) z)) out in
+      rw (not-first i _ _ le away, not-last i _ _ le away, not-between i _ _ le away) refl
+
+  pub entries-outside : (h n t first past j : ℕ) → h ≤ 2 → EntriesBefore (size h) n (met h) first
+      → EntriesBefore (size h) n (last-met h + 1) past
+      → Outside (t + first) (t + past) j → EntriesIdle q h n t j
+  entries-outside h n t first past j hi a b o e x small =
+      let (lo, up) = in-within t (size h) j e in
+      entry-idle h (n + (j - t)) x hi (side lo up) small
+    where
+      side : t ≤ j → j < t + size h → (n + (j - t) < met h) ⊎ (last-met h < n + (j - t))
+      side lo up = elim (decLt (j - t) first) [
+        | yes g ↦ inl (a .before (j - t) g)
+        | no g ↦ elim (decLt (j - t) past) [
+          | yes f ↦ absurd (o (omega arith) (omega arith))
+          | no f ↦ inr (let w = b .after-them (j - t) (omega arith) (omega arith) in omega arith)
+        ]
       ]
-    ]
+
+-- The table of an edge that stays is idle where its entries are.
+pub table-idle : (q : Plan) (h : ℕ) (e : Edge) (j : ℕ) → EntriesIdle q h (size h * e .number) (e .last) j
+    → TableIdle q h e j
+table-idle q h e j f l t x small =
+    ap (λ y. entryAfter q h (size h * e .number + (j - e .last)) y) (was l) ∙ f (of-within h e j t .1) x small
+  where
+    was : leads (suc h) (e .old) ≡ true → entryBefore h e (size h * e .number + (j - e .last)) x ≡ x
+    was l = ap (λ b. cond b x (virtualOf h (e .old) (size h * e .number + (j - e .last)))) l
 
 -- An edge without a table has no words.
-pub no-table : (e : Edge) (n j : ℕ) → 2147483648 ≤ e .last → tableOf e n j ≡ true → ⊥
-no-table e n j h z = false≢true (sym (rw (le-ltb (e .last) 2147483648 h) refl) ∙ z)
-
-pub middle-outside : (q : Plan) → PlanFits q → (e : Edge) (first past j : ℕ) → e .old < 2147483648
-    → EntriesBefore 1024 (1024 * e .number) (q .«first_page» .number) first
-    → EntriesBefore 1024 (1024 * e .number) (q .«last_page» .number + 1) past
-    → Outside (e .last + first) (e .last + past) j → MiddleIdle q e j
-middle-outside q r e first past j h a b o y z x =
-    let (lo, hi) = table-within e 1024 j z in
-    let i = 1024 * e .number + (j - e .last) in
-    let out : (i < q .«first_page» .number) ⊎ (q .«last_page» .number < i) = side lo hi in
-    rw (
-      not-first i _ _ (r .pages) out,
-      not-last i _ _ (r .pages) out,
-      not-between i _ _ (r .pages) out,
-      lt-ltb
-          (e .old) 2147483648 h,
-    ) refl
-  where
-    side : e .last ≤ j → j < e .last + 1024
-        → (1024 * e .number + (j - e .last) < q .«first_page» .number)
-        ⊎ (q .«last_page» .number < 1024 * e .number + (j - e .last))
-    side lo hi = elim (decLt (j - e .last) first) [
-      | yes g ↦ inl (a .before (j - e .last) g)
-      | no g ↦ elim (decLt (j - e .last) past) [
-        | yes f ↦ absurd (o (omega arith) (omega arith))
-        | no f ↦ inr (let w = b .after-them (j - e .last) (omega arith) (omega arith) in omega arith)
-      ]
-    ]
-
--- A leaf entry that the region does not meet stays.
-painted-apart : (p : Paint) (w n : ℕ) → w < 4294967296 → ((j : ℕ) → j < 16 → inside p (n * 16 + j) ≡ false)
-    → paintedLeaf p w n ≡ w
-painted-apart p w n b h = said-after p w n (λ a. rightAt w (a / 4 % 16)) (λ a e. refl)
-    ∙ sym (after-apart p w (n * 16) b h)
-
-pub leaf-outside : (q : Plan) (e : Edge) (first past j : ℕ) → e .old < 2147483648
-    → EntriesBefore 64 (64 * e .number) (q .paint .lo / 16) first
-    → EntriesBefore 64 (64 * e .number) (q .paint .hi / 16 + 1) past
-    → Outside (e .last + first) (e .last + past) j → LeafIdle q e j
-leaf-outside q e first past j h a b o y z x m =
-    let (lo, hi) = table-within e 64 j z in
-    rw (lt-ltb (e .old) 2147483648 h)
-    (painted-apart (q .paint) x (64 * e .number + (j - e .last)) m (apart lo hi))
-  where
-    apart : e .last ≤ j → j < e .last + 64 → (k : ℕ) → k < 16
-        → inside (q .paint) ((64 * e .number + (j - e .last)) * 16 + k) ≡ false
-    apart lo hi k l = elim (decLt (j - e .last) first) [
-      | yes g ↦ inside-low (q .paint) _ (let w = a .before (j - e .last) g in omega arith)
-      | no g ↦ elim (decLt (j - e .last) past) [
-        | yes f ↦ absurd (o (omega arith) (omega arith))
-        | no f ↦ inside-high (q .paint) _
-            (let w = b .after-them (j - e .last) (omega arith) (omega arith) in omega arith)
-      ]
-    ]
-
--- One of four is enough.
-first-of : (a b c d : Bool) → a ≡ true → (a || b || c || d) ≡ true
-first-of true b c d e = refl
-first-of false b c d e = absurd (false≢true e)
-
-second-of : (a b c d : Bool) → b ≡ true → (a || b || c || d) ≡ true
-second-of true b c d e = refl
-second-of false true c d e = refl
-second-of false false c d e = absurd (false≢true e)
-
-third-of : (a b c d : Bool) → c ≡ true → (a || b || c || d) ≡ true
-third-of true b c d e = refl
-third-of false true c d e = refl
-third-of false false true d e = refl
-third-of false false false d e = absurd (false≢true e)
-
-fourth-of : (a b c d : Bool) → d ≡ true → (a || b || c || d) ≡ true
-fourth-of true b c d e = refl
-fourth-of false true c d e = refl
-fourth-of false false true d e = refl
-fourth-of false false false true e = refl
-fourth-of false false false false e = absurd (false≢true e)
-
--- An edge's table that is not one that stays is new.
-table-new : (e : Edge) (n j : ℕ) → tableOf e n j ≡ true → isLead (e .old) ≡ false → (isNew e && InTable (e .last) n j)
-    ≡ true
-table-new e n j z f = let (a, b) = and-both (isLead (e .last)) (InTable (e .last) n j) z in rw (a, b, f) refl
+pub no-table : (h : ℕ) (e : Edge) (j : ℕ) → 2147483648 ≤ e .last → ofTable h e j ≡ true → ⊥
+no-table h e j b z = false≢true (sym (rw (le-ltb (e .last) 2147483648 b) refl) ∙ z)
 
 -- An edge without a table, one whose table stays, and words outside a new table.
-pub new-none : (e : Edge) (n : ℕ) → 2147483648 ≤ e .last → (j : ℕ) → NotNew e n j
-new-none e n h j = rw (le-ltb (e .last) 2147483648 h) refl
+pub new-none : (h : ℕ) (e : Edge) → 2147483648 ≤ e .last → (j : ℕ) → NotNew h e j
+new-none h e b j = rw (le-ltb (e .last) 2147483648 b) refl
 
-pub new-kept : (e : Edge) (n : ℕ) → e .old < 2147483648 → (j : ℕ) → NotNew e n j
-new-kept e n h j = rw (lt-ltb (e .old) 2147483648 h) (none (isLead (e .last)))
+pub new-kept : (h : ℕ) (e : Edge) → e .old < 2147483648 → (j : ℕ) → NotNew h e j
+new-kept h e b j = rw (lt-ltb (e .old) 2147483648 b) (none (leads (suc h) (e .last)))
   where
-    none : (b : Bool) → ((b && false) && InTable (e .last) n j) ≡ false
+    none : (b : Bool) → ((b && false) && InTable (e .last) (size h) j) ≡ false
     none true = refl
     none false = refl
 
-pub new-outside : (e : Edge) (n j : ℕ) → Outside (e .last) (e .last + n) j → NotNew e n j
-new-outside e n j o = by-cases (isNew e && InTable (e .last) n j)
-    (λ t. absurd (let (a, b) = and-both (isNew e) (InTable (e .last) n j) t in let (lo, hi) = in-within (e .last) n j
-    b in o lo hi))
+pub new-outside : (h : ℕ) (e : Edge) (j : ℕ) → Outside (e .last) (e .last + size h) j → NotNew h e j
+new-outside h e j o = by-cases (ofNew h e j)
+    (λ t. absurd (let (lo, up) = table-within h e j (new-in h e j t .0) in o lo up))
     (λ f. f)
 
 module _ (q : Plan) (j : ℕ) where
-  -- A word that is idle in each table that stays is idle among the words that stay in place.
-  pub kept-idle : RootIdle q j → MiddleIdle q (q .«first_block») j → MiddleIdle q (q .«last_block») j
-      → LeafIdle q (q .«first_page») j
-      → LeafIdle q (q .«last_page») j → KeptIdle q j
-  unfolding after newWord
-  kept-idle a b c d e = by-cases (InTable (1024 * q .domain) 1024 j)
-      (λ t. inl (λ x m. rw t (a t x)))
-      (λ f. by-cases (tableOf (q .«first_block») 1024 j)
-      (λ t. by-cases (isLead (q .«first_block» .old))
-      (λ l. inl (λ x m. rw (f, t) (b l t x)))
-      (λ n. inr (first-of _ _ _ _ (table-new (q .«first_block») 1024 j t n))))
-      (λ g. by-cases (tableOf (q .«last_block») 1024 j)
-      (λ t. by-cases (isLead (q .«last_block» .old))
-      (λ l. inl (λ x m. rw (f, g, t) (c l t x)))
-      (λ n. inr (second-of (isNew (q .«first_block») && InTable (q .«first_block» .last) 1024 j) _ _ _
-      (table-new (q .«last_block») 1024 j t n))))
-      (λ h. by-cases (tableOf (q .«first_page») 64 j)
-      (λ t. by-cases (isLead (q .«first_page» .old))
-      (λ l. inl (λ x m. rw (f, g, h, t) (d l t x m)))
-      (λ n. inr (third-of (isNew (q .«first_block») && InTable (q .«first_block» .last) 1024 j)
-      (isNew (q .«last_block») && InTable (q .«last_block» .last) 1024 j) _ _ (table-new (q .«first_page») 64 j t n))))
-      (λ k. by-cases (tableOf (q .«last_page») 64 j)
-      (λ t. by-cases (isLead (q .«last_page» .old))
-      (λ l. inl (λ x m. rw (f, g, h, k, t) (e l t x m)))
-      (λ n. inr (fourth-of (isNew (q .«first_block») && InTable (q .«first_block» .last) 1024 j)
-      (isNew (q .«last_block») && InTable (q .«last_block» .last) 1024 j)
-      (isNew (q .«first_page») && InTable (q .«first_page» .last) 64 j) _
-      (table-new (q .«last_page») 64 j t n))))
-      (λ l. inl (λ x m. rw (f, g, h, k, l) refl))))))
+  -- A word of an edge's table that stays is untouched where the table is idle there; of another, it is new.
+  abbrev Kept : Type 0
+  Kept = Untouched q j ⊎ (newWord q j ≡ true)
 
-  -- A word that is of none of the four is of no new table.
-  pub new-idle : NotNew (q .«first_block») 1024 j → NotNew (q .«last_block») 1024 j → NotNew (q .«first_page») 64 j
-      → NotNew (q .«last_page») 64 j
-      → NewIdle q j
-  unfolding newWord
-  new-idle a b c d = rw (a, b, c, d) refl
+  is-new : (h : ℕ) → h < heights → (b : Bool) → ofNew h (edgeOf q h b) j ≡ true → newWord q j ≡ true
+  is-new h hi b t = new-any q j (λ g gi c u. refl) (λ out. absurd (false≢true (sym (out h hi b) ∙ t)))
 
--- From the word at which a run stands on, the words of its phase are the old ones.
-yet-old : {s : Shape} {A : Aim} {old : List ℕ} {Q : ℕ → ℕ} {kept : ℕ
-    → Bool} {n c i left : ℕ} {x : List ℕ}
-    → At s A old Q kept n c i x left → (j : ℕ) → i ≤ j → phases s old kept j ≡ c → words x j ≡ words old j
-yet-old {s = s} {old = old} {Q = Q} {kept = kept} {c = c} {i = i} a j lo e =
-    a .pool j ∙ ap (λ b. cond b (Q j) (words old j)) off
-  where
-    off : (ltb (phases s old kept j) c || (eqb (phases s old kept j) c && ltb j i)) ≡ false
-    off = rw (le-ltb (phases s old kept j) c (omega arith), eq-eqb (phases s old kept j) c e, le-ltb j i lo) refl
+  -- Where the word is not new, all tables that it is of stay.
+  stays : newWord q j ≡ false → (h : ℕ) → h < heights → (b : Bool) → ofTable h (edgeOf q h b) j ≡ true
+      → leads (suc h) (edgeOf q h b .old) ≡ true
+  stays n h hi b t = by-cases (leads (suc h) (edgeOf q h b .old)) (λ l. l)
+      (λ l. absurd (false≢true (sym n ∙ is-new h hi b (in-new h (edgeOf q h b) j t l))))
+
+  untouched : newWord q j ≡ false → HighIdle q j → LowIdle q j → Untouched q j
+  untouched n (root, high) low x small = after-any q j x x
+      (λ t. ap (λ i. entryAfter q 2 i x) (zero-add (j - 1024 * q .domain)) ∙ root t x small)
+      (λ h hi b t. each-height (λ h. (b : Bool) → TableIdle q h (edgeOf q h b) j) low high h hi b
+      (stays n h hi b t) t x small)
+      (λ r out. refl)
+    where
+      zero-add : (m : ℕ) → m ≡ 0 + m
+      zero-add m = omega arith
+
+  -- In the phase of what is linked.
+  pub kept-idle : HighIdle q j → LowIdle q j → Kept
+  kept-idle high low = by-cases (newWord q j) (λ n. inr n) (λ n. inl (untouched n high low))
+
+  -- In the phase of words that lead the leaves are not looked at.
+  pub given-idle : HighIdle q j → Kept ⊎ InLeaf q j
+  given-idle high = by-cases (ofTable 0 (edgeOf q 0 true) j)
+      (λ t. inr (true, t))
+      (λ f. by-cases (ofTable 0 (edgeOf q 0 false) j)
+      (λ t. inr (false, t))
+      (λ l. inl (kept-idle high (each-end (λ b. TableIdle q 0 (edgeOf q 0 b) j)
+      (λ _ t. absurd (false≢true (sym f ∙ t))) (λ _ t. absurd (false≢true (sym l ∙ t)))))))
+
+  -- A word that is of no edge's new table is of no new table.
+  pub new-idle : ((h : ℕ) → h < heights → (b : Bool) → NotNew h (edgeOf q h b) j) → NewIdle q j
+  new-idle none = new-any q j (λ h hi b t. absurd (false≢true (sym (none h hi b) ∙ t))) (λ out. refl)
 
 -- A run passes over words that are idle in its phase.
 pub at-ahead : {s : Shape} {A : Aim} {q : Plan} {old : List ℕ} {Q : ℕ → ℕ} {kept : ℕ
     → Bool} {n c i k left : ℕ} {x : List ℕ}
-    → Planned s A q old Q kept → ((j : ℕ) → words x j < 4294967296) → i ≤ k
-    → ((j : ℕ) → i ≤ j → j < k → Idle q c j)
+    → Planned s A q old Q kept → i ≤ k → ((j : ℕ) → i ≤ j → j < k → Idle q c j)
     → At s A old Q kept n c i x left
     → At s A old Q kept n c k x left
-at-ahead {s = s} {q = q} {old = old} {Q = Q} {kept = kept} {c = c} {i = i} {k = k} {x = x} p small h idle a =
-    at-pass i k h (λ j lo hi. passes j lo hi (yet-old a j lo)) a
+at-ahead {s = s} {q = q} {old = old} {Q = Q} {kept = kept} {c = c} {i = i} {k = k} p h idle a = at-pass i k h passes a
   where
     other : (j : ℕ) → newWord q j ≡ not (eqb c 2) → j < length old → Q j ≢ words old j → phases s old kept j ≢ c
     other j e l m = by-phase (kept j) (sym (p .new j l m) ∙ e)
@@ -263,21 +208,36 @@ at-ahead {s = s} {q = q} {old = old} {Q = Q} {kept = kept} {c = c} {i = i} {k = 
             one-or-three false w = omega arith
         by-phase false z y = eqb-false c 2 (not-true (eqb c 2) (sym z)) (sym y)
 
-    stays : (j : ℕ) → j < length old → Untouched q j → words x j ≡ words old j → Q j ≡ words old j
-    stays j e z w = sym (p .final j e) ∙ z (words old j) (rw w at (small j))
+    -- No word of a leaf leads.
+    leaf : (j : ℕ) → c ≡ 1 → InLeaf q j → phases s old kept j ≢ c
+    leaf j e (b, t) y = not-one (kept j)
+        (ap (λ z. cond (kept j) (cond (leads z (words old j)) 1 3) 2) (sym (p .lies 0 j (omega arith) b t)) ∙ y ∙ e)
+      where
+        not-one : (b : Bool) → _≡_ {A = ℕ} (cond b 3 2) 1 → ⊥
+        not-one true w = omega arith
+        not-one false w = omega arith
 
-    passes : (j : ℕ) → i ≤ j → j < k → (phases s old kept j ≡ c → words x j ≡ words old j)
-        → (Q j ≡ words old j) ⊎ (phases s old kept j ≢ c)
-    passes j lo hi w = elim (decLt j (length old)) [
-      | yes e ↦ ⊎-elim
-          (λ z. elim (ℕ-discrete (phases s old kept j) c) [ yes g ↦ inl (stays j e z (w g)) | no g ↦ inr g ])
-          (λ z. elim (ℕ-discrete (Q j) (words old j)) [ yes g ↦ inl g | no g ↦ inr (other j z e g) ]) (idle j lo hi)
+    passes : (j : ℕ) → i ≤ j → j < k → (Q j ≡ words old j) ⊎ (phases s old kept j ≢ c)
+    passes j lo hi = elim (decLt j (length old)) [
+      | yes e ↦ ⊎-elim (λ z. inl (sym (p .final j e) ∙ z (words old j) (p .small j)))
+          (⊎-elim
+          (λ z. elim (ℕ-discrete (Q j) (words old j)) [ yes g ↦ inl g | no g ↦ inr (other j z e g) ])
+          (λ (y, z). inr (leaf j y z)))
+          (idle j lo hi)
       | no e ↦ inl (p .goal .beyond j (omega arith))
     ]
 
+-- From the word at which a run stands on, the words of its phase are the old ones.
+yet-old : {s : Shape} {A : Aim} {old : List ℕ} {Q : ℕ → ℕ} {kept : ℕ → Bool} {n c i left : ℕ} {x : List ℕ}
+    → At s A old Q kept n c i x left → (j : ℕ) → i ≤ j → phases s old kept j ≡ c → words x j ≡ words old j
+yet-old {s = s} {old = old} {Q = Q} {kept = kept} {c = c} {i = i} a j lo e =
+    a .pool j ∙ ap (λ b. cond b (Q j) (words old j)) off
+  where
+    off : (ltb (phases s old kept j) c || (eqb (phases s old kept j) c && ltb j i)) ≡ false
+    off = rw (le-ltb (phases s old kept j) c (omega arith), eq-eqb (phases s old kept j) c e, le-ltb j i lo) refl
+
 -- It passes in the first phase over words that are eight rights, since they do not lead.
-pub at-plain : {s : Shape} {A : Aim} {old : List ℕ} {Q : ℕ → ℕ} {kept : ℕ
-    → Bool} {n c i m count left : ℕ} {x : List ℕ}
+pub at-plain : {s : Shape} {A : Aim} {old : List ℕ} {Q : ℕ → ℕ} {kept : ℕ → Bool} {n c i m count left : ℕ} {x : List ℕ}
     → PlainWords x c i count m → At s A old Q kept n c i x left → At s A old Q kept n c (i + m) x left
 at-plain {s = s} {old = old} {kept = kept} {c = c} {i = i} {m = m} {x = x} f a =
     at-pass i (i + m) (omega arith) (λ j lo hi. inr (λ e. later j e (f .plain j lo hi) (yet-old a j lo e))) a

@@ -1,6 +1,6 @@
 -- From a request to its plan, and from the end of the loop to the answer of a change.
 use Prim.Native.Nat.{ℕ, _≤_, _<_}
-use mathlib.Core.Path.{_≡_, sym, subst}
+use mathlib.Core.Path.{_≡_, sym, subst, ap, _∙_}
 use mathlib.Core.Bool.{Bool}
 use mathlib.Core.List.{List}
 use native.Mathlib.Omega.{arith}
@@ -20,10 +20,9 @@ use Rattle.plan.specs.declared.Plan.{Plan}
 use Rattle.plan.specs.declared.Planning.{Planning}
 use Rattle.plan.specs.declared.Planning.the-variants.{Ready as Planned-as, NoRoom}
 use Rattle.plan.specs.Plan.{PlanFits}
-use Rattle.plan.specs.Planning.{Regular}
+use Rattle.plan.specs.Planning.{Regular, firstOf, lastOf}
 use Rattle.plan.specs.Goals.{Planned}
 use Rattle.plan.specs.Edges.{PlanReady, PlansChange}
-use Rattle.plan.proofs.EdgeLaws.{first-below, last-below}
 use Rattle.plan.proofs.PlannedLaws.{planned}
 use Rattle.targets.specs.Paints.{paintOf}
 use Rattle.plan.specs.Aims.{Aim, aimOf, changeAim, aimedAt}
@@ -44,22 +43,18 @@ ready-for p s A q {G} {K} f r pl =
 
 -- A plan that is right at its edges is ready to be carried out.
 pub plan-ready : (p : List ℕ) (s : Shape) (d : ℕ) (paint : Paint) (q : Plan) → Fits s (length p)
-    → Settled (formOf s) (words p) → d < s .domains → Regular paint
+    → Settled (formOf s) (words p) → ((k : ℕ) → words p k < 4294967296) → d < s .domains → Regular paint
     → PlanReady s d paint (words p) q → Ready s (aimOf d paint) (Change q) p
-plan-ready p s d paint q f t bd g r =
+plan-ready p s d paint q f t small bd g r =
     let e = r .edges in
     ready-for p s (aimOf d paint) q f
     (record {
       domain = let z = f .range .domains in let y = e .for-domain in omega arith;
-      right = rw (e .for-paint) (g .right);
-      first-block = rw (e .first-block .number) (first-below paint g 1 (omega arith));
-      last-block = rw (e .last-block .number) (last-below paint g 1 (omega arith));
-      first-page = rw (e .first-page .number) (first-below paint g 0 (omega arith));
-      last-page = rw (e .last-page .number) (last-below paint g 0 (omega arith));
-      blocks = let z = g .some in rw (e .first-block .number, e .last-block .number) (omega arith);
-      pages = let z = g .some in rw (e .first-page .number, e .last-page .number) (omega arith);
+      region = rw (e .for-paint) g;
+      first = λ h hi. e .ends h hi .first .number ∙ ap (firstOf h) (sym (e .for-paint));
+      last = λ h hi. e .ends h hi .last .number ∙ ap (lastOf h) (sym (e .for-paint));
     })
-    (planned s d paint p f t bd g (r .free) (r .placed) q e)
+    (planned s d paint p f t small bd g (r .free) (r .placed) q e)
 
 pub planning-ready : (p : List ℕ) (s : Shape) (d : ℕ) (paint : Paint) (r : Planning) (q : Plan)
     → PlansChange s d paint (words p) r → r ≡ Planned-as q

@@ -25,8 +25,8 @@ use Rattle.table.specs.Map.{formOf, leads, zone}
 use Rattle.table.proofs.FormLaws.{lawful, exact}
 use Rattle.table.proofs.WantLaws.{wanting}
 use Rattle.plan.specs.declared.Plan.{Plan}
-use Rattle.plan.specs.Plan.{isLead, after, newWord, phaseOf}
-use Rattle.plan.specs.Aims.{Aim, aimedAt}
+use Rattle.plan.specs.Plan.{after, newWord, phaseOf}
+use Rattle.plan.specs.Aims.{Aim, aimedAt, Goal}
 use Rattle.change.specs.Cuts.{differing, CutAt, Due}
 use Rattle.change.proofs.CutLaws.{put-cuts}
 use Rattle.plan.specs.Goals.{Planned}
@@ -97,20 +97,9 @@ module _ {s : Shape} {A : Aim} {old : List ℕ} {Q : ℕ → ℕ} {kept : ℕ
     pub at-phase : Q k ≢ words x k → phaseOf s q k (words x k) ≡ ph k
     at-phase m = rw (here-was m, p .new k (rw at-long at h) (λ e. m (e ∙ sym (here-was m)))) (go (kept k))
       where
-        zone-test : (ltb k (firstLeaf s) && isLead (P k))
-            ≡ leads (zone s k) (P k)
-        zone-test = by-cases (ltb k (firstMiddle s))
-            (λ e. rw (
-              e,
-              lt-ltb k (firstLeaf s)
-                  (let z = ltb-true k (firstMiddle s) e in omega arith),
-            ) refl)
-            (λ e. rw e (by-cases (ltb k (firstLeaf s)) (λ f. rw f refl) (λ f. rw f refl)))
-
-        go : (b : Bool) → _≡_ {A = ℕ} (cond (not b) 2
-            (cond (ltb k (firstLeaf s) && isLead (P k)) 1 3))
+        go : (b : Bool) → _≡_ {A = ℕ} (cond (not b) 2 (cond (leads (zone s k) (P k)) 1 3))
             (cond b (cond (leads (zone s k) (P k)) 1 3) 2)
-        go true = rw zone-test refl
+        go true = refl
         go false = refl
 
 -- From word to word.

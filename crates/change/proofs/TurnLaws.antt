@@ -47,6 +47,5 @@ module _ (s : Shape) (q : Plan) (c k : ℕ) (x : List ℕ) (u : Run s (Change q)
   row-turn e = let z : k ≡ length (u .old) = e ∙ at-long a in at-turn c (rw z at a)
 
   -- Between the rows there is nothing to do.
-  pub row-ahead : (i : ℕ) → ((j : ℕ) → words x j < 4294967296) → k ≤ i → ((j : ℕ) → k ≤ j → j < i → Idle q c j)
-      → Stands s (Change q) u c i x
-  row-ahead i small h idle = at-ahead (u .meant) small h idle a
+  pub row-ahead : (i : ℕ) → k ≤ i → ((j : ℕ) → k ≤ j → j < i → Idle q c j) → Stands s (Change q) u c i x
+  row-ahead i h idle = at-ahead (u .meant) h idle a

@@ -2,11 +2,11 @@
 ghost use Prim.Native.Nat.{ℕ, _+_, _<_, _≤_};
 ghost use mathlib.Core.Path.{_≡_};
 ghost use lib.ListN.{length};
+ghost use Rattle.places.specs.Count.{heights, blocks};
 ghost use Rattle.plan.specs.Plan.{PlanFits};
 ghost use Rattle.change.specs.Runs.{Looks, NextIs, NextIn};
-ghost use Rattle.change.specs.Ahead.{Ahead, Outside, NotNew, RootIdle, MiddleIdle, LeafIdle, KeptIdle, NewIdle};
-ghost use Rattle.change.specs.Ahead.{Idle, EntriesBefore, PlainWords};
-ghost use Rattle.change.specs.Ahead.{NextRow};
+ghost use Rattle.change.specs.Ahead.{Ahead, Outside, EntriesIdle, TableIdle, NotNew, HighIdle, LowIdle, NewIdle};
+ghost use Rattle.change.specs.Ahead.{Idle, EntriesBefore, NextRow, PlainWords};
 use crate::Cursor;
 use crate::Next;
 use crate::Work;
@@ -14,7 +14,10 @@ use crate::final_word;
 use crate::phase_of;
 use plan::Edge;
 use plan::Plan;
+use table::BIT_31;
+use table::ROOT;
 use table::Shape;
+use table::TABLE_WORDS;
 use words::PoolWord;
 
 // The words from `from` up to `past`.
@@ -48,105 +51,104 @@ fn nearer(k: PoolWord, start: PoolWord, past: PoolWord, best: Span) -> Span
     Span { from: start, past }
 }
 
-// The blocks that the region meets.
-fn near_root(plan: Plan, k: PoolWord, best: Span) -> Span
-    requires { ⌜ PlanFits plan × (k .0 ≤ best .from .0) ⌝ }
-    ensures { λ r. ⌜ Ahead (k .0) best (RootIdle plan) r ⌝ }
-{
-    let first = plan.first_block;
-    let last = plan.last_block;
-    let root = words::pool_word(1024 * plan.domain);
-    let start = words::word_after(root, first.number as usize);
-    let past = words::word_after(root, last.number as usize + 1);
-    nearer(k, start, past, best)
-}
-
-// How many of the `count` blocks from number `begin` on, whose entries a table has, come before block `n`.
-fn entries_before(count: u32, begin: u32, n: u32) -> u32
-    ensures { λ r. ⌜ EntriesBefore count begin n r ⌝ }
+// How many of the `size` entries from the one numbered `begin` on come before entry `n`.
+fn entries_before(size: u32, begin: u32, n: u32) -> u32
+    ensures { λ r. ⌜ EntriesBefore size begin n r ⌝ }
 {
     if n <= begin {
         return 0;
     }
     let k = n - begin;
-    if k < count { k } else { count }
+    if k < size { k } else { size }
 }
 
-// Of a middle table that stays, the pages that the region meets.
-fn near_middle(plan: Plan, block: Edge, k: PoolWord, best: Span) -> Span
-    requires { ⌜ PlanFits plan × (block .number < 1024) × (k .0 ≤ best .from .0) ⌝ }
-    ensures { λ r. ⌜ Ahead (k .0) best (MiddleIdle plan block) r ⌝ }
+// Of a table that stays, whose first entry has the number `begin` in the domain, the entries that the region meets.
+fn near_entries(
+    plan: Plan,
+    height: u32,
+    begin: u32,
+    table: PoolWord,
+    k: PoolWord,
+    best: Span,
+) -> Span
+    requires { ⌜ PlanFits plan × (k .0 ≤ best .from .0) ⌝ }
+    requires { ⌜ (height ≤ 2) × (table .0 < 2147483648) ⌝ }
+    ensures { λ r. ⌜ Ahead (k .0) best (EntriesIdle plan height begin (table .0)) r ⌝ }
 {
-    let last = block.last;
-    let old = block.old;
-    if last >= 0x8000_0000 {
-        return best;
-    }
-    if old >= 0x8000_0000 {
-        return best;
-    }
-    let first_page = plan.first_page;
-    let last_page = plan.last_page;
-    let begin = 1024 * block.number;
-    let first = entries_before(1024, begin, first_page.number);
-    let past = entries_before(1024, begin, last_page.number + 1);
-    let table = words::pool_word(last);
-    let start = words::word_after(table, first as usize);
-    let end = words::word_after(table, past as usize);
-    nearer(k, start, end, best)
-}
-
-// Of a leaf that stays, the entries of 64 bytes that the region meets.
-fn near_leaf(plan: Plan, page: Edge, k: PoolWord, best: Span) -> Span
-    requires { ⌜ (page .number < 1048576) × (k .0 ≤ best .from .0) ⌝ }
-    ensures { λ r. ⌜ Ahead (k .0) best (LeafIdle plan page) r ⌝ }
-{
-    let last = page.last;
-    let old = page.old;
-    if last >= 0x8000_0000 {
-        return best;
-    }
-    if old >= 0x8000_0000 {
-        return best;
-    }
     let paint = plan.paint;
-    let begin = 64 * page.number;
-    let first = entries_before(64, begin, paint.lo / 16);
-    let past = entries_before(64, begin, paint.hi / 16 + 1);
-    let table = words::pool_word(last);
+    let lo = paint.lo;
+    let hi = paint.hi;
+    let size = table::size_of(height);
+    let long = table::block_words(height);
+    let met = lo / long;
+    let last = (hi - 1) / long;
+    let first = entries_before(size, begin, met);
+    let past = entries_before(size, begin, last + 1);
     let start = words::word_after(table, first as usize);
     let end = words::word_after(table, past as usize);
     nearer(k, start, end, best)
 }
 
-// A new table of `n` words.
-fn near_new(edge: Edge, n: usize, k: PoolWord, best: Span) -> Span
-    requires { ⌜ (k .0 ≤ best .from .0) × (n ≤ 1024) ⌝ }
-    ensures { λ r. ⌜ Ahead (k .0) best (NotNew edge n) r ⌝ }
+// Of the table of an edge, if it stays.
+fn near_table(plan: Plan, height: u32, edge: Edge, k: PoolWord, best: Span) -> Span
+    requires { ⌜ PlanFits plan × (k .0 ≤ best .from .0) ⌝ }
+    requires { ⌜ (height < heights) × (edge .number < blocks height) ⌝ }
+    ensures { λ r. ⌜ Ahead (k .0) best (TableIdle plan height edge) r ⌝ }
+{
+    let number = edge.number;
+    let last = edge.last;
+    let old = edge.old;
+    if last >= BIT_31 {
+        return best;
+    }
+    if old >= BIT_31 {
+        return best;
+    }
+    let size = table::size_of(height);
+    let begin = size * number;
+    let begins = words::pool_word(last);
+    near_entries(plan, height, begin, begins, k, best)
+}
+
+// A new table of a height.
+fn near_new(height: u32, edge: Edge, k: PoolWord, best: Span) -> Span
+    requires { ⌜ k .0 ≤ best .from .0 ⌝ }
+    ensures { λ r. ⌜ Ahead (k .0) best (NotNew height edge) r ⌝ }
 {
     let last = edge.last;
     let old = edge.old;
-    if last >= 0x8000_0000 {
+    if last >= BIT_31 {
         return best;
     }
-    if old < 0x8000_0000 {
+    if old < BIT_31 {
         return best;
     }
-    let table = words::pool_word(last);
-    let end = words::word_after(table, n);
-    nearer(k, table, end, best)
+    let size = table::size_of(height);
+    let begins = words::pool_word(last);
+    let end = words::word_after(begins, size as usize);
+    nearer(k, begins, end, best)
 }
 
-// The first row from `k` on, and before `best`, of the tables that stay.
-fn next_kept(plan: Plan, k: PoolWord, best: Span) -> Span
+// The first row from `k` on, and before `best`, of the root and the middle tables that stay.
+fn next_high(plan: Plan, k: PoolWord, best: Span) -> Span
     requires { ⌜ PlanFits plan × (k .0 ≤ best .from .0) ⌝ }
-    ensures { λ r. ⌜ Ahead (k .0) best (KeptIdle plan) r ⌝ }
+    ensures { λ r. ⌜ Ahead (k .0) best (HighIdle plan) r ⌝ }
 {
-    let one = near_root(plan, k, best);
-    let two = near_middle(plan, plan.first_block, k, one);
-    let three = near_middle(plan, plan.last_block, k, two);
-    let four = near_leaf(plan, plan.first_page, k, three);
-    near_leaf(plan, plan.last_page, k, four)
+    let blocks = plan.blocks;
+    let root = words::pool_word(TABLE_WORDS * plan.domain);
+    let one = near_entries(plan, ROOT, 0, root, k, best);
+    let two = near_table(plan, 1, blocks.first, k, one);
+    near_table(plan, 1, blocks.last, k, two)
+}
+
+// The same of the leaves that stay.
+fn next_low(plan: Plan, k: PoolWord, best: Span) -> Span
+    requires { ⌜ PlanFits plan × (k .0 ≤ best .from .0) ⌝ }
+    ensures { λ r. ⌜ Ahead (k .0) best (LowIdle plan) r ⌝ }
+{
+    let pages = plan.pages;
+    let one = near_table(plan, 0, pages.first, k, best);
+    near_table(plan, 0, pages.last, k, one)
 }
 
 // The same of the new tables.
@@ -154,13 +156,16 @@ fn next_new(plan: Plan, k: PoolWord, best: Span) -> Span
     requires { ⌜ k .0 ≤ best .from .0 ⌝ }
     ensures { λ r. ⌜ Ahead (k .0) best (NewIdle plan) r ⌝ }
 {
-    let one = near_new(plan.first_block, 1024, k, best);
-    let two = near_new(plan.last_block, 1024, k, one);
-    let three = near_new(plan.first_page, 64, k, two);
-    near_new(plan.last_page, 64, k, three)
+    let blocks = plan.blocks;
+    let pages = plan.pages;
+    let one = near_new(1, blocks.first, k, best);
+    let two = near_new(1, blocks.last, k, one);
+    let three = near_new(0, pages.first, k, two);
+    near_new(0, pages.last, k, three)
 }
 
-// By the phase: new tables are filled in the second.
+// By the phase: in the first only words that lead are given up, and no word of a leaf leads; new tables are filled in
+// the second.
 fn next_in(plan: Plan, c: u32, k: PoolWord, none: Span) -> Span
     requires { ⌜ PlanFits plan × (k .0 ≤ none .from .0) ⌝ }
     ensures { λ r. ⌜ Ahead (k .0) none (Idle plan c) r ⌝ }
@@ -168,7 +173,11 @@ fn next_in(plan: Plan, c: u32, k: PoolWord, none: Span) -> Span
     if c == 2 {
         return next_new(plan, k, none);
     }
-    next_kept(plan, k, none)
+    let high = next_high(plan, k, none);
+    if c == 1 {
+        return high;
+    }
+    next_low(plan, k, high)
 }
 
 // The row after the cursor's that has something to do; past the last word, which `end` follows, the next phase begins.

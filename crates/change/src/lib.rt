@@ -1,12 +1,13 @@
 // Changes and tidyings: a plan by value, stores that each leave a safe pool, and a cut wherever the allowance ends.
 ghost use mathlib.Core.Path.{_≡_};
-ghost use Prim.Native.Nat.{ℕ, _+_, _*_, _-_, _/_, _<_, _≤_};
+ghost use Prim.Native.Nat.{ℕ, _+_, _-_, _<_, _≤_};
 ghost use mathlib.Core.List.{List};
-ghost use mathlib.Core.Bool.{cond, _&&_};
-ghost use Rattle.words.specs.Rights.{rightAt, eightOf};
+ghost use mathlib.Core.Bool.{true};
 ghost use lib.ListN.{length, set};
 ghost use Rattle.table.specs.Shape.{Fits, InRange};
-ghost use Rattle.plan.specs.Plan.{isLead, InTable, tableOf, isNew, rootAfter, pageAfter, leafAfter, after, newWord};
+ghost use Rattle.places.specs.Count.{heights, blocks};
+ghost use Rattle.targets.specs.Targets.{entryBlocks};
+ghost use Rattle.plan.specs.Plan.{InTable, ofTable, ofNew, entryAfter, entryBefore, tableAfter, after, newAt, newWord};
 ghost use Rattle.plan.specs.Plan.{phaseOf, PlanFits};
 ghost use Rattle.plan.specs.Planning.{Regular};
 ghost use Rattle.plan.specs.Aims.{aimOf};
@@ -17,7 +18,10 @@ ghost use Rattle.change.specs.Runs.{Looks, NextIs, Ready, Told, Ends};
 use plan::Edge;
 use plan::Plan;
 use plan::Planning;
+use table::BIT_31;
+use table::ROOT;
 use table::Shape;
+use table::TABLE_WORDS;
 use targets::Paint;
 use words::ByteAddr;
 use words::PoolWord;
@@ -90,106 +94,72 @@ fn entry_number(t: PoolWord, k: PoolWord) -> u32
     (i - first) as u32
 }
 
-// Whether word `k` is of the table to which the edge's new entry leads.
-fn of_table(edge: Edge, n: usize, k: PoolWord) -> bool
-    requires { ⌜ n ≤ 1024 ⌝ }
-    ensures { λ r. ⌜ r ≡ tableOf edge n (k .0) ⌝ }
+// Whether word `k` is of the table of a height to which the edge's new entry leads.
+fn of_table(height: u32, edge: Edge, k: PoolWord) -> bool
+    ensures { λ r. ⌜ r ≡ ofTable height edge (k .0) ⌝ }
 {
     let last = edge.last;
-    if last >= 0x8000_0000 {
+    if last >= BIT_31 {
         return false;
     }
-    let table = words::pool_word(last);
-    in_table(table, n, k)
+    let begin = words::pool_word(last);
+    let size = table::size_of(height);
+    in_table(begin, size as usize, k)
 }
 
-// Which word of the table to which the edge's new entry leads word `k` is.
-fn table_entry(edge: Edge, k: PoolWord) -> u32
-    requires { ⌜ (edge .last ≤ k .0) × (k .0 < edge .last + 1024) ⌝ }
-    ensures { λ r. ⌜ r ≡ k .0 - edge .last ⌝ }
+// What the entry of a height is to hold that has the number `n` in the domain, where it was `x`.
+fn entry_after(plan: Plan, height: u32, n: u32, x: u32) -> u32
+    requires { ⌜ (plan .paint .right < 4) × (n < entryBlocks height) ⌝ }
+    ensures { λ r. ⌜ r ≡ entryAfter plan height n x ⌝ }
 {
-    let table = words::pool_word(edge.last);
-    entry_number(table, k)
-}
-
-// What the root word of block `i` of the domain is to hold.
-fn root_after(plan: Plan, i: u32, x: u32) -> u32
-    requires { ⌜ plan .paint .right < 4 ⌝ }
-    ensures { λ r. ⌜ r ≡ rootAfter plan i x ⌝ }
-{
-    let first = plan.first_block;
-    let last = plan.last_block;
     let paint = plan.paint;
+    if height == 0 {
+        return targets::paint_word(paint, x, n);
+    }
+    let ends = plan::ends_of(plan, height - 1);
+    let first = ends.first;
+    let last = ends.last;
     let f = first.number;
     let l = last.number;
-    if i == f {
+    if n == f {
         return first.last;
     }
-    if i == l {
+    if n == l {
         return last.last;
     }
-    if i < f {
+    if n < f {
         return x;
     }
-    if i < l {
+    if n < l {
         return words::eight_of(paint.right);
     }
     x
 }
 
-// What word `j` of the middle table of the edge `block` is to hold.
-fn page_after(plan: Plan, block: Edge, j: u32, x: u32) -> u32
-    requires { ⌜ (plan .paint .right < 4) × (block .number < 1024) × (j < 1024) ⌝ }
-    ensures { λ r. ⌜ r ≡ pageAfter plan block j x ⌝ }
+// The entry that stood there before: the word of the table that the edge had, or what the edge's entry said.
+fn entry_before(height: u32, edge: Edge, n: u32, x: u32) -> u32
+    ensures { λ r. ⌜ r ≡ entryBefore height edge n x ⌝ }
 {
-    let first = plan.first_page;
-    let last = plan.last_page;
-    let paint = plan.paint;
-    let f = first.number;
-    let l = last.number;
-    let page = 1024 * block.number + j;
-    if page == f {
-        return first.last;
-    }
-    if page == l {
-        return last.last;
-    }
-    if page < f {
-        return entry_kept(block, j, x);
-    }
-    if page < l {
-        return words::eight_of(paint.right);
-    }
-    entry_kept(block, j, x)
-}
-
-// The entry of a page that the region does not meet: as it is, or what its block's entry said of it.
-fn entry_kept(block: Edge, j: u32, x: u32) -> u32
-    requires { ⌜ j < 1024 ⌝ }
-    ensures { λ r. ⌜ r ≡ cond (isLead (block .old)) x (eightOf (rightAt (block .old) (j / 128))) ⌝ }
-{
-    let old = block.old;
-    if old < 0x8000_0000 {
+    let old = edge.old;
+    if old < BIT_31 {
         return x;
     }
-    let right = words::right_at(old, j / 128);
-    words::eight_of(right)
+    targets::virtual_entry(height, old, n)
 }
 
-// What word `i` of the leaf of the edge `page` is to hold.
-fn leaf_after(plan: Plan, page: Edge, i: u32, x: u32) -> u32
-    requires { ⌜ (plan .paint .right < 4) × (page .number < 1048576) × (i < 64) ⌝ }
-    ensures { λ r. ⌜ r ≡ leafAfter plan page i x ⌝ }
+// What word `k` of the table of an edge is to hold.
+fn table_after(plan: Plan, height: u32, edge: Edge, k: PoolWord, x: u32) -> u32
+    requires { ⌜ (plan .paint .right < 4) × (height < heights) ⌝ }
+    requires { ⌜ (edge .number < blocks height) × (ofTable height edge (k .0) ≡ true) ⌝ }
+    ensures { λ r. ⌜ r ≡ tableAfter plan height edge (k .0 - edge .last) x ⌝ }
 {
-    let old = page.old;
-    let paint = plan.paint;
-    let chunk = 64 * page.number + i;
-    if old < 0x8000_0000 {
-        return targets::paint_word(paint, x, chunk);
-    }
-    let right = words::right_at(old, i / 8);
-    let said = words::sixteen_of(right);
-    targets::paint_word(paint, said, chunk)
+    let number = edge.number;
+    let begin = words::pool_word(edge.last);
+    let j = entry_number(begin, k);
+    let size = table::size_of(height);
+    let n = size * number + j;
+    let was = entry_before(height, edge, n, x);
+    entry_after(plan, height, n, was)
 }
 
 // What word `k`, which holds `x`, is to hold. A word that the plan does not know stays as it is.
@@ -197,63 +167,68 @@ fn final_word(plan: Plan, k: PoolWord, x: u32) -> u32
     requires { ⌜ PlanFits plan ⌝ }
     ensures { λ r. ⌜ r ≡ after plan (k .0) x ⌝ }
 {
-    let root = words::pool_word(1024 * plan.domain);
-    if in_table(root, 1024, k) {
-        return root_after(plan, entry_number(root, k), x);
+    let root = words::pool_word(TABLE_WORDS * plan.domain);
+    if in_table(root, TABLE_WORDS as usize, k) {
+        return entry_after(plan, ROOT, entry_number(root, k), x);
     }
-    let block = plan.first_block;
-    if of_table(block, 1024, k) {
-        return page_after(plan, block, table_entry(block, k), x);
+    let blocks = plan.blocks;
+    let block = blocks.first;
+    if of_table(1, block, k) {
+        return table_after(plan, 1, block, k, x);
     }
-    let block2 = plan.last_block;
-    if of_table(block2, 1024, k) {
-        return page_after(plan, block2, table_entry(block2, k), x);
+    let block2 = blocks.last;
+    if of_table(1, block2, k) {
+        return table_after(plan, 1, block2, k, x);
     }
-    let page = plan.first_page;
-    if of_table(page, 64, k) {
-        return leaf_after(plan, page, table_entry(page, k), x);
+    let pages = plan.pages;
+    let page = pages.first;
+    if of_table(0, page, k) {
+        return table_after(plan, 0, page, k, x);
     }
-    let page2 = plan.last_page;
-    if of_table(page2, 64, k) {
-        return leaf_after(plan, page2, table_entry(page2, k), x);
+    let page2 = pages.last;
+    if of_table(0, page2, k) {
+        return table_after(plan, 0, page2, k, x);
     }
     x
 }
 
 // Whether word `k` is of the table of an edge that had none.
-fn of_new_table(edge: Edge, n: usize, k: PoolWord) -> bool
-    requires { ⌜ n ≤ 1024 ⌝ }
-    ensures { λ r. ⌜ r ≡ (isNew edge && InTable (edge .last) n (k .0)) ⌝ }
+fn of_new_table(height: u32, edge: Edge, k: PoolWord) -> bool
+    ensures { λ r. ⌜ r ≡ ofNew height edge (k .0) ⌝ }
 {
     let old = edge.old;
     let last = edge.last;
-    if last >= 0x8000_0000 {
+    if last >= BIT_31 {
         return false;
     }
-    if old < 0x8000_0000 {
+    if old < BIT_31 {
         return false;
     }
-    let table = words::pool_word(last);
-    in_table(table, n, k)
+    let begin = words::pool_word(last);
+    let size = table::size_of(height);
+    in_table(begin, size as usize, k)
+}
+
+// Whether word `k` is of a new table of a height.
+fn new_at(plan: Plan, height: u32, k: PoolWord) -> bool
+    ensures { λ r. ⌜ r ≡ newAt plan height (k .0) ⌝ }
+{
+    let ends = plan::ends_of(plan, height);
+    let first = ends.first;
+    let last = ends.last;
+    if of_new_table(height, first, k) {
+        return true;
+    }
+    of_new_table(height, last, k)
 }
 
 fn new_word(plan: Plan, k: PoolWord) -> bool
     ensures { λ r. ⌜ r ≡ newWord plan (k .0) ⌝ }
 {
-    let block = plan.first_block;
-    if of_new_table(block, 1024, k) {
+    if new_at(plan, 1, k) {
         return true;
     }
-    let block2 = plan.last_block;
-    if of_new_table(block2, 1024, k) {
-        return true;
-    }
-    let page = plan.first_page;
-    if of_new_table(page, 64, k) {
-        return true;
-    }
-    let page2 = plan.last_page;
-    of_new_table(page2, 64, k)
+    new_at(plan, 0, k)
 }
 
 // The phase in which word `k`, which holds `x`, is stored: words that lead are given up first, then new tables are
@@ -262,16 +237,16 @@ fn phase_of(shape: Shape, plan: Plan, k: PoolWord, x: u32) -> u32
     requires { ⌜ InRange shape ⌝ }
     ensures { λ r. ⌜ r ≡ phaseOf shape plan (k .0) x ⌝ }
 {
-    let domains = shape.domains;
-    let middles = shape.middles;
     if new_word(plan, k) {
         return 2;
     }
+    let leaves = table::first_place(shape, 0);
+    let from = words::pool_index(leaves);
     let i = words::pool_index(k);
-    if i >= (1024 * domains + 1024 * middles) as usize {
+    if i >= from {
         return 3;
     }
-    if x < 0x8000_0000 {
+    if x < BIT_31 {
         return 1;
     }
     3

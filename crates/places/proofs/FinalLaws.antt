@@ -28,16 +28,10 @@ use Rattle.places.proofs.OwnedLaws.{seek-owner, owner-seek, seek-apart,
 use Rattle.places.proofs.NumberLaws.{number-below, number-same, number-of, number-order, page-number}
 use Rattle.places.proofs.NumberLaws.{root-number, address-index}
 use Rattle.places.proofs.NumberLaws.{offset-below, want-number, said-number, said-leaf}
-use Rattle.places.proofs.OldLaws.{place-one, place-less, place-order, led-old, not-led-old, old-at}
+use Rattle.places.proofs.OldLaws.{place-low, place-one, place-less, place-order, led-old, not-led-old, old-at}
 use Rattle.places.proofs.FinalWordLaws.{InPlace, which-word, place-table, final-root, final-place, final-past}
 use Rattle.places.proofs.FinalWordLaws.{place-owned, place-idle}
 use Rattle.places.proofs.FinalWordLaws.{entry-leads, entry-says}
-
--- A place of the pool can be named by an entry.
-place-low : (s : Shape) (h p : ℕ) → InRange s → h < 2 → p < places s h → placeAt s h p < 2147483648
-place-low s zero p range hi b = omega arith
-place-low s (suc zero) p range hi b = omega arith
-place-low s (suc (suc h)) p range hi b = absurd (omega arith)
 
 module _ (s : Shape) (range : InRange s) {R : ℕ → ℕ → ℕ} (S : (d : ℕ) → d < s .domains → WordRights (R d)) {P : ℕ → ℕ}
     (sP : SoundPool (formOf s) P) (owner : ℕ → ℕ → ℕ) (free : ℕ → ℕ → Bool) (O : AllOwned s R P free owner)

@@ -18,6 +18,27 @@ number-below zero D d a hi bd ba = omega arith
 number-below (suc zero) D d a hi bd ba = omega arith
 number-below (suc (suc h)) D d a hi bd ba = absurd (omega arith)
 
+-- Block `n` of domain `d` has a number below that of the domains after it.
+pub number-in : (h D d n : ℕ) → h < 2 → d < D → n < blocks h → blocks h * d + n < blocks h * D
+number-in zero D d n hi bd b = omega arith
+number-in (suc zero) D d n hi bd b = omega arith
+number-in (suc (suc h)) D d n hi bd b = absurd (omega arith)
+
+pub in-domain : (h d n : ℕ) → h < 2 → n < blocks h → domainOf h (blocks h * d + n) ≡ d
+in-domain zero d n hi b = omega arith
+in-domain (suc zero) d n hi b = omega arith
+in-domain (suc (suc h)) d n hi b = absurd (omega arith)
+
+pub in-number : (h d n : ℕ) → h < 2 → n < blocks h → (blocks h * d + n) % blocks h ≡ n
+in-number zero d n hi b = omega arith
+in-number (suc zero) d n hi b = omega arith
+in-number (suc (suc h)) d n hi b = absurd (omega arith)
+
+pub number-is : (h d i n : ℕ) → h < 2 → domainOf h i ≡ d → i % blocks h ≡ n → i ≡ blocks h * d + n
+number-is zero d i n hi x y = omega arith
+number-is (suc zero) d i n hi x y = omega arith
+number-is (suc (suc h)) d i n hi x y = absurd (omega arith)
+
 -- A number has one domain and one block ..
 pub number-domain : (h d a : ℕ) → h < 2 → a < addresses → domainOf h (number h d a) ≡ d
 number-domain zero d a hi ba = omega arith

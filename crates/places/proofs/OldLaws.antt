@@ -11,7 +11,7 @@ use Rattle.theory.proofs.FinishedLaws.{led-place}
 use Rattle.table.specs.declared.Shape.{Shape}
 use Rattle.table.specs.Map.{addresses, index, leads, formOf}
 use Rattle.table.proofs.BlockLaws.{together-block}
-use Rattle.table.specs.Shape.{firstPlace, places, size}
+use Rattle.table.specs.Shape.{InRange, firstPlace, places, size}
 use Rattle.table.proofs.FormLaws.{leads-place, lawful}
 use Rattle.places.specs.Count.{blocks, domainOf, addressOf}
 use Rattle.places.specs.Final.{number, entryOf, old, was, placeAt}
@@ -33,6 +33,12 @@ place-less s (suc h) p q lt = omega arith
 pub place-order : (s : Shape) (h p q : ℕ) → p ≤ q → placeAt s h p ≤ placeAt s h q
 place-order s zero p q le = omega arith
 place-order s (suc h) p q le = omega arith
+
+-- A place of the pool can be named by an entry.
+pub place-low : (s : Shape) (h p : ℕ) → InRange s → h < 2 → p < places s h → placeAt s h p < 2147483648
+place-low s zero p range hi b = omega arith
+place-low s (suc zero) p range hi b = omega arith
+place-low s (suc (suc h)) p range hi b = absurd (omega arith)
 
 -- Of any pool: the tables to which the walk of an address is led are those of the blocks around it.
 module _ (s : Shape) (P : ℕ → ℕ) (d a : ℕ) (ba : a < addresses) where

@@ -10,30 +10,30 @@ use borrow.Author.Tests.{eq-eqb}
 use Rattle.theory.specs.Pool.{words, rightOf}
 use Rattle.theory.specs.Settled.{Settled}
 use Rattle.theory.proofs.Logic.{by-cases}
-use Rattle.words.specs.Rights.{rightAt, eightOf}
 use Rattle.words.specs.Region.{covered}
 use Rattle.words.proofs.RightsLaws.{right-small}
 use Rattle.table.specs.declared.Shape.{Shape}
 use Rattle.table.specs.Shape.{Fits}
-use Rattle.table.specs.Map.{addresses, block, formOf}
+use Rattle.table.specs.Map.{addresses, block, leads, formOf}
 use Rattle.table.specs.Wants.{wantsOf, saidOf, WordRights}
 use Rattle.table.proofs.WantLaws.{wants-says, pool-rights}
 use Rattle.places.specs.Count.{blocks, domainOf, addressOf, want}
+use Rattle.places.proofs.NumberLaws.{in-domain, in-number}
 use Rattle.places.proofs.ChangedLaws.{changed-rights}
 use Rattle.targets.specs.declared.Paint.{Paint}
 use Rattle.targets.specs.declared.Target.{Target}
 use Rattle.targets.specs.declared.Target.the-variants.{Says, Mixed}
 use Rattle.targets.specs.Paints.{region}
-use Rattle.targets.specs.Targets.{painted, targetOf, Gives, Readable}
+use Rattle.targets.specs.Targets.{painted, targetOf, virtualOf, entryBlocks, Gives, Readable}
 use Rattle.targets.proofs.TargetLaws.{wanted-mixed, unwanted-said}
 use Rattle.targets.proofs.PoolLaws.{root-gives, middle-gives, virtual-gives, virtual-readable, root-readable}
 use Rattle.plan.specs.declared.Edge.{Edge}
-use Rattle.plan.specs.declared.Plan.{Plan}
-use Rattle.plan.specs.Plan.{isLead}
+use Rattle.plan.specs.declared.Ends.{Ends}
 use Rattle.plan.specs.Aims.{aims}
-use Rattle.plan.specs.Planning.{Regular}
-use Rattle.plan.specs.Edges.{firstOf, lastOf, entryAt, edgeFor, edgeAt, ReadableRoot, RootGives, draftOf, Told}
+use Rattle.plan.specs.Planning.{Regular, firstOf, lastOf}
+use Rattle.plan.specs.Edges.{entryAt, edgeFor, edgeAt, endsAt, ReadableRoot, RootGives, Told}
 use Rattle.plan.specs.Edges.{EndsTold}
+use Rattle.plan.proofs.MeetLaws.{ends-below}
 
 -- The root words of a sound pool are readable, and give the domain's rights.
 pub pool-root : (s : Shape) (p : List ℕ) (d : ℕ) → Fits s (length p) → Settled (formOf s) (words p) → d < s .domains
@@ -48,20 +48,20 @@ module _ (p : List ℕ) (d n : ℕ) (bn : n < 1048576) where
   abbrev root : ℕ
   root = words p (1024 * d + n / 1024)
 
-  pub entry-led : isLead root ≡ true → entryAt (words p) 0 d n ≡ words p (root + n % 1024)
-  entry-led l = ap (λ t. cond t (words p (root + n % 1024)) (eightOf (rightAt root (n / 128 % 8)))) l
+  pub entry-led : leads 2 root ≡ true → entryAt (words p) 0 d n ≡ words p (root + n % 1024)
+  entry-led l = ap (λ t. cond t (words p (root + n % 1024)) (virtualOf 1 root n)) l
 
-  pub entry-stood : isLead root ≡ false → entryAt (words p) 0 d n ≡ eightOf (rightAt root (n / 128 % 8))
-  entry-stood l = ap (λ t. cond t (words p (root + n % 1024)) (eightOf (rightAt root (n / 128 % 8)))) l
+  pub entry-stood : leads 2 root ≡ false → entryAt (words p) 0 d n ≡ virtualOf 1 root n
+  entry-stood l = ap (λ t. cond t (words p (root + n % 1024)) (virtualOf 1 root n)) l
 
-  pub entry-readable : ReadableRoot p d → Readable p 1 (entryAt (words p) 0 d n)
-  entry-readable z = by-cases (isLead root)
+  entry-readable : ReadableRoot p d → Readable p 1 (entryAt (words p) 0 d n)
+  entry-readable z = by-cases (leads 2 root)
       (λ l. subst (Readable p 1) (sym (entry-led l))
       (z (n / 1024) (omega arith) .1 .entries l (n % 1024) (omega arith)))
       (λ l. subst (Readable p 1) (sym (entry-stood l)) (virtual-readable p _ (right-small root _)))
 
-  pub entry-gives : (R : ℕ → ℕ) → RootGives (words p) d R → Gives (words p) 1 (entryAt (words p) 0 d n) n R
-  entry-gives R g = by-cases (isLead root)
+  entry-gives : (R : ℕ → ℕ) → RootGives (words p) d R → Gives (words p) 1 (entryAt (words p) 0 d n) n R
+  entry-gives R g = by-cases (leads 2 root)
       (λ l.
       let x : n / 1024 * 1024 + n % 1024 ≡ n = omega arith in
       subst (λ e. Gives (words p) 1 e n R) (sym (entry-led l))
@@ -70,10 +70,28 @@ module _ (p : List ℕ) (d n : ℕ) (bn : n < 1048576) where
       (λ l. subst (λ e. Gives (words p) 1 e n R) (sym (entry-stood l))
       (virtual-gives (words p) R root (n / 1024) n l refl (g (n / 1024) (omega arith))))
 
+-- The entry of a block of any height is readable, and gives the block's rights.
+pub entry-blocks : (h : ℕ) → h < 2 → entryBlocks (suc h) ≡ blocks h
+entry-blocks zero hi = refl
+entry-blocks (suc zero) hi = refl
+entry-blocks (suc (suc h)) hi = absurd (omega arith)
+
+pub old-readable : (p : List ℕ) (h d n : ℕ) → h < 2 → n < blocks h → ReadableRoot p d
+    → Readable p (suc h) (entryAt (words p) h d n)
+old-readable p zero d n hi b z = entry-readable p d n b z
+old-readable p (suc zero) d n hi b z = z n b .1
+old-readable p (suc (suc h)) d n hi b z = absurd (omega arith)
+
+pub old-gives : (p : List ℕ) (h d n : ℕ) → h < 2 → n < blocks h → (R : ℕ → ℕ) → RootGives (words p) d R
+    → Gives (words p) (suc h) (entryAt (words p) h d n) n R
+old-gives p zero d n hi b R g = entry-gives p d n b R g
+old-gives p (suc zero) d n hi b R g = g n b
+old-gives p (suc (suc h)) d n hi b R g = absurd (omega arith)
+
 -- A pointer that waits for its place leads.
-waits : (x : ℕ) → isLead (cond (isLead x) x 2147483647) ≡ true
-waits x = by-cases (isLead x) (λ l. ap (λ t. isLead (cond t x 2147483647)) l ∙ l)
-    (λ l. ap (λ t. isLead (cond t x 2147483647)) l)
+waits : (x : ℕ) → leads 1 (cond (leads 1 x) x 2147483647) ≡ true
+waits x = by-cases (leads 1 x) (λ l. ap (λ t. leads 1 (cond t x 2147483647)) l ∙ l)
+    (λ l. ap (λ t. leads 1 (cond t x 2147483647)) l)
 
 module _ (s : Shape) (d : ℕ) (paint : Paint) (P : ℕ → ℕ) (small : paint .right < 4) where
   abbrev T : ℕ → ℕ → ℕ
@@ -95,26 +113,16 @@ module _ (s : Shape) (d : ℕ) (paint : Paint) (P : ℕ → ℕ) (small : paint 
     abbrev a : ℕ
     a = n * block (suc h)
 
-    domain-is : (h : ℕ) → h < 2 → n < blocks h → domainOf h (blocks h * d + n) ≡ d
-    domain-is zero hi b = omega arith
-    domain-is (suc zero) hi b = omega arith
-    domain-is (suc (suc h)) hi b = absurd (omega arith)
-
-    rest-is : (h : ℕ) → h < 2 → n < blocks h → (blocks h * d + n) % blocks h ≡ n
-    rest-is zero hi b = omega arith
-    rest-is (suc zero) hi b = omega arith
-    rest-is (suc (suc h)) hi b = absurd (omega arith)
-
     inside : (h : ℕ) → h < 2 → n < blocks h → n * block (suc h) < addresses
     inside zero hi b = omega arith
     inside (suc zero) hi b = omega arith
     inside (suc (suc h)) hi b = absurd (omega arith)
 
     goal-is : T (domainOf h i) ≡ goal
-    goal-is = ap T (domain-is h hi bn) ∙ fun-ext aims-painted
+    goal-is = ap T (in-domain h d n hi bn) ∙ fun-ext aims-painted
 
     address-is : addressOf h i ≡ a
-    address-is = ap (λ x. x * block (suc h)) (rest-is h hi bn)
+    address-is = ap (λ x. x * block (suc h)) (in-number h d n hi bn)
 
     want-is : want T h i ≡ wantsOf goal (suc h) a
     want-is = ap (λ R. wantsOf R (suc h) (addressOf h i)) goal-is ∙ ap (λ x. wantsOf goal (suc h) x) address-is
@@ -127,7 +135,7 @@ module _ (s : Shape) (d : ℕ) (paint : Paint) (P : ℕ → ℕ) (small : paint 
         (changed-rights (rightOf (formOf s) P) d (region paint) (paint .right) d small
         (pool-rights s P d))
 
-    rests : wantsOf goal (suc h) a ≡ false → isLead (saidOf goal (suc h) a) ≡ false
+    rests : wantsOf goal (suc h) a ≡ false → leads (suc h) (saidOf goal (suc h) a) ≡ false
     rests w = wants-says s goal (suc h) a goal-rights (omega arith)
         (inside h hi bn) w .rights
 
@@ -135,7 +143,7 @@ module _ (s : Shape) (d : ℕ) (paint : Paint) (P : ℕ → ℕ) (small : paint 
     told-mixed w = record {
       number = refl;
       old = refl;
-      leads = waits (entryAt P h d n) ∙ sym (want-is ∙ w);
+      wanted = waits (entryAt P h d n) ∙ sym (want-is ∙ w);
       kept = λ l m. ap (λ t. cond t (entryAt P h d n) 2147483647) l;
       said = λ l. absurd (true≢false (sym (waits (entryAt P h d n)) ∙ l));
     }
@@ -145,7 +153,7 @@ module _ (s : Shape) (d : ℕ) (paint : Paint) (P : ℕ → ℕ) (small : paint 
     told-said w = record {
       number = refl;
       old = refl;
-      leads = rests w ∙ sym (want-is ∙ w);
+      wanted = rests w ∙ sym (want-is ∙ w);
       kept = λ l m. absurd (true≢false (sym m ∙ rests w));
       said = λ l. sym said-is;
     }
@@ -157,16 +165,8 @@ module _ (s : Shape) (d : ℕ) (paint : Paint) (P : ℕ → ℕ) (small : paint 
         (λ w. subst (λ t. Told s d paint P h n (edgeFor n (entryAt P h d n) t)) (sym (unwanted-said goal (suc h) a w))
         (told-said w))
 
--- The ends of a region lie in memory, in order.
-pub ends-below : (paint : Paint) → Regular paint → (h : ℕ) → h < 2 → (firstOf h paint ≤ lastOf h paint)
-    × (lastOf h paint < blocks h)
-ends-below paint g zero hi = (omega arith, omega arith)
-ends-below paint g (suc zero) hi = (omega arith, omega arith)
-ends-below paint g (suc (suc h)) hi = absurd (omega arith)
-
 pub drafted-ends : (s : Shape) (d : ℕ) (paint : Paint) (P : ℕ → ℕ) → Regular paint → (h : ℕ) → h < 2
-    → EndsTold s d paint P h (edgeAt P d paint (rightOf (formOf s) P d) h (firstOf h paint))
-    (edgeAt P d paint (rightOf (formOf s) P d) h (lastOf h paint))
+    → EndsTold s d paint P h (endsAt P d paint (rightOf (formOf s) P d) h)
 drafted-ends s d paint P g h hi =
     let (x, y) = ends-below paint g h hi in
     record {
@@ -184,22 +184,21 @@ edge-number P d paint R a h n e = e ∙ ap (edgeAt P d paint R h)
     number (Says w) = refl
     number Mixed = refl
 
--- Four edges make the draft. Memory words are counted in the code, bytes in the definitions.
-pub draft-is : (P : ℕ → ℕ) (d : ℕ) (paint : Paint) (R : ℕ → ℕ) → Regular paint → (a b c e : Edge)
-    → a ≡ edgeAt P d paint R 1 (paint .lo / 1048576) → b ≡ edgeAt P d paint R 1 ((paint .hi - 1) / 1048576)
-    → c ≡ edgeAt P d paint R 0 (paint .lo / 1024) → e ≡ edgeAt P d paint R 0 ((paint .hi - 1) / 1024)
-    → _≡_ {A = Plan} (record {
-      domain = d;
-      paint = paint;
-      «first_block» = a;
-      «last_block» = b;
-      «first_page» =
-          c;
-      «last_page» = e;
-    }) (draftOf P d paint R)
-draft-is P d paint R g a b c e p q r t =
-    let u : 4 * paint .lo / 4194304 ≡ paint .lo / 1048576 = omega arith in
-    let v : (4 * paint .hi - 1) / 4194304 ≡ (paint .hi - 1) / 1048576 = omega arith in
-    let w : 4 * paint .lo / 4096 ≡ paint .lo / 1024 = omega arith in
-    let z : (4 * paint .hi - 1) / 4096 ≡ (paint .hi - 1) / 1024 = omega arith in
-    rw (u, v, w, z, p, q, r, t) refl
+-- Memory words are counted in the code, bytes in the definitions.
+pub words-bytes : (paint : Paint) → Regular paint → (h : ℕ) → h < 2
+    → (firstOf h paint ≡ paint .lo / (block (suc h) / 4)) × (lastOf h paint ≡ (paint .hi - 1) / (block (suc h) / 4))
+words-bytes paint g zero hi =
+    let x : 4 * paint .lo / 4096 ≡ paint .lo / 1024 = omega arith in
+    let y : (4 * paint .hi - 1) / 4096 ≡ (paint .hi - 1) / 1024 = omega arith in
+    (x, y)
+words-bytes paint g (suc zero) hi =
+    let x : 4 * paint .lo / 4194304 ≡ paint .lo / 1048576 = omega arith in
+    let y : (4 * paint .hi - 1) / 4194304 ≡ (paint .hi - 1) / 1048576 = omega arith in
+    (x, y)
+words-bytes paint g (suc (suc h)) hi = absurd (omega arith)
+
+-- Two edges make the draft of a height.
+pub draft-is : (P : ℕ → ℕ) (d : ℕ) (paint : Paint) (R : ℕ → ℕ) (h : ℕ) (a b : Edge)
+    → a ≡ edgeAt P d paint R h (firstOf h paint) → b ≡ edgeAt P d paint R h (lastOf h paint)
+    → _≡_ {A = Ends} (record { first = a; last = b }) (endsAt P d paint R h)
+draft-is P d paint R h a b p q = λ i. record { first = p i; last = q i }

@@ -11,27 +11,22 @@ use Rattle.theory.specs.Pool.{rightOf}
 use Rattle.theory.specs.Settled.{Settled}
 use Rattle.theory.proofs.Logic.{by-cases}
 use Rattle.table.specs.declared.Shape.{Shape}
-use Rattle.table.specs.Map.{formOf}
+use Rattle.table.specs.Map.{leads, formOf}
 use Rattle.places.specs.Owners.{fresh}
 use Rattle.places.proofs.OwnedLaws.{fresh-wants, fresh-old}
 use Rattle.places.specs.Count.{blocks, domainOf, want}
 use Rattle.places.specs.Final.{old}
+use Rattle.places.proofs.NumberLaws.{number-is}
 use Rattle.places.proofs.ChangedLaws.{changed-uncovered, changed-other}
 use Rattle.targets.specs.declared.Paint.{Paint}
 use Rattle.targets.specs.Paints.{region}
-use Rattle.plan.specs.declared.Edge.{Edge}
-use Rattle.plan.specs.Plan.{isLead}
+use Rattle.plan.specs.Planning.{firstOf, lastOf, endOf}
+use Rattle.plan.specs.declared.Ends.{Ends}
 use Rattle.plan.specs.Aims.{aims}
-use Rattle.plan.specs.Edges.{firstOf, lastOf, staysOf, EndsTold}
+use Rattle.plan.specs.Edges.{staysOf, EndsTold}
 use Rattle.plan.proofs.AimLaws.{aims-covered}
 use Rattle.plan.proofs.MeetLaws.{between-covered, apart-uncovered}
 use Rattle.plan.proofs.WantedLaws.{plain-want, stays-want, only-edges-fresh}
-
--- The number of a block over all domains.
-number-is : (h d i n : ℕ) → h < 2 → domainOf h i ≡ d → i % blocks h ≡ n → i ≡ blocks h * d + n
-number-is zero d i n hi x y = omega arith
-number-is (suc zero) d i n hi x y = omega arith
-number-is (suc (suc h)) d i n hi x y = absurd (omega arith)
 
 -- Whichever a block is, at an end, between the ends or apart: what is right in each case is right.
 kept-or-not : (n f l : ℕ) {a b z : Bool} → (n ≡ f → a ≡ z) → (n ≡ l → b ≡ z) → (f < n → n < l → false ≡ z)
@@ -60,11 +55,11 @@ module _ (s : Shape) (d : ℕ) (paint : Paint) {P : ℕ → ℕ} (q : Settled (f
   R = rightOf (formOf s) P
 
   -- A block off both ends is not fresh.
-  pub apart-not-fresh : i ≢ blocks h * d + firstOf h paint → i ≢ blocks h * d + lastOf h paint
+  pub apart-not-fresh : ((first : Bool) → i ≢ blocks h * d + endOf h paint first)
       → fresh (want T h) (old P h) i ≡ false
-  apart-not-fresh a b = by-cases (fresh (want T h) (old P h) i)
-      (λ e. absurd (⊎-elim a b (only-edges-fresh s d paint P h i hi bi q (fresh-wants (want T h i) (old P h i) e)
-      (fresh-old (want T h i) (old P h i) e))))
+  apart-not-fresh a = by-cases (fresh (want T h) (old P h) i)
+      (λ e. let (b, x) = only-edges-fresh s d paint P h i hi bi q (fresh-wants (want T h i) (old P h i) e)
+      (fresh-old (want T h i) (old P h i) e) in absurd (a b x))
       (λ e. e)
 
   -- What a block wants that is in another domain, between the ends of the region, or apart from it.
@@ -84,20 +79,20 @@ module _ (s : Shape) (d : ℕ) (paint : Paint) {P : ℕ → ℕ} (q : Settled (f
       (apart-uncovered paint h (i % blocks h) hi b e x y z))
 
   -- Of a block that has a table, the edges tell whether it is kept.
-  pub stays-is : {first last : Edge} → EndsTold s d paint P h first last → old P h i ≡ true
-      → staysOf d first last (domainOf h i) (i % blocks h) ≡ want T h i
-  stays-is {first} {last} k o = elim (ℕ-discrete (domainOf h i) d) [
+  pub stays-is : {ends : Ends} → EndsTold s d paint P h ends → old P h i ≡ true
+      → staysOf d ends (domainOf h i) (i % blocks h) ≡ want T h i
+  stays-is {ends} k o = elim (ℕ-discrete (domainOf h i) d) [
     | no x ↦ ap (λ t. cond t inner true) (ne-eqb (domainOf h i) d x) ∙ sym (other-want x ∙ o)
-    | yes x ↦ ap (λ t. cond t inner true) (eq-eqb (domainOf h i) d x) ∙ kept-or-not (i % blocks h) (first .number)
-        (last .number)
-        (λ e. k .first-told .leads ∙ ap (want T h) (sym (number-is h d i _ hi x (e ∙ k .first-told .number))))
-        (λ e. k .last-told .leads ∙ ap (want T h) (sym (number-is h d i _ hi x (e ∙ k .last-told .number))))
+    | yes x ↦ ap (λ t. cond t inner true) (eq-eqb (domainOf h i) d x) ∙ kept-or-not (i % blocks h) (ends .first .number)
+        (ends .last .number)
+        (λ e. k .first-told .wanted ∙ ap (want T h) (sym (number-is h d i _ hi x (e ∙ k .first-told .number))))
+        (λ e. k .last-told .wanted ∙ ap (want T h) (sym (number-is h d i _ hi x (e ∙ k .last-told .number))))
         (λ u v. sym (between-want x (rw (k .first-told .number) at u) (rw (k .last-told .number) at v)))
         (λ u v w. sym (apart-want (rw (k .first-told .number) at u) (rw (k .last-told .number) at v)
         (rw (k .first-told .number, k .last-told .number) at w) ∙ o))
   ]
     where
       inner : Bool
-      inner = cond (eqb (i % blocks h) (first .number)) (isLead (first .last))
-          (cond (eqb (i % blocks h) (last .number)) (isLead (last .last))
-          (ltb (i % blocks h) (first .number) || ltb (last .number) (i % blocks h)))
+      inner = cond (eqb (i % blocks h) (ends .first .number)) (leads 1 (ends .first .last))
+          (cond (eqb (i % blocks h) (ends .last .number)) (leads 1 (ends .last .last))
+          (ltb (i % blocks h) (ends .first .number) || ltb (ends .last .number) (i % blocks h)))

@@ -25,19 +25,19 @@ use Rattle.census.specs.Tally.{none}
 use Rattle.census.specs.Census.{Owners}
 use Rattle.census.proofs.OwnerLaws.{was-owner, was-taken, owner-stands}
 use Rattle.targets.specs.declared.Paint.{Paint}
-use Rattle.plan.specs.declared.Edge.{Edge}
+use Rattle.plan.specs.declared.Ends.{Ends}
 use Rattle.plan.specs.Aims.{aims}
 use Rattle.plan.specs.Edges.{ownerStays, Marked, EndsTold, KeptMarked}
 use Rattle.plan.proofs.FreshLaws.{stays-is}
 
 -- The marks, place by place.
-pub marked-none : (o : List ℕ) (h d : ℕ) (first last : Edge) → Marked o h 0 d first last (replicate 64 false)
-marked-none o h d first last = record { long = length-replicate 64 false; each = λ p b. absurd (omega arith) }
+pub marked-none : (o : List ℕ) (h d : ℕ) (ends : Ends) → Marked o h 0 d ends (replicate 64 false)
+marked-none o h d ends = record { long = length-replicate 64 false; each = λ p b. absurd (omega arith) }
 
-pub marked-next : (o : List ℕ) (h c d : ℕ) (first last : Edge) (f : List Bool) (b : Bool) → c < 64
-    → b ≡ ownerStays h d first last (getD o (firstNumber h + c) 0) → Marked o h c d first last f
-    → Marked o h (c + 1) d first last (set f c b)
-marked-next o h c d first last f b lo e k = record {
+pub marked-next : (o : List ℕ) (h c d : ℕ) (ends : Ends) (f : List Bool) (b : Bool) → c < 64
+    → b ≡ ownerStays h d ends (getD o (firstNumber h + c) 0) → Marked o h c d ends f
+    → Marked o h (c + 1) d ends (set f c b)
+marked-next o h c d ends f b lo e k = record {
   long = length-set f c b ∙ k .long;
   each = λ p lt. elim (ℕ-discrete p c) [
     | yes x ↦ rw x (getD-set-same f c b false (omega (arith, k .long)) ∙ e)
@@ -73,8 +73,8 @@ module _ (s : Shape) (d : ℕ) (paint : Paint) {P : ℕ → ℕ} (q : Settled (f
 -- The marks by the owners of all places: those of the kept tables, of every domain.
 module _ (p : List ℕ) (s : Shape) (d : ℕ) (paint : Paint) (fits : Fits s (length p))
     (q : Settled (formOf s) (words p)) (o : List ℕ) (own : Owners p s o)
-    (h : ℕ) (hi : h < 2) {first last : Edge} (told : EndsTold s d paint (words p) h first last) {f : List Bool}
-    (mark : Marked o h (places s h) d first last f) where
+    (h : ℕ) (hi : h < 2) {ends : Ends} (told : EndsTold s d paint (words p) h ends) {f : List Bool}
+    (mark : Marked o h (places s h) d ends f) where
   abbrev P : ℕ → ℕ
   P = words p
 

@@ -2,7 +2,7 @@
 use Prim.Native.Nat.{ℕ, zero, suc, _+_, _*_, _/_, _%_, _≤_, _<_}
 use mathlib.Core.Path.{_≡_, refl, ap, _∙_}
 use mathlib.Core.Logic.{_≢_, _⊎_, inl, inr}
-use mathlib.Core.Bool.{true, false, cond, _&&_, and-false}
+use mathlib.Core.Bool.{Bool, true, false, cond, _&&_, and-false}
 use native.Mathlib.Omega.{arith}
 use native.Mathlib.Decide.{ℕ-discrete, decLt}
 use lib.Dec.{eqb, leb, ltb}
@@ -13,12 +13,13 @@ use Rattle.words.proofs.RegionLaws.{covered-bytes}
 use Rattle.table.specs.declared.Shape.{Shape}
 use Rattle.table.specs.Map.{addresses, block, formOf}
 use Rattle.places.specs.Count.{blocks, domainOf}
+use Rattle.places.proofs.NumberLaws.{number-is}
 use Rattle.places.proofs.ChangedLaws.{changed-uncovered, changed-other}
 use Rattle.targets.specs.declared.Paint.{Paint}
 use Rattle.targets.specs.Paints.{region}
 use Rattle.plan.specs.Aims.{aims}
+use Rattle.plan.specs.Planning.{Regular, firstOf, lastOf, endOf}
 use Rattle.plan.proofs.AimLaws.{aims-covered}
-use Rattle.plan.specs.Edges.{firstOf, lastOf}
 
 -- Which of four things block `n` gets, between the first block `f` and the last one `l`: whatever is right in each
 -- case is what it gets.
@@ -46,6 +47,17 @@ pub chosen : (n f l : ℕ) {a b c x z : ℕ} → (n ≡ f → a ≡ z) → (n �
     → cond (eqb n f) a (cond (eqb n l) b (cond (ltb f n && ltb n l) c x)) ≡ z
 chosen n f l first last between apart = if-same n f first
     (λ e. if-same n l last (λ g. if-between n f l between (λ u. apart e g u)))
+
+-- The ends of a region lie in memory, in order.
+pub ends-below : (paint : Paint) → Regular paint → (h : ℕ) → h < 2 → (firstOf h paint ≤ lastOf h paint)
+    × (lastOf h paint < blocks h)
+ends-below paint g zero hi = (omega arith, omega arith)
+ends-below paint g (suc zero) hi = (omega arith, omega arith)
+ends-below paint g (suc (suc h)) hi = absurd (omega arith)
+
+pub end-below : (paint : Paint) → Regular paint → (h : ℕ) → h < 2 → (first : Bool) → endOf h paint first < blocks h
+end-below paint g h hi true = let (x, y) = ends-below paint g h hi in omega arith
+end-below paint g h hi false = ends-below paint g h hi .1
 
 -- What the region covers, in bytes.
 module _ (paint : Paint) (b : ℕ) where
@@ -119,22 +131,16 @@ module _ (s : Shape) (d : ℕ) (paint : Paint) (P : ℕ → ℕ) where
   pub other-stays : (h i : ℕ) → domainOf h i ≢ d → RightsStay h i
   other-stays h i x b bb e = changed-other (rightOf (formOf s) P) d (region paint) (paint .right) (domainOf h i) b x
 
-  -- Block `i` is block `n` of the domain of the change.
-  numbered : (h i n : ℕ) → h < 2 → domainOf h i ≡ d → i % blocks h ≡ n → i ≡ blocks h * d + n
-  numbered zero i n hi x y = omega arith
-  numbered (suc zero) i n hi x y = omega arith
-  numbered (suc (suc h)) i n hi x y = absurd (omega arith)
-
   -- Block `i` stays, gets the right, or is the first or the last block that the region meets.
   pub meeting : (h i : ℕ) → h < 2
       → RightsStay h i ⊎ (Plain h i (paint .right)
-      ⊎ ((i ≡ blocks h * d + firstOf h paint) ⊎ (i ≡ blocks h * d + lastOf h paint)))
+      ⊎ ((first : Bool) × (i ≡ blocks h * d + endOf h paint first)))
   meeting h i hi = elim (ℕ-discrete (domainOf h i) d) [
     | no x ↦ inl (other-stays h i x)
     | yes x ↦ elim (ℕ-discrete (i % blocks h) (firstOf h paint)) [
-      | yes y ↦ inr (inr (inl (numbered h i _ hi x y)))
+      | yes y ↦ inr (inr (true, number-is h d i _ hi x y))
       | no y ↦ elim (ℕ-discrete (i % blocks h) (lastOf h paint)) [
-        | yes z ↦ inr (inr (inr (numbered h i _ hi x z)))
+        | yes z ↦ inr (inr (false, number-is h d i _ hi x z))
         | no z ↦ elim (decLt (firstOf h paint) (i % blocks h)) [
           | yes p ↦ elim (decLt (i % blocks h) (lastOf h paint)) [
             | yes q ↦ inr (inl (between-plain h i _ hi x refl p q))

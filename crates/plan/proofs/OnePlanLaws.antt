@@ -1,7 +1,7 @@
 -- There is one plan of a change: what `plan_change` promises leaves one outcome.
 use Prim.Native.Nat.{ℕ, zero, suc, _+_, _*_, _<_}
 use mathlib.Core.Path.{_≡_, refl, sym, fun-ext, ap, _∙_}
-use mathlib.Core.Bool.{Bool, true}
+use mathlib.Core.Bool.{Bool, true, false}
 use native.Mathlib.Omega.{arith}
 use Rattle.theory.specs.Pool.{Led}
 use Rattle.theory.specs.Settled.{Settled}
@@ -19,7 +19,7 @@ use Rattle.table.specs.Wants.{WordRights}
 use Rattle.table.proofs.WantLaws.{wants-divided, wanting, tells-wants}
 use Rattle.places.specs.Count.{blocks, domainOf, addressOf, want}
 use Rattle.places.specs.Final.{number, tableOf, place, entryWord, final}
-use Rattle.places.proofs.NumberLaws.{number-first}
+use Rattle.places.proofs.NumberLaws.{number-first, number-in}
 use Rattle.places.proofs.FinalWordLaws.{place-table, entry-leads, entry-says}
 use Rattle.places.proofs.FinalLaws.{final-encodes, final-placing, final-finished}
 use Rattle.places.proofs.Exists.{finished-fits}
@@ -28,10 +28,12 @@ use Rattle.plan.specs.declared.Edge.{Edge}
 use Rattle.plan.specs.declared.Plan.{Plan}
 use Rattle.plan.specs.declared.Planning.{Planning}
 use Rattle.plan.specs.declared.Planning.the-variants.{Ready, NoRoom}
+use Rattle.plan.specs.Plan.{endsOf}
 use Rattle.plan.specs.Aims.{aims}
-use Rattle.plan.specs.Planning.{Regular}
-use Rattle.plan.specs.Edges.{firstOf, lastOf, EdgeIs, PlanReady, PlansChange}
+use Rattle.plan.specs.Planning.{Regular, firstOf, lastOf}
+use Rattle.plan.specs.Edges.{EdgeIs, PlanReady, PlansChange}
 use Rattle.plan.proofs.Setting.{Setting}
+use Rattle.plan.proofs.MeetLaws.{end-below}
 use Rattle.plan.proofs.SettingLaws.{aims-rights}
 
 module _ (s : Shape) (d : ℕ) (paint : Paint) (P : ℕ → ℕ) (range : InRange s)
@@ -108,33 +110,24 @@ module _ (s : Shape) (d : ℕ) (paint : Paint) (P : ℕ → ℕ) (range : InRang
     same-edge h n hi bn u v =
         let number = u .number ∙ sym (v .number) in
         let old = u .old ∙ sym (v .old) in
-        let last = u .last ∙ same-entry h (blocks h * d + n) hi (inside h bn) ∙ sym (v .last) in
+        let last = u .last ∙ same-entry h (blocks h * d + n) hi (number-in h D d n hi bd bn) ∙ sym (v .last) in
         λ i. record { number = number i; old = old i; last = last i }
-      where
-        inside : (h : ℕ) → n < blocks h → blocks h * d + n < blocks h * D
-        inside zero b = omega arith
-        inside (suc h) b = omega arith
+
+    same-ends : (h : ℕ) → h < 2 → endsOf q h ≡ endsOf r h
+    same-ends h hi =
+        let u = x .edges .ends h hi in
+        let v = y .edges .ends h hi in
+        let first = same-edge h (firstOf h paint) hi (end-below paint regular h hi true) (u .first) (v .first) in
+        let last = same-edge h (lastOf h paint) hi (end-below paint regular h hi false) (u .last) (v .last) in
+        λ i. record { first = first i; last = last i }
 
     same-plan : q ≡ r
     same-plan =
-        let u = x .edges in
-        let v = y .edges in
-        let some = regular .some in
-        let below = regular .below in
-        let domain = u .for-domain ∙ sym (v .for-domain) in
-        let paints = u .for-paint ∙ sym (v .for-paint) in
-        let block0 = same-edge 1 (firstOf 1 paint) (omega arith) (omega arith) (u .first-block) (v .first-block) in
-        let block1 = same-edge 1 (lastOf 1 paint) (omega arith) (omega arith) (u .last-block) (v .last-block) in
-        let page0 = same-edge 0 (firstOf 0 paint) (omega arith) (omega arith) (u .first-page) (v .first-page) in
-        let page1 = same-edge 0 (lastOf 0 paint) (omega arith) (omega arith) (u .last-page) (v .last-page) in
-        λ i. record {
-          domain = domain i;
-          paint = paints i;
-          «first_block» = block0 i;
-          «last_block» = block1 i;
-          «first_page» = page0 i;
-          «last_page» = page1 i;
-        }
+        let domain = x .edges .for-domain ∙ sym (y .edges .for-domain) in
+        let paints = x .edges .for-paint ∙ sym (y .edges .for-paint) in
+        let blocks = same-ends 1 (omega arith) in
+        let pages = same-ends 0 (omega arith) in
+        λ i. record { domain = domain i; paint = paints i; blocks = blocks i; pages = pages i }
 
   -- Ready, with one plan, exactly where there is room.
   pub one-plan : (q r : Planning) → PlansChange s d paint P q → PlansChange s d paint P r → q ≡ r

@@ -1,6 +1,6 @@
 -- Laws of the setting in which a change is planned: the rights are rights of words, and an entry of the finished pool
 -- leads where its block wants a table.
-use Prim.Native.Nat.{ℕ, zero, suc, _*_, _<_}
+use Prim.Native.Nat.{ℕ, suc, _*_, _<_}
 use mathlib.Core.Path.{_≡_, sym, ap, _∙_}
 use mathlib.Core.Bool.{Bool, true}
 use native.Mathlib.Omega.{arith}
@@ -9,30 +9,23 @@ use Rattle.theory.specs.Pool.{rightOf}
 use Rattle.theory.proofs.Logic.{by-cases}
 use Rattle.words.specs.Rights.{eightOf}
 use Rattle.table.specs.declared.Shape.{Shape}
-use Rattle.table.specs.Shape.{InRange, places}
-use Rattle.table.specs.Map.{formOf}
+use Rattle.table.specs.Map.{leads, formOf}
 use Rattle.table.specs.Wants.{WordRights}
 use Rattle.table.proofs.WantLaws.{wants-says, pool-rights}
 use Rattle.places.proofs.OwnedLaws.{seek-owner}
 use Rattle.places.specs.Count.{blocks, domainOf, addressOf, want}
-use Rattle.places.specs.Final.{placeAt, tableOf, entryWord}
+use Rattle.places.specs.Final.{tableOf, entryWord}
 use Rattle.places.proofs.NumberLaws.{number-first}
+use Rattle.places.proofs.OldLaws.{place-low}
 use Rattle.places.proofs.ChangedLaws.{changed-rights}
 use Rattle.places.proofs.FinalWordLaws.{entry-leads, entry-says}
 use Rattle.targets.specs.declared.Paint.{Paint}
 use Rattle.targets.specs.Paints.{region}
-use Rattle.plan.specs.Plan.{isLead}
 use Rattle.plan.specs.Aims.{aims}
 use Rattle.plan.proofs.Setting.{Setting}
 use Rattle.plan.proofs.BlockRightsLaws.{said-near, said-plain}
 use Rattle.plan.proofs.MeetLaws.{Plain}
 use Rattle.plan.proofs.WantedLaws.{first-address, plain-want}
-
--- A pointer is below bit 31.
-place-low : (s : Shape) (h p : ℕ) → InRange s → h < 2 → p < places s h → isLead (placeAt s h p) ≡ true
-place-low s zero p range hi b = lt-ltb (placeAt s 0 p) 2147483648 (omega arith)
-place-low s (suc zero) p range hi b = lt-ltb (placeAt s 1 p) 2147483648 (omega arith)
-place-low s (suc (suc h)) p range hi b = absurd (omega arith)
 
 module _ {s : Shape} {d : ℕ} {paint : Paint} {P : ℕ → ℕ} {owner : ℕ → ℕ → ℕ} {free : ℕ → ℕ → Bool}
     (c : Setting s d paint P owner free) where
@@ -56,13 +49,13 @@ module _ {s : Shape} {d : ℕ} {paint : Paint} {P : ℕ → ℕ} {owner : ℕ �
         ∙ said-plain r h (addressOf h i)
 
     -- The finished entry leads where the block wants a table.
-    pub entry-lead : isLead (entryWord s owner T P h i) ≡ want T h i
+    pub entry-lead : leads (suc h) (entryWord s owner T P h i) ≡ want T h i
     entry-lead = by-cases (want T h i)
-        (λ w. ap isLead (entry-leads s owner T P h i w) ∙ led w ∙ sym w)
-        (λ w. ap isLead (entry-says s owner T P h i w)
+        (λ w. ap (leads (suc h)) (entry-leads s owner T P h i w) ∙ led w ∙ sym w)
+        (λ w. ap (leads (suc h)) (entry-says s owner T P h i w)
         ∙ wants-says s (T (domainOf h i)) (suc h) (addressOf h i) (aims-rights (domainOf h i)) (omega arith)
         (number-first h D i hi bi .1) w .rights
         ∙ sym w)
       where
-        led : want T h i ≡ true → isLead (tableOf s owner h i) ≡ true
-        led w = place-low s h _ (c .range) hi (seek-owner _ _ _ _ _ _ (c .placed h hi) i bi w .0)
+        led : want T h i ≡ true → leads (suc h) (tableOf s owner h i) ≡ true
+        led w = lt-ltb _ 2147483648 (place-low s h _ (c .range) hi (seek-owner _ _ _ _ _ _ (c .placed h hi) i bi w .0))

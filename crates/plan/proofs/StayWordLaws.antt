@@ -1,5 +1,5 @@
 -- Words of tables that stand as they stood, over blocks whose rights stay, are what they were.
-use Prim.Native.Nat.{ℕ, suc, _+_, _*_, _/_, _%_, _≤_, _<_}
+use Prim.Native.Nat.{ℕ, zero, suc, _+_, _*_, _/_, _%_, _≤_, _<_}
 use mathlib.Core.Path.{_≡_, refl, sym, ap, _∙_}
 use mathlib.Core.Bool.{Bool, true, false}
 use native.Mathlib.Omega.{arith}
@@ -101,7 +101,7 @@ module _ {s : Shape} {d : ℕ} {paint : Paint} {P : ℕ → ℕ} {owner : ℕ �
       let (be, ba, x) = number-first 1 D k (omega arith) bk in
       entry-stays 1 k k (omega arith) bk st (rw (root-number (domainOf 1 k) (addressOf 1 k) ba ∙ x) here)
 
-  -- A word of a middle table, by its page ..
+  -- A word of a middle table, by its page.
   pub middle-stays : (k p j : ℕ) → InPlace s k 1 p j → owner 1 p < 1024 * D → old P 1 (owner 1 p) ≡ true
       → RightsStay s d paint P 0 (1024 * owner 1 p + j) → tableWord s owner T P 1 (owner 1 p) j ≡ P k
   middle-stays k p j x bo o st =
@@ -109,19 +109,21 @@ module _ {s : Shape} {d : ℕ} {paint : Paint} {P : ℕ → ℕ} {owner : ℕ �
       let w : addressOf 0 (1024 * owner 1 p + j) ≡ addressOf 1 (owner 1 p) + 4096 * j = omega arith in
       entry-stays 0 (1024 * owner 1 p + j) k (omega arith) (omega arith) st (rw (u, w) (place-visits k 1 p j x bo o))
 
-  -- .. and of a leaf.
-  pub leaf-stays : (k p j : ℕ) → InPlace s k 0 p j → owner 0 p < 1048576 * D → old P 0 (owner 0 p) ≡ true
-      → RightsStay s d paint P 0 (owner 0 p) → tableWord s owner T P 0 (owner 0 p) j ≡ P k
-  leaf-stays k p j x bo o st =
+  -- The pages of a block whose rights stay, stay.
+  page-stays : (i j : ℕ) → j < 1024 → RightsStay s d paint P 1 i → RightsStay s d paint P 0 (1024 * i + j)
+  page-stays i j bj st b bb e =
+      let u : domainOf 0 (1024 * i + j) ≡ domainOf 1 i = omega arith in
+      let w : b / 4194304 ≡ i % 1024 = omega arith in
+      rw u (st b bb w)
+
+  -- A word of the table of a block whose rights stay.
+  pub table-stays : (k h p j : ℕ) → InPlace s k h p j → owner h p < blocks h * D → old P h (owner h p) ≡ true
+      → RightsStay s d paint P h (owner h p) → tableWord s owner T P h (owner h p) j ≡ P k
+  table-stays k zero p j x bo o st =
       let (be, ba, _) = number-of 0 D (owner 0 p) (64 * j) (omega arith) bo (omega arith) in
       let w : (addressOf 0 (owner 0 p) + 64 * j) / 4096 ≡ owner 0 p % 1048576 = omega arith in
       said-stays 0 (domainOf 0 (owner 0 p)) (addressOf 0 (owner 0 p) + 64 * j) k (omega arith) be ba
       (place-visits k 0 p j x bo o) refl
       (λ b bb y. st b bb (block-above 1 0 b _ (omega arith) (omega arith) y ∙ w))
-
-  -- The pages of a block whose rights stay, stay.
-  pub page-stays : (i j : ℕ) → j < 1024 → RightsStay s d paint P 1 i → RightsStay s d paint P 0 (1024 * i + j)
-  page-stays i j bj st b bb e =
-      let u : domainOf 0 (1024 * i + j) ≡ domainOf 1 i = omega arith in
-      let w : b / 4194304 ≡ i % 1024 = omega arith in
-      rw u (st b bb w)
+  table-stays k (suc zero) p j x bo o st = middle-stays k p j x bo o (page-stays (owner 1 p) j (x .2) st)
+  table-stays k (suc (suc h)) p j x bo o st = let hi = x .0 in absurd (omega arith)

@@ -2,8 +2,8 @@
 -- right; so only the two ends of the region can want a table that they did not have.
 use Prim.Native.Nat.{ℕ, zero, suc, _+_, _*_, _/_, _%_, _<_}
 use mathlib.Core.Path.{_≡_, refl, sym, _∙_}
-use mathlib.Core.Logic.{_⊎_, ⊎-elim}
-use mathlib.Core.Bool.{true, false, true≢false}
+use mathlib.Core.Logic.{⊎-elim}
+use mathlib.Core.Bool.{Bool, true, false, true≢false}
 use native.Mathlib.Omega.{arith}
 use Rattle.theory.specs.Pool.{rightOf}
 use Rattle.theory.specs.Settled.{Settled}
@@ -15,8 +15,8 @@ use Rattle.places.specs.Count.{blocks, domainOf, addressOf, want}
 use Rattle.places.specs.Final.{old}
 use Rattle.places.proofs.NumberLaws.{number-first}
 use Rattle.targets.specs.declared.Paint.{Paint}
+use Rattle.plan.specs.Planning.{endOf}
 use Rattle.plan.specs.Aims.{aims}
-use Rattle.plan.specs.Edges.{firstOf, lastOf}
 use Rattle.plan.proofs.BlockRightsLaws.{wants-near, wants-plain}
 use Rattle.plan.proofs.MeetLaws.{RightsStay, Plain, meeting}
 
@@ -50,7 +50,7 @@ module _ (s : Shape) (d : ℕ) (paint : Paint) (P : ℕ → ℕ) (h i : ℕ) (hi
 
     -- Only the two ends of the region can be fresh.
     pub only-edges-fresh : want (aims s d paint P) h i ≡ true → old P h i ≡ false
-        → (i ≡ blocks h * d + firstOf h paint) ⊎ (i ≡ blocks h * d + lastOf h paint)
+        → (first : Bool) × (i ≡ blocks h * d + endOf h paint first)
     only-edges-fresh w o = ⊎-elim
         (λ same. absurd (true≢false (sym w ∙ stays-want same ∙ o)))
         (⊎-elim (λ pl. absurd (true≢false (sym w ∙ plain-want (paint .right) pl))) (λ x. x))

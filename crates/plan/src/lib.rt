@@ -1,19 +1,24 @@
 // The plan of a change, by value: the edges of the region, what they come to, and places for their new tables.
+// A height here is that of the tables that may stand for a block: 0 for pages, which may have leaves, 1 for blocks of
+// 4 MB, which may have middle tables.
 ghost use mathlib.Core.Path.{_≡_};
-ghost use Prim.Native.Nat.{ℕ, _+_, _*_, _/_, _%_, _<_, _≤_};
+ghost use Prim.Native.Nat.{ℕ, _+_, _*_, _<_, _≤_};
 ghost use lib.ListN.{length};
 ghost use Rattle.theory.specs.Pool.{words};
 ghost use Rattle.theory.specs.Settled.{Settled};
-ghost use Rattle.table.specs.Shape.{Fits};
+ghost use Rattle.table.specs.Shape.{InRange, Fits, places};
 ghost use Rattle.table.specs.Map.{formOf};
+ghost use Rattle.places.specs.Count.{heights, blocks};
 ghost use Rattle.census.specs.Census.{Owners};
+ghost use Rattle.plan.specs.Plan.{endsOf};
 ghost use Rattle.plan.specs.Planning.{Regular};
-ghost use Rattle.plan.specs.Edges.{PlansChange, edgeFor, edgeAt, entryAt, ReadableRoot, RootGives, draftOf};
-ghost use Rattle.plan.specs.Edges.{FirstFree, TakenIs, EndsGiven};
+ghost use Rattle.plan.specs.Edges.{PlansChange, EndsAre, edgeFor, edgeAt, endsAt, entryAt, ReadableRoot};
+ghost use Rattle.plan.specs.Edges.{RootGives, FirstFree, TakenIs, EndsGiven};
+use table::BIT_31;
 use table::Shape;
+use table::TABLE_WORDS;
 use targets::Paint;
 use targets::Target;
-use words::PoolWord;
 
 mod keeping; // keeping.rt: the places of tables that stay
 
@@ -29,15 +34,19 @@ pub struct Edge {
     pub last: u32,
 }
 
+// The edges of one height. Where the region begins and ends in one block, they are one.
+pub struct Ends {
+    pub first: Edge,
+    pub last: Edge,
+}
+
 // All that the stores of a change need to know. The blocks and pages between the two edges are covered whole; those
-// outside stay.
+// outside stay. An array of edges by height would not fit into the enums that carry a plan.
 pub struct Plan {
     pub domain: u32,
     pub paint: Paint,
-    pub first_block: Edge,
-    pub last_block: Edge,
-    pub first_page: Edge,
-    pub last_page: Edge,
+    pub blocks: Ends,
+    pub pages: Ends,
 }
 
 // The places of one height, each marked where a kept table stands.
@@ -51,9 +60,9 @@ pub enum Planning {
     NoRoom,
 }
 
-// The two edges of one height, once their new tables have places; or a new table finds none.
-pub enum Ends {
-    Both(Edge, Edge),
+// The edges of one height, once their new tables have places; or a new table finds none.
+pub enum Placing {
+    Both(Ends),
     Full,
 }
 
@@ -62,6 +71,18 @@ pub enum Ends {
 pub enum Taken {
     At(Edge, u32),
     None,
+}
+
+// The edges of a height.
+pub fn ends_of(plan: Plan, height: u32) -> Ends
+    ensures { λ r. ⌜ r ≡ endsOf plan height ⌝ }
+{
+    let blocks = plan.blocks;
+    let pages = plan.pages;
+    if height == 0 {
+        return pages;
+    }
+    blocks
 }
 
 // An edge before places are given out. A table that it had stays where it is.
@@ -75,7 +96,7 @@ fn edge_of(number: u32, old: u32, target: Target) -> Edge
             last: w,
         },
         Target::Mixed => {
-            if old < 0x8000_0000 {
+            if old < BIT_31 {
                 return Edge {
                     number,
                     old,
@@ -91,96 +112,79 @@ fn edge_of(number: u32, old: u32, target: Target) -> Edge
     }
 }
 
-// The root word of a block of a domain.
-fn root_word(domain: u32, block: u32) -> PoolWord
+// The root entry of a block.
+fn root_entry(pool: &[u32], domain: u32, block: u32) -> u32
+    requires { ⌜ ReadableRoot (now pool) domain ⌝ }
     requires { ⌜ (domain < 4) × (block < 1024) ⌝ }
-    ensures { λ r. ⌜ r ≡ record { 0 = 1024 * domain + block } ⌝ }
+    ensures { λ r. ⌜ r ≡ words (now (pool .entry)) (1024 * domain + block) ⌝ }
 {
-    let root = words::pool_word(1024 * domain);
-    words::word_after(root, block as usize)
+    let word = table::root_word(domain, block);
+    let at = words::pool_index(word);
+    pool[at]
 }
 
-fn block_edge(pool: &[u32], domain: u32, paint: Paint, n: u32) -> Edge
+// The entry of a block; of a page in a block of eight rights, the eight rights that stand for it.
+fn old_entry(pool: &[u32], height: u32, domain: u32, n: u32) -> u32
     requires { ⌜ ReadableRoot (now pool) domain ⌝ }
-    requires { ⌜ (domain < 4) × (n < 1024) × (paint .right < 4) ⌝ }
-    ensures { λ r. ⌜ ((R : ℕ → ℕ) → RootGives (words (now (pool .entry))) domain R
-        → r ≡ edgeAt (words (now (pool .entry))) domain paint R 1 n) ⌝ }
+    requires { ⌜ (height < heights) × (domain < 4) × (n < blocks height) ⌝ }
+    ensures { λ r. ⌜ r ≡ entryAt (words (now (pool .entry))) height domain n ⌝ }
 {
-    let word = root_word(domain, n);
-    let at = words::pool_index(word);
-    let old = pool[at];
-    let target = targets::block_target(pool, paint, old, n);
+    if height == 1 {
+        return root_entry(pool, domain, n);
+    }
+    let root = root_entry(pool, domain, n / TABLE_WORDS);
+    if root < BIT_31 {
+        let table = words::pool_word(root);
+        let page = words::word_after(table, (n % TABLE_WORDS) as usize);
+        let k = words::pool_index(page);
+        return pool[k];
+    }
+    targets::virtual_entry(1, root, n)
+}
+
+// The edge of a block, before places are given out.
+fn edge_at(pool: &[u32], height: u32, domain: u32, paint: Paint, n: u32) -> Edge
+    requires { ⌜ ReadableRoot (now pool) domain ⌝ }
+    requires { ⌜ (height < heights) × (domain < 4) × (n < blocks height) × (paint .right < 4) ⌝ }
+    ensures { λ r. ⌜ ((R : ℕ → ℕ) → RootGives (words (now (pool .entry))) domain R
+        → r ≡ edgeAt (words (now (pool .entry))) domain paint R height n) ⌝ }
+{
+    let old = old_entry(pool, height, domain, n);
+    let target = targets::entry_target(pool, paint, height + 1, old, n);
     edge_of(n, old, target)
 }
 
-// The edge of the last block: that of the first where they are one, since the search of a block is the longest part
-// of planning.
-fn last_block_edge(pool: &[u32], domain: u32, paint: Paint, first: Edge, n: u32) -> Edge
+// The last edge: the first one where they are one, since the search of a block is the longest part of planning.
+fn last_edge(pool: &[u32], height: u32, domain: u32, paint: Paint, first: Edge, n: u32) -> Edge
     requires { ⌜ ReadableRoot (now pool) domain ⌝ }
-    requires { ⌜ (domain < 4) × (n < 1024) × (paint .right < 4) ⌝ }
+    requires { ⌜ (height < heights) × (domain < 4) × (n < blocks height) × (paint .right < 4) ⌝ }
     ensures { λ r. ⌜ ((R : ℕ → ℕ) → RootGives (words (now (pool .entry))) domain R
-        → first ≡ edgeAt (words (now (pool .entry))) domain paint R 1 (first .number)
-        → r ≡ edgeAt (words (now (pool .entry))) domain paint R 1 n) ⌝ }
+        → first ≡ edgeAt (words (now (pool .entry))) domain paint R height (first .number)
+        → r ≡ edgeAt (words (now (pool .entry))) domain paint R height n) ⌝ }
 {
     let number = first.number;
     if n == number {
         return first;
     }
-    block_edge(pool, domain, paint, n)
+    edge_at(pool, height, domain, paint, n)
 }
 
-// The entry of a page; in a block of eight rights, the eight rights that stand for it.
-fn page_entry(pool: &[u32], domain: u32, n: u32) -> u32
+// The edges of a height before places are given out: where a new table is wanted, its pointer waits.
+fn draft_ends(pool: &[u32], height: u32, domain: u32, paint: Paint) -> Ends
     requires { ⌜ ReadableRoot (now pool) domain ⌝ }
-    requires { ⌜ (domain < 4) × (n < 1048576) ⌝ }
-    ensures { λ r. ⌜ r ≡ entryAt (words (now (pool .entry))) 0 domain n ⌝ }
-{
-    let word = root_word(domain, n / 1024);
-    let at = words::pool_index(word);
-    let root = pool[at];
-    if root < 0x8000_0000 {
-        let table = words::pool_word(root);
-        let page = words::word_after(table, (n % 1024) as usize);
-        let k = words::pool_index(page);
-        return pool[k];
-    }
-    targets::virtual_entry(root, n)
-}
-
-fn page_edge(pool: &[u32], domain: u32, paint: Paint, n: u32) -> Edge
-    requires { ⌜ ReadableRoot (now pool) domain ⌝ }
-    requires { ⌜ (domain < 4) × (n < 1048576) × (paint .right < 4) ⌝ }
-    ensures { λ r. ⌜ ((R : ℕ → ℕ) → RootGives (words (now (pool .entry))) domain R
-        → r ≡ edgeAt (words (now (pool .entry))) domain paint R 0 n) ⌝ }
-{
-    let old = page_entry(pool, domain, n);
-    let target = targets::page_target(pool, paint, old, n);
-    edge_of(n, old, target)
-}
-
-// The plan before places are given out: where a new table is wanted, its pointer waits.
-fn draft_plan(pool: &[u32], domain: u32, paint: Paint) -> Plan
-    requires { ⌜ ReadableRoot (now pool) domain ⌝ }
-    requires { ⌜ domain < 4 ⌝ }
+    requires { ⌜ (height < heights) × (domain < 4) ⌝ }
     requires { ⌜ Regular paint ⌝ }
     ensures { λ r. ⌜ ((R : ℕ → ℕ) → RootGives (words (now (pool .entry))) domain R
-        → r ≡ draftOf (words (now (pool .entry))) domain paint R) ⌝ }
+        → r ≡ endsAt (words (now (pool .entry))) domain paint R height) ⌝ }
 {
     let lo = paint.lo;
     let hi = paint.hi;
-    let end = hi - 1;
-    let first_block = block_edge(pool, domain, paint, lo / 1048576);
-    let last_block = last_block_edge(pool, domain, paint, first_block, end / 1048576);
-    let first_page = page_edge(pool, domain, paint, lo / 1024);
-    let last_page = page_edge(pool, domain, paint, end / 1024);
-    Plan {
-        domain,
-        paint,
-        first_block,
-        last_block,
-        first_page,
-        last_page,
-    }
+    let long = table::block_words(height + 1);
+    let begin = lo / long;
+    let end = (hi - 1) / long;
+    let first = edge_at(pool, height, domain, paint, begin);
+    let last = last_edge(pool, height, domain, paint, first, end);
+    Ends { first, last }
 }
 
 // The first place from `from` on that is not marked, or `to`.
@@ -199,25 +203,28 @@ fn next_free(kept: Marks, from: u32, to: u32) -> u32
     p
 }
 
-// A new table takes the lowest place from `from` on that no kept table has. The `count` places are of `long` words,
-// and the first begins at `base`.
-fn take_place(kept: Marks, from: u32, count: u32, base: PoolWord, long: u32, edge: Edge) -> Taken
-    requires { ⌜ (from ≤ count) × (count ≤ 64) × (base .0 ≤ 12288) × (long ≤ 1024) ⌝ }
-    ensures { λ r. ⌜ TakenIs (kept .on) from count (base .0) long edge r ⌝ }
+// A new table takes the lowest place of its height, from `from` on, that no kept table has.
+fn take_place(kept: Marks, shape: Shape, height: u32, from: u32, edge: Edge) -> Taken
+    requires { ⌜ InRange shape ⌝ }
+    requires { ⌜ from ≤ places shape height ⌝ }
+    ensures { λ r. ⌜ TakenIs (kept .on) from shape height edge r ⌝ }
 {
     let number = edge.number;
     let old = edge.old;
     let last = edge.last;
-    if last >= 0x8000_0000 {
+    if last >= BIT_31 {
         return Taken::At(edge, from);
     }
-    if old < 0x8000_0000 {
+    if old < BIT_31 {
         return Taken::At(edge, from);
     }
+    let count = table::places_of(shape, height);
     let place = next_free(kept, from, count);
     if place == count {
         return Taken::None;
     }
+    let base = table::first_place(shape, height);
+    let long = table::size_of(height);
     let table = words::word_after(base, (long * place) as usize);
     let pointer = words::entry_of(table);
     let placed = Edge {
@@ -229,30 +236,52 @@ fn take_place(kept: Marks, from: u32, count: u32, base: PoolWord, long: u32, edg
     Taken::At(placed, next)
 }
 
-// Places for the new tables of one height, in the order of their blocks. Where the region begins and ends in one
-// block, its edges are one.
-fn place_ends(kept: Marks, count: u32, base: PoolWord, long: u32, first: Edge, last: Edge) -> Ends
-    requires { ⌜ (count ≤ 64) × (base .0 ≤ 12288) × (long ≤ 1024) ⌝ }
-    ensures { λ r. ⌜ EndsGiven (kept .on) count (base .0) long first last r ⌝ }
+// Places for the new tables of one height, in the order of their blocks.
+fn place_ends(kept: Marks, shape: Shape, height: u32, ends: Ends) -> Placing
+    requires { ⌜ InRange shape ⌝ }
+    ensures { λ r. ⌜ EndsGiven (kept .on) shape height ends r ⌝ }
 {
+    let first = ends.first;
+    let last = ends.last;
     let f = first.number;
     let l = last.number;
-    let one = take_place(kept, 0, count, base, long, first);
+    let one = take_place(kept, shape, height, 0, first);
     let Taken::At(a, next) = one else {
-        return Ends::Full;
+        return Placing::Full;
     };
     if f == l {
-        return Ends::Both(a, a);
+        return Placing::Both(Ends { first: a, last: a });
     }
-    let two = take_place(kept, next, count, base, long, last);
+    let two = take_place(kept, shape, height, next, last);
     let Taken::At(b, _) = two else {
-        return Ends::Full;
+        return Placing::Full;
     };
-    Ends::Both(a, b)
+    Placing::Both(Ends { first: a, last: b })
 }
 
-// The plan of a change, before its first store: which entries it ends with, and where its new tables stand. Places
-// that the change gives up count as free; a place that a table of any domain keeps does not.
+// The edges of a height, with places for their new tables. Places that the change gives up count as free; a place
+// that a table of any domain keeps does not.
+fn plan_ends(
+    pool: &[u32],
+    shape: Shape,
+    owners: &[u32],
+    height: u32,
+    domain: u32,
+    paint: Paint,
+) -> Placing
+    requires { ⌜ Fits shape (length (now pool)) ⌝ }
+    requires { ⌜ Settled (formOf shape) (words (now pool)) ⌝ }
+    requires { ⌜ Owners (now pool) shape (now owners) ⌝ }
+    requires { ⌜ (height < heights) × (domain < shape .domains) ⌝ }
+    requires { ⌜ Regular paint ⌝ }
+    ensures { λ r. ⌜ EndsAre shape domain paint (words (now (pool .entry))) height r ⌝ }
+{
+    let drafted = draft_ends(pool, height, domain, paint);
+    let kept = keeping::kept_places(owners, shape, height, domain, drafted);
+    place_ends(kept, shape, height, drafted)
+}
+
+// The plan of a change, before its first store: which entries it ends with, and where its new tables stand.
 pub fn plan_change(
     pool: &[u32],
     shape: Shape,
@@ -267,33 +296,19 @@ pub fn plan_change(
     requires { ⌜ Regular paint ⌝ }
     ensures { λ r. ⌜ PlansChange shape domain paint (words (now (pool .entry))) r ⌝ }
 {
-    let domains = shape.domains;
-    let middles = shape.middles;
-    let leaves = shape.leaves;
-    let first_middle = words::pool_word(1024 * domains);
-    let first_leaf = words::pool_word(1024 * domains + 1024 * middles);
-    let draft = draft_plan(pool, domain, paint);
-    let first_block = draft.first_block;
-    let last_block = draft.last_block;
-    let first_page = draft.first_page;
-    let last_page = draft.last_page;
-    let kept = keeping::kept_places(owners, 1, middles, domain, first_block, last_block);
-    let at_blocks = place_ends(kept, middles, first_middle, 1024, first_block, last_block);
-    let Ends::Both(a, b) = at_blocks else {
+    let at_blocks = plan_ends(pool, shape, owners, 1, domain, paint);
+    let Placing::Both(blocks) = at_blocks else {
         return Planning::NoRoom;
     };
-    let kept_too = keeping::kept_places(owners, 0, leaves, domain, first_page, last_page);
-    let at_pages = place_ends(kept_too, leaves, first_leaf, 64, first_page, last_page);
-    let Ends::Both(c, e) = at_pages else {
+    let at_pages = plan_ends(pool, shape, owners, 0, domain, paint);
+    let Placing::Both(pages) = at_pages else {
         return Planning::NoRoom;
     };
     let plan = Plan {
         domain,
         paint,
-        first_block: a,
-        last_block: b,
-        first_page: c,
-        last_page: e,
+        blocks,
+        pages,
     };
     Planning::Ready(plan)
 }

@@ -17,7 +17,7 @@ use Rattle.table.specs.Shape.{Fits, firstPlace, places, size}
 use Rattle.table.specs.Map.{block, part, parts, index, leads, formOf}
 use Rattle.table.proofs.FormLaws.{leads-place, good-eight}
 use Rattle.table.proofs.FormLaws as FormLaws
-use Rattle.targets.specs.Targets.{given, Gives, GivesLeaf, Readable}
+use Rattle.targets.specs.Targets.{virtualOf, given, Gives, GivesLeaf, Readable}
 use Rattle.targets.proofs.GivenLaws.{given-leads, given-rights, gives-down, gives-leaf}
 
 module _ (s : Shape) (P : ℕ → ℕ) where
@@ -41,7 +41,7 @@ module _ (P : ℕ → ℕ) (R : ℕ → ℕ) (e n : ℕ) where
 
   -- .. and one that is rights: so does the page's virtual entry.
   pub virtual-gives : (page : ℕ) → leads 2 e ≡ false → page / 1024 ≡ n → Gives P 2 e n R
-      → Gives P 1 (eightOf (rightAt e (page / 128 % 8))) page R
+      → Gives P 1 (virtualOf 1 e page) page R
   virtual-gives page l q g a p =
       let o = rightAt e (page / 128 % 8) in
       let any-shape : Shape = record { domains = 1; middles = 0; leaves = 0 } in

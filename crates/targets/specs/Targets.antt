@@ -9,7 +9,7 @@ use Rattle.words.specs.Rights.{rightAt, goodRights}
 use Rattle.words.specs.Region.{covered}
 use Rattle.table.specs.Shape.{size}
 use Rattle.table.specs.Map.{addresses, block, part, parts, index, leads}
-use Rattle.table.specs.Wants.{wantsOf, saidOf}
+use Rattle.table.specs.Wants.{wantsOf, saidOf, sameOf}
 use Rattle.targets.specs.declared.Paint.{Paint}
 use Rattle.targets.specs.declared.Target.{Target}
 use Rattle.targets.specs.declared.Target.the-variants.{Says, Mixed}
@@ -23,6 +23,11 @@ painted p R a = cond (covered (region p) a) (p .right) (R a)
 -- wanted, else rights.
 abbrev pub targetOf : (ℕ → ℕ) → ℕ → ℕ → Target
 targetOf R h a = cond (wantsOf R h a) Mixed (Says (saidOf R h a))
+
+-- The entry of height `h` that stands for block `n` where there is no table: the right that the entry `e` above has
+-- for it.
+abbrev pub virtualOf : ℕ → ℕ → ℕ → ℕ
+virtualOf h e n = sameOf h (rightAt e (n / (size h / 8) % 8))
 
 -- How many blocks there are that an entry of a height may have.
 abbrev pub entryBlocks : ℕ → ℕ

@@ -8,7 +8,8 @@ ghost use Rattle.words.specs.Rights.{rightAt, pack, eightOf};
 ghost use Rattle.table.specs.Shape.{size};
 ghost use Rattle.table.specs.Map.{block, parts};
 ghost use Rattle.table.specs.Wants.{wordsIn, above, saidOf};
-ghost use Rattle.targets.specs.Targets.{entryBlocks, painted, targetOf, given, Gives, GivesLeaf, Readable};
+ghost use Rattle.targets.specs.Targets.{entryBlocks, painted, targetOf, virtualOf, given, Gives, GivesLeaf};
+ghost use Rattle.targets.specs.Targets.{Readable};
 ghost use Rattle.targets.specs.Steps.{CoverIs, rightAfter, Plain, OneIs, PartIs, GoodRights, SaysIs, ToldIs};
 
 mod leaves; // leaves.rt: whether a leaf as it stands has two rights in a sub-block
@@ -344,7 +345,7 @@ fn search(pool: &[u32], paint: Paint, below: u32, e: u32, n: u32) -> Target
 
 // What the entry of the block numbered `n` should be after the painting, where it is `e`. This, `search` and `part`
 // call each other, the height falling.
-fn entry_target(pool: &[u32], paint: Paint, height: u32, e: u32, n: u32) -> Target
+pub fn entry_target(pool: &[u32], paint: Paint, height: u32, e: u32, n: u32) -> Target
     requires { ⌜ Readable (now pool) height e ⌝ }
     requires { ⌜ (height ≤ 2) × (n < entryBlocks height) × (paint .right < 4) ⌝ }
     ensures { λ r. ⌜ ((R : ℕ → ℕ) → Gives (words (now (pool .entry))) height e n R
@@ -380,10 +381,13 @@ pub fn block_target(pool: &[u32], paint: Paint, e: u32, block: u32) -> Target
     entry_target(pool, paint, 2, e, block)
 }
 
-// The entry that a page would have, where its block's entry `e` is eight rights and there is no middle table.
-pub fn virtual_entry(e: u32, page: u32) -> u32
-    ensures { λ r. ⌜ r ≡ eightOf (rightAt e (page / 128 % 8)) ⌝ }
+// The entry of a height that would stand for block `n`, where the entry `e` above it is eight rights and there is no
+// table.
+pub fn virtual_entry(height: u32, e: u32, n: u32) -> u32
+    ensures { λ r. ⌜ r ≡ virtualOf height e n ⌝ }
 {
-    let right = words::right_at(e, page / 128 % 8);
-    words::eight_of(right)
+    let entries = part_entries(height);
+    let i = n / entries % 8;
+    let right = words::right_at(e, i);
+    table::same_entry(height, right)
 }

@@ -1,10 +1,11 @@
--- `change::final_word` meets its contract: by the root, by the tables of the four edges, or as it is.
-use Prim.Native.Nat.{_*_}
+-- `change::final_word` meets its contract.
+use Prim.Native.Nat.{_+_, _*_, _-_, _≤_, _<_}
 use mathlib.Core.Path.{_≡_, refl, sym, ap, _∙_}
+use mathlib.Core.Bool.{true, false}
 use native.Mathlib.Omega.{arith}
-use Rattle.plan.specs.Plan.{after, InTable}
-use Rattle.change.proofs.TableLaws.{in-within, table-within}
 use borrow.Author.Needs.{needs}
+use Rattle.plan.specs.Plan.{InTable, entryAfter, after}
+use Rattle.change.proofs.TableLaws.{in-within, edge-below}
 use Rattle.change.proofs.final_word.Statement.{statement}
 use Rattle.change.proofs.final_word.Tie as tie
 
@@ -13,6 +14,9 @@ mul-pool-word c = search needs
 
 pool-word-requires : tie.Need-pool-word-requires
 pool-word-requires c κs = search needs
+
+cast-in-table : tie.Need-cast-in-table
+cast-in-table c = search needs
 
 -- What the first test says: whether the word is of the root.
 root-test : (c : tie.After-in-table) → let a = c .before .before .before .args in
@@ -24,180 +28,157 @@ in-table-requires c κs =
     let e = ap (λ w. w .0) (c .pool-word .ensures) in
     omega (arith, c .before .before .pre .domain)
 
-entry-number-requires : tie.Need-entry-number-requires
-entry-number-requires c κs =
+-- A word of the root.
+of-root : (c : tie.Then1) → let a = c .before .before .before .before .args in
+    (c .before .before .pool-word .result .0 ≡ 1024 * a .plan .domain)
+    × (1024 * a .plan .domain ≤ a .k .0) × (a .k .0 < 1024 * a .plan .domain + 1024)
+of-root c =
     let a = c .before .before .before .before .args in
-    let e = ap (λ w. w .0) (c .before .before .pool-word .ensures) in
-    let z = in-within (1024 * a .plan .domain) 1024 (a .k .0) (sym (root-test (c .before)) ∙ c .if1 .taken) in
-    (omega (arith, z .0), omega (arith, z .1))
+    let (x, y) = in-within (1024 * a .plan .domain) 1024 (a .k .0) (sym (root-test (c .before)) ∙ c .if1 .taken) in
+    (ap (λ w. w .0) (c .before .before .pool-word .ensures), x, y)
 
-root-after-requires : tie.Need-root-after-requires
-root-after-requires c κs = search needs
+entry-number-requires : tie.Need-entry-number-requires
+entry-number-requires c κs = let (e, x, y) = of-root c in (omega arith, omega arith)
+
+entry-after-requires : tie.Need-entry-after-requires
+entry-after-requires c κs =
+    let (e, x, y) = of-root (c .before) in
+    let z = c .entry-number .ensures in
+    (c .before .before .before .before .before .pre .region .right, omega arith)
 
 returns : tie.Need-returns
 unfolding after
 returns c =
-    let e = ap (λ w. w .0) (c .before .before .before .before .pool-word .ensures) in
-    rw (sym (root-test (c .before .before .before)) ∙ c .before .before .if1 .taken)
-    (c .root-after .ensures ∙ rw (c .before .entry-number .ensures, e))
+    let t = c .before .before in
+    let a = t .before .before .before .before .args in
+    rw (sym (root-test (t .before)) ∙ t .if1 .taken)
+    (c .entry-after .ensures ∙ ap (λ n. entryAfter (a .plan) 2 n (a .x))
+    (c .before .entry-number .ensures ∙ ap (λ r. a .k .0 - r) (of-root t .0)))
 
 of-table-requires : tie.Need-of-table-requires
 of-table-requires c κs = search needs
 
-table-entry-requires : tie.Need-table-entry-requires
-table-entry-requires c κs =
+table-after-requires : tie.Need-table-after-requires
+table-after-requires c κs =
     let t1 = c .before in
-    let t0 = t1 .before .before .before in
-    let a = t0 .before .before .before .args in
-    let z = table-within (a .plan .«first_block») 1024 (a .k .0) (sym (t1 .of-table .ensures) ∙ c .if2 .taken) in
-    (z .0, omega (arith, z .1))
-
-page-after-requires : tie.Need-page-after-requires
-page-after-requires c κs =
-    let t1 = c .before .before in
-    let t0 = t1 .before .before .before in
-    let s = t0 .before .before .before in
-    let e = sym (t1 .of-table .ensures) ∙ c .before .if2 .taken in
-    let z = table-within (s .args .plan .«first_block») 1024 (s .args .k .0) e in
-    (s .pre .right, s .pre .first-block, omega (arith, z .0, z .1, c .table-entry .ensures))
+    let s = t1 .before .before .before .before .before .before .before in (
+      (s .pre .region .right, omega arith),
+      (edge-below (s .args .plan) (s .pre) 1 (omega arith) true, sym (t1 .of-table .ensures) ∙ c .if2 .taken),
+    )
 
 returns-2 : tie.Need-returns-2
 unfolding after
 returns-2 c =
-    let t1 = c .before .before .before in
-    let t0 = t1 .before .before .before in
+    let t1 = c .before .before in
+    let e1 = t1 .before .before .before in
     rw (
-      sym (root-test t0) ∙ t1 .before .before .if1 .left,
-      sym (t1 .of-table .ensures) ∙ c .before .before .if2 .taken,
-    ) (c .page-after .ensures ∙ rw (c .before .table-entry .ensures))
+      sym (root-test (e1 .before)) ∙ e1 .if1 .left,
+      sym (t1 .of-table .ensures) ∙ c .before .if2 .taken,
+    ) (c .table-after .ensures)
 
 of-table-requires-2 : tie.Need-of-table-requires-2
 of-table-requires-2 c κs = search needs
 
-table-entry-requires-2 : tie.Need-table-entry-requires-2
-table-entry-requires-2 c κs =
+table-after-requires-2 : tie.Need-table-after-requires-2
+table-after-requires-2 c κs =
     let t2 = c .before in
     let t1 = t2 .before .before .before in
-    let t0 = t1 .before .before .before in
-    let a = t0 .before .before .before .args in
-    let z = table-within (a .plan .«last_block») 1024 (a .k .0) (sym (t2 .of-table2 .ensures) ∙ c .if3 .taken) in
-    (z .0, omega (arith, z .1))
-
-page-after-requires-2 : tie.Need-page-after-requires-2
-page-after-requires-2 c κs =
-    let t2 = c .before .before in
-    let t1 = t2 .before .before .before in
-    let t0 = t1 .before .before .before in
-    let s = t0 .before .before .before in
-    let e = sym (t2 .of-table2 .ensures) ∙ c .before .if3 .taken in
-    let z = table-within (s .args .plan .«last_block») 1024 (s .args .k .0) e in
-    (s .pre .right, s .pre .last-block, omega (arith, z .0, z .1, c .table-entry2 .ensures))
+    let s = t1 .before .before .before .before .before .before .before in (
+      (s .pre .region .right, omega arith),
+      (edge-below (s .args .plan) (s .pre) 1 (omega arith) false, sym (t2 .of-table2 .ensures) ∙ c .if3 .taken),
+    )
 
 returns-3 : tie.Need-returns-3
 unfolding after
 returns-3 c =
-    let t2 = c .before .before .before in
-    let t1 = t2 .before .before .before in
-    let t0 = t1 .before .before .before in
+    let t2 = c .before .before in
+    let e2 = t2 .before .before in
+    let t1 = e2 .before in
+    let e1 = t1 .before .before .before in
     rw (
-      sym (root-test t0) ∙ t1 .before .before .if1 .left,
-      sym (t1 .of-table .ensures) ∙ t2 .before .before .if2 .left,
-      sym (t2 .of-table2 .ensures) ∙ c .before .before .if3 .taken,
-    ) (c .page-after2 .ensures ∙ rw (c .before .table-entry2 .ensures))
+      sym (root-test (e1 .before)) ∙ e1 .if1 .left,
+      sym (t1 .of-table .ensures) ∙ e2 .if2 .left,
+      sym (t2 .of-table2 .ensures) ∙ c .before .if3 .taken,
+    ) (c .table-after2 .ensures)
 
 of-table-requires-3 : tie.Need-of-table-requires-3
 of-table-requires-3 c κs = search needs
 
-table-entry-requires-3 : tie.Need-table-entry-requires-3
-table-entry-requires-3 c κs =
+table-after-requires-3 : tie.Need-table-after-requires-3
+table-after-requires-3 c κs =
     let t3 = c .before in
-    let t2 = t3 .before .before .before in
+    let t2 = t3 .before .before .before .before in
     let t1 = t2 .before .before .before in
-    let t0 = t1 .before .before .before in
-    let a = t0 .before .before .before .args in
-    let z = table-within (a .plan .«first_page») 64 (a .k .0) (sym (t3 .of-table3 .ensures) ∙ c .if4 .taken) in
-    (z .0, omega (arith, z .1))
-
-leaf-after-requires : tie.Need-leaf-after-requires
-leaf-after-requires c κs =
-    let t3 = c .before .before in
-    let t2 = t3 .before .before .before in
-    let t1 = t2 .before .before .before in
-    let t0 = t1 .before .before .before in
-    let s = t0 .before .before .before in
-    let e = sym (t3 .of-table3 .ensures) ∙ c .before .if4 .taken in
-    let z = table-within (s .args .plan .«first_page») 64 (s .args .k .0) e in
-    (s .pre .right, s .pre .first-page, omega (arith, z .0, z .1, c .table-entry3 .ensures))
+    let s = t1 .before .before .before .before .before .before .before in (
+      (s .pre .region .right, omega arith),
+      (edge-below (s .args .plan) (s .pre) 0 (omega arith) true, sym (t3 .of-table3 .ensures) ∙ c .if4 .taken),
+    )
 
 returns-4 : tie.Need-returns-4
 unfolding after
 returns-4 c =
-    let t3 = c .before .before .before in
-    let t2 = t3 .before .before .before in
-    let t1 = t2 .before .before .before in
-    let t0 = t1 .before .before .before in
+    let t3 = c .before .before in
+    let e3 = t3 .before .before .before in
+    let t2 = e3 .before in
+    let e2 = t2 .before .before in
+    let t1 = e2 .before in
+    let e1 = t1 .before .before .before in
     rw (
-      sym (root-test t0) ∙ t1 .before .before .if1 .left,
-      sym (t1 .of-table .ensures) ∙ t2 .before .before .if2 .left,
-      sym (t2 .of-table2 .ensures) ∙ t3 .before .before .if3 .left,
-      sym (t3 .of-table3 .ensures) ∙ c .before .before .if4 .taken,
-    ) (c .leaf-after .ensures ∙ rw (c .before .table-entry3 .ensures))
+      sym (root-test (e1 .before)) ∙ e1 .if1 .left,
+      sym (t1 .of-table .ensures) ∙ e2 .if2 .left,
+      sym (t2 .of-table2 .ensures) ∙ e3 .if3 .left,
+      sym (t3 .of-table3 .ensures) ∙ c .before .if4 .taken,
+    ) (c .table-after3 .ensures)
 
 of-table-requires-4 : tie.Need-of-table-requires-4
 of-table-requires-4 c κs = search needs
 
-table-entry-requires-4 : tie.Need-table-entry-requires-4
-table-entry-requires-4 c κs =
+table-after-requires-4 : tie.Need-table-after-requires-4
+table-after-requires-4 c κs =
     let t4 = c .before in
     let t3 = t4 .before .before .before in
-    let t2 = t3 .before .before .before in
+    let t2 = t3 .before .before .before .before in
     let t1 = t2 .before .before .before in
-    let t0 = t1 .before .before .before in
-    let a = t0 .before .before .before .args in
-    let z = table-within (a .plan .«last_page») 64 (a .k .0) (sym (t4 .of-table4 .ensures) ∙ c .if5 .taken) in
-    (z .0, omega (arith, z .1))
-
-leaf-after-requires-2 : tie.Need-leaf-after-requires-2
-leaf-after-requires-2 c κs =
-    let t4 = c .before .before in
-    let t3 = t4 .before .before .before in
-    let t2 = t3 .before .before .before in
-    let t1 = t2 .before .before .before in
-    let t0 = t1 .before .before .before in
-    let s = t0 .before .before .before in
-    let e = sym (t4 .of-table4 .ensures) ∙ c .before .if5 .taken in
-    let z = table-within (s .args .plan .«last_page») 64 (s .args .k .0) e in
-    (s .pre .right, s .pre .last-page, omega (arith, z .0, z .1, c .table-entry4 .ensures))
+    let s = t1 .before .before .before .before .before .before .before in (
+      (s .pre .region .right, omega arith),
+      (edge-below (s .args .plan) (s .pre) 0 (omega arith) false, sym (t4 .of-table4 .ensures) ∙ c .if5 .taken),
+    )
 
 returns-5 : tie.Need-returns-5
 unfolding after
 returns-5 c =
-    let t4 = c .before .before .before in
-    let t3 = t4 .before .before .before in
-    let t2 = t3 .before .before .before in
-    let t1 = t2 .before .before .before in
-    let t0 = t1 .before .before .before in
+    let t4 = c .before .before in
+    let e4 = t4 .before .before in
+    let t3 = e4 .before in
+    let e3 = t3 .before .before .before in
+    let t2 = e3 .before in
+    let e2 = t2 .before .before in
+    let t1 = e2 .before in
+    let e1 = t1 .before .before .before in
     rw (
-      sym (root-test t0) ∙ t1 .before .before .if1 .left,
-      sym (t1 .of-table .ensures) ∙ t2 .before .before .if2 .left,
-      sym (t2 .of-table2 .ensures) ∙ t3 .before .before .if3 .left,
-      sym (t3 .of-table3 .ensures) ∙ t4 .before .before .if4 .left,
-      sym (t4 .of-table4 .ensures) ∙ c .before .before .if5 .taken,
-    ) (c .leaf-after2 .ensures ∙ rw (c .before .table-entry4 .ensures))
+      sym (root-test (e1 .before)) ∙ e1 .if1 .left,
+      sym (t1 .of-table .ensures) ∙ e2 .if2 .left,
+      sym (t2 .of-table2 .ensures) ∙ e3 .if3 .left,
+      sym (t3 .of-table3 .ensures) ∙ e4 .if4 .left,
+      sym (t4 .of-table4 .ensures) ∙ c .before .if5 .taken,
+    ) (c .table-after4 .ensures)
 
 returns-6 : tie.Need-returns-6
 unfolding after
 returns-6 c =
     let t4 = c .before in
-    let t3 = t4 .before .before .before in
-    let t2 = t3 .before .before .before in
-    let t1 = t2 .before .before .before in
-    let t0 = t1 .before .before .before in
+    let e4 = t4 .before .before in
+    let t3 = e4 .before in
+    let e3 = t3 .before .before .before in
+    let t2 = e3 .before in
+    let e2 = t2 .before .before in
+    let t1 = e2 .before in
+    let e1 = t1 .before .before .before in
     rw (
-      sym (root-test t0) ∙ t1 .before .before .if1 .left,
-      sym (t1 .of-table .ensures) ∙ t2 .before .before .if2 .left,
-      sym (t2 .of-table2 .ensures) ∙ t3 .before .before .if3 .left,
-      sym (t3 .of-table3 .ensures) ∙ t4 .before .before .if4 .left,
+      sym (root-test (e1 .before)) ∙ e1 .if1 .left,
+      sym (t1 .of-table .ensures) ∙ e2 .if2 .left,
+      sym (t2 .of-table2 .ensures) ∙ e3 .if3 .left,
+      sym (t3 .of-table3 .ensures) ∙ e4 .if4 .left,
       sym (t4 .of-table4 .ensures) ∙ c .if5 .left,
     ) refl
 
@@ -207,24 +188,21 @@ final-word-spec =
     (tie.spec
     mul-pool-word
     pool-word-requires
+    cast-in-table
     in-table-requires
     entry-number-requires
-    root-after-requires
+    entry-after-requires
     returns
     of-table-requires
-    table-entry-requires
-    page-after-requires
+    table-after-requires
     returns-2
     of-table-requires-2
-    table-entry-requires-2
-    page-after-requires-2
+    table-after-requires-2
     returns-3
     of-table-requires-3
-    table-entry-requires-3
-    leaf-after-requires
+    table-after-requires-3
     returns-4
     of-table-requires-4
-    table-entry-requires-4
-    leaf-after-requires-2
+    table-after-requires-4
     returns-5
     returns-6)

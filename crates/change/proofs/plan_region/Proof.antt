@@ -1,6 +1,7 @@
 -- `change::plan_region` meets its contract.
 use mathlib.Core.Path.{sym, _∙_}
 use mathlib.Core.Bool.{true≢false}
+use native.Mathlib.Omega.{arith}
 use borrow.Author.Needs.{needs}
 use borrow.Author.Tests.{not-true, not-false}
 use Rattle.theory.specs.Pool.{words}
@@ -77,11 +78,13 @@ returns-3 c =
 returns-4 : tie.Need-returns-4
 returns-4 c =
     let k = c .before .before .before in
-    let s = k .before .before .before .before .before .before .before .before .before .before in
+    let known = k .before .before .before .before .before .before .before .before .before in
+    let s = known .before in
     let a = s .args in
     let t = settled-here (k .before) in (
       t,
-      plan-ready (a .pool .now) (a .shape) (a .domain) (a .paint) _ (s .pre .0) t (s .pre .1 .0) (s .pre .1 .1)
+      plan-ready (a .pool .now) (a .shape) (a .domain) (a .paint) _ (s .pre .0) t
+          (λ i. omega (arith, known .shared-slice-known .given i)) (s .pre .1 .0) (s .pre .1 .1)
           (planning-ready (a .pool .now) (a .shape) (a .domain) (a .paint) _ _ (k .plan-change .ensures)
           (c .before .planning .given .1)),
     )

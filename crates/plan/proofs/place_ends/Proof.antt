@@ -18,19 +18,19 @@ enum-told c = search needs
 returns : tie.Need-returns
 returns c =
     let n = rw (c .enum-told .given .1) at (c .before .before .take-place .ensures) in
-    λ s d paint P h G. given-none G n
+    λ d paint P G. given-none G n
 
 returns-2 : tie.Need-returns-2
 returns-2 c =
     let k = rw (c .before .before .one .given .1) at (c .before .before .before .before .take-place .ensures) in
-    λ s d paint P h G. given-one G _ _ (c .if1 .taken) k
+    λ d paint P G. given-one G _ _ (c .if1 .taken) k
 
 take-place-requires-2 : tie.Need-take-place-requires-2
 take-place-requires-2 c κs =
-    let s = c .before .before .before .before .before in
+    let s = c .before .before .before .before .before .before .before in
     let x = taken-low (omega arith) (rw (c .before .before .one .given .1)
     at (c .before .before .before .before .take-place .ensures)) in
-    (x, s .pre .0, s .pre .1, s .pre .2)
+    (s .pre, x)
 
 enum-known-two : tie.Need-enum-known-two
 enum-known-two c = search needs
@@ -43,14 +43,14 @@ returns-3 c =
     let e = c .before .before .before in
     let k = rw (e .before .before .one .given .1) at (e .before .before .before .before .take-place .ensures) in
     let l = rw (c .enum-told2 .given .1) at (c .before .before .take-place2 .ensures) in
-    λ s d paint P h G. given-second-none G _ _ (e .if1 .left) k l
+    λ d paint P G. given-second-none G _ _ (e .if1 .left) k l
 
 returns-4 : tie.Need-returns-4
 returns-4 c =
     let e = c .before .before .before .before in
     let k = rw (e .before .before .one .given .1) at (e .before .before .before .before .take-place .ensures) in
     let l = rw (c .before .two .given .1) at (c .before .before .before .take-place2 .ensures) in
-    λ s d paint P h G. given-two G _ _ _ _ (e .if1 .left) k l
+    λ d paint P G. given-two G _ _ _ _ (e .if1 .left) k l
 
 pub place-ends-spec : {M : Type 1} → statement M
 place-ends-spec =

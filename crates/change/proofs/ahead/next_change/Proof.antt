@@ -76,7 +76,6 @@ loop-again c =
       r .row .0,
       omega (arith, r .row .1),
       λ u y. r .comes (a .shape) u (a .pool .now) (sym end)
-          (λ j. omega (arith, l .before .before .shared-slice-known .given j))
           (in-none _ (c .before .enum-told .given .1) (c .before .before .before .next-in-row .ensures) u
           (l .loop .inv .2 u y)),
     )

@@ -1,5 +1,10 @@
 -- `ahead::next_new` meets its contract.
+use mathlib.Core.Bool.{Bool}
 use borrow.Author.Needs.{needs}
+use Rattle.places.proofs.HeightLaws.{each-height}
+use Rattle.plan.specs.Plan.{edgeOf}
+use Rattle.plan.proofs.AfterLaws.{each-end}
+use Rattle.change.specs.Ahead.{NotNew}
 use Rattle.change.proofs.AheadLaws.{ahead-as, ahead-both, new-idle}
 use Rattle.change.proofs.ahead.next_new.Statement.{statement}
 use Rattle.change.proofs.ahead.next_new.Tie as tie
@@ -18,9 +23,12 @@ near-new-requires-4 c κs = search needs
 
 returns : tie.Need-returns
 returns c =
+    let a = c .before .before .before .before .before .before .args in
     ahead-as (ahead-both (ahead-both (ahead-both (c .before .before .before .near-new .ensures)
     (c .before .before .near-new2 .ensures)) (c .before .near-new3 .ensures)) (c .near-new4 .ensures))
-    (λ j z. new-idle (c .before .before .before .before .args .plan) j (z .0 .0 .0) (z .0 .0 .1) (z .0 .1) (z .1))
+    (λ j z. new-idle (a .plan) j (each-height (λ h. (b : Bool) → NotNew h (edgeOf (a .plan) h b) j)
+    (each-end (λ b. NotNew 0 (edgeOf (a .plan) 0 b) j) (z .0 .1) (z .1))
+    (each-end (λ b. NotNew 1 (edgeOf (a .plan) 1 b) j) (z .0 .0 .0) (z .0 .0 .1))))
 
 pub next-new-spec : {M : Type 1} → statement M
 next-new-spec =

@@ -23,7 +23,7 @@ returns c =
       row = (omega arith, omega arith);
       last = omega arith;
       moves = omega arith;
-      comes = λ s u x e z y. row-turn s (a .plan) (a .at .phase) (a .at .past .0) x u y (omega (arith, c .if1 .taken));
+      comes = λ s u x e y. row-turn s (a .plan) (a .at .phase) (a .at .past .0) x u y (omega (arith, c .if1 .taken));
     }
 
 next-in-requires : tie.Need-next-in-requires
@@ -44,8 +44,7 @@ returns-2 c =
       row = (omega arith, omega arith);
       last = omega arith;
       moves = omega arith;
-      comes = λ s u x e z y. row-ahead s (a .plan) (a .at .phase) (a .at .past .0) x u y (row .from .0) z f
-          (r .passed);
+      comes = λ s u x e y. row-ahead s (a .plan) (a .at .phase) (a .at .past .0) x u y (row .from .0) f (r .passed);
     }
 
 returns-3 : tie.Need-returns-3
@@ -57,8 +56,8 @@ returns-3 c =
       row = (r .upto, omega arith);
       last = omega arith;
       moves = omega arith;
-      comes = λ s u x e z y. row-ahead s (a .plan) (a .at .phase) (a .at .past .0) x u y
-          (n .next-in .result .from .0) z f (r .passed);
+      comes = λ s u x e y. row-ahead s (a .plan) (a .at .phase) (a .at .past .0) x u y (n .next-in .result .from .0) f
+          (r .passed);
     }
 
 pub next-row-spec : {M : Type 1} → statement M
