@@ -183,7 +183,7 @@ WRONG = [
     ("plan", "return pool[k];", "return pool[root as usize];", "old_entry: pool[root as usize]"),
     ("census", "            let w = pool[k];", "            let w = pool[k + 1];", "table_check: pool[k + 1]"),
     ("targets", "let w = pool[from + j as usize];", "let w = pool[m + j as usize];", "part: pool[m + j as usize]"),
-    ("change/ahead", "table: PoolWord, k: PoolWord", "table: u32, k: PoolWord", "a bare number: table of near_entries"),
+    ("change/ahead", "    table: PoolWord,", "    table: u32,", "a bare number: table of near_entries"),
     ("plan", "    pub number: u32,", "    pub word: u32,", "a bare number: word of Edge"),
     ("change/ahead", "    pub past: PoolWord,", "    pub past: u32,", "a bare number: past of Span"),
     ("change/tidying", "base: PoolWord, i: u32", "base: u32, i: u32", "a bare number: base of target_at"),

@@ -12,8 +12,13 @@ ghost use Rattle.census.specs.Places.{maxPlaces, placeHeight, placeWord,
 ghost use Rattle.census.specs.Tally.{none, give, AllPlain, entryTally, tableTally, Answers, tables};
 ghost use Rattle.census.specs.Census.{Census};
 use table::Entry;
+use table::LEAF_WORDS;
 use table::Shape;
+use table::TABLE_WORDS;
 use words::PoolWord;
+
+// How many places there may be, middle and leaf.
+pub const PLACES: usize = 72;
 
 // The owner of a place where no table stands: a number that no block has.
 pub const NONE: u32 = 0xFFFF_FFFF;
@@ -22,7 +27,7 @@ pub const NONE: u32 = 0xFFFF_FFFF;
 pub fn place_height(n: usize) -> u32
     ensures { λ r. ⌜ r ≡ placeHeight n ⌝ }
 {
-    if n < 8 {
+    if n < table::FIRST_LEAF {
         return 1;
     }
     0
@@ -36,10 +41,12 @@ pub fn place_word(shape: Shape, n: usize) -> PoolWord
 {
     let domains = shape.domains;
     let middles = shape.middles;
-    if n < 8 {
-        return words::pool_word(1024 * domains + 1024 * n as u32);
+    if n < table::FIRST_LEAF {
+        return words::pool_word(TABLE_WORDS * domains + TABLE_WORDS * n as u32);
     }
-    words::pool_word(1024 * domains + 1024 * middles + 64 * (n - 8) as u32)
+    words::pool_word(
+        TABLE_WORDS * domains + TABLE_WORDS * middles + LEAF_WORDS * (n - table::FIRST_LEAF) as u32,
+    )
 }
 
 // The number of the first place for tables of a height.
@@ -57,9 +64,9 @@ pub fn domain_of(height: u32, block: u32) -> u32
     ensures { λ r. ⌜ r ≡ domainOf height block ⌝ }
 {
     if height == 0 {
-        return block / 1048576;
+        return block / table::DOMAIN_PAGES;
     }
-    block / 1024
+    block / table::DOMAIN_BLOCKS
 }
 
 // The number in its domain of a block that may have a table of a height.
@@ -67,9 +74,9 @@ pub fn block_in_domain(height: u32, block: u32) -> u32
     ensures { λ r. ⌜ r ≡ block % blocks height ⌝ }
 {
     if height == 0 {
-        return block % 1048576;
+        return block % table::DOMAIN_PAGES;
     }
-    block % 1024
+    block % table::DOMAIN_BLOCKS
 }
 
 // No place has an owner.
@@ -108,7 +115,7 @@ pub fn plain_ahead(pool: &[u32], word: PoolWord, i: u32) -> u32
     if !plain {
         return 0;
     }
-    let rest = 1024 - i;
+    let rest = TABLE_WORDS - i;
     let n = words::skip_rights(pool, word, rest as usize);
     n as u32
 }
@@ -132,9 +139,9 @@ fn table_check(
     if height == 0 {
         return true;
     }
-    let first = 1024 * block;
+    let first = TABLE_WORDS * block;
     let mut i: u32 = 0;
-    while i < 1024 {
+    while i < TABLE_WORDS {
         let word = words::word_after(base, i as usize);
         let n = plain_ahead(pool, word, i);
         if n == 0 {
@@ -193,7 +200,7 @@ pub fn census(pool: &[u32], shape: Shape, owners: &mut [u32]) -> bool
     clear(owners);
     let mut d = 0;
     while d < domains {
-        let root = words::pool_word(1024 * d);
+        let root = words::pool_word(TABLE_WORDS * d);
         let fine = table_check(pool, shape, 2, root, d, owners);
         if !fine {
             return false;

@@ -123,7 +123,7 @@ pub table-idle : (q : Plan) (h : ℕ) (e : Edge) (j : ℕ) → EntriesIdle q h (
 table-idle q h e j f l t x small =
     ap (λ y. entryAfter q h (size h * e .number + (j - e .last)) y) (was l) ∙ f (of-within h e j t .1) x small
   where
-    was : leads (suc h) (e .old) ≡ true → entryBefore h e (size h * e .number + (j - e .last)) x ≡ x
+    was : leads (suc h) (e .old) ≡ true → entryBefore h (e .old) (size h * e .number + (j - e .last)) x ≡ x
     was l = ap (λ b. cond b x (virtualOf h (e .old) (size h * e .number + (j - e .last)))) l
 
 -- An edge without a table has no words.

@@ -14,7 +14,6 @@ use crate::final_word;
 use crate::phase_of;
 use plan::Edge;
 use plan::Plan;
-use table::BIT_31;
 use table::ROOT;
 use table::Shape;
 use table::TABLE_WORDS;
@@ -98,10 +97,10 @@ fn near_table(plan: Plan, height: u32, edge: Edge, k: PoolWord, best: Span) -> S
     let number = edge.number;
     let last = edge.last;
     let old = edge.old;
-    if last >= BIT_31 {
+    if last >= words::BIT_31 {
         return best;
     }
-    if old >= BIT_31 {
+    if old >= words::BIT_31 {
         return best;
     }
     let size = table::size_of(height);
@@ -117,10 +116,10 @@ fn near_new(height: u32, edge: Edge, k: PoolWord, best: Span) -> Span
 {
     let last = edge.last;
     let old = edge.old;
-    if last >= BIT_31 {
+    if last >= words::BIT_31 {
         return best;
     }
-    if old < BIT_31 {
+    if old < words::BIT_31 {
         return best;
     }
     let size = table::size_of(height);

@@ -18,7 +18,6 @@ ghost use Rattle.change.specs.Runs.{Looks, NextIs, Ready, Told, Ends};
 use plan::Edge;
 use plan::Plan;
 use plan::Planning;
-use table::BIT_31;
 use table::ROOT;
 use table::Shape;
 use table::TABLE_WORDS;
@@ -99,7 +98,7 @@ fn of_table(height: u32, edge: Edge, k: PoolWord) -> bool
     ensures { λ r. ⌜ r ≡ ofTable height edge (k .0) ⌝ }
 {
     let last = edge.last;
-    if last >= BIT_31 {
+    if last >= words::BIT_31 {
         return false;
     }
     let begin = words::pool_word(last);
@@ -107,14 +106,26 @@ fn of_table(height: u32, edge: Edge, k: PoolWord) -> bool
     in_table(begin, size as usize, k)
 }
 
-// What the entry of a height is to hold that has the number `n` in the domain, where it was `x`.
-fn entry_after(plan: Plan, height: u32, n: u32, x: u32) -> u32
+// The entry of a height that stood there before: the word of the table, or what the entry above, `old`, said.
+fn entry_before(height: u32, old: u32, n: u32, x: u32) -> u32
+    ensures { λ r. ⌜ r ≡ entryBefore height old n x ⌝ }
+{
+    if old < words::BIT_31 {
+        return x;
+    }
+    targets::virtual_entry(height, old, n)
+}
+
+// What the entry of a height is to hold that has the number `n` in the domain, where the word holds `x` and the entry
+// above it was `old`.
+fn entry_after(plan: Plan, height: u32, old: u32, n: u32, x: u32) -> u32
     requires { ⌜ (plan .paint .right < 4) × (n < entryBlocks height) ⌝ }
-    ensures { λ r. ⌜ r ≡ entryAfter plan height n x ⌝ }
+    ensures { λ r. ⌜ r ≡ entryAfter plan height n (entryBefore height old n x) ⌝ }
 {
     let paint = plan.paint;
     if height == 0 {
-        return targets::paint_word(paint, x, n);
+        let was = entry_before(height, old, n, x);
+        return targets::paint_word(paint, was, n);
     }
     let ends = plan::ends_of(plan, height - 1);
     let first = ends.first;
@@ -128,23 +139,12 @@ fn entry_after(plan: Plan, height: u32, n: u32, x: u32) -> u32
         return last.last;
     }
     if n < f {
-        return x;
+        return entry_before(height, old, n, x);
     }
     if n < l {
         return words::eight_of(paint.right);
     }
-    x
-}
-
-// The entry that stood there before: the word of the table that the edge had, or what the edge's entry said.
-fn entry_before(height: u32, edge: Edge, n: u32, x: u32) -> u32
-    ensures { λ r. ⌜ r ≡ entryBefore height edge n x ⌝ }
-{
-    let old = edge.old;
-    if old < BIT_31 {
-        return x;
-    }
-    targets::virtual_entry(height, old, n)
+    entry_before(height, old, n, x)
 }
 
 // What word `k` of the table of an edge is to hold.
@@ -154,12 +154,12 @@ fn table_after(plan: Plan, height: u32, edge: Edge, k: PoolWord, x: u32) -> u32
     ensures { λ r. ⌜ r ≡ tableAfter plan height edge (k .0 - edge .last) x ⌝ }
 {
     let number = edge.number;
+    let old = edge.old;
     let begin = words::pool_word(edge.last);
     let j = entry_number(begin, k);
     let size = table::size_of(height);
     let n = size * number + j;
-    let was = entry_before(height, edge, n, x);
-    entry_after(plan, height, n, was)
+    entry_after(plan, height, old, n, x)
 }
 
 // What word `k`, which holds `x`, is to hold. A word that the plan does not know stays as it is.
@@ -169,7 +169,8 @@ fn final_word(plan: Plan, k: PoolWord, x: u32) -> u32
 {
     let root = words::pool_word(TABLE_WORDS * plan.domain);
     if in_table(root, TABLE_WORDS as usize, k) {
-        return entry_after(plan, ROOT, entry_number(root, k), x);
+        // What stands above a root always leads to it.
+        return entry_after(plan, ROOT, 0, entry_number(root, k), x);
     }
     let blocks = plan.blocks;
     let block = blocks.first;
@@ -198,10 +199,10 @@ fn of_new_table(height: u32, edge: Edge, k: PoolWord) -> bool
 {
     let old = edge.old;
     let last = edge.last;
-    if last >= BIT_31 {
+    if last >= words::BIT_31 {
         return false;
     }
-    if old < BIT_31 {
+    if old < words::BIT_31 {
         return false;
     }
     let begin = words::pool_word(last);
@@ -246,7 +247,7 @@ fn phase_of(shape: Shape, plan: Plan, k: PoolWord, x: u32) -> u32
     if i >= from {
         return 3;
     }
-    if x < BIT_31 {
+    if x < words::BIT_31 {
         return 1;
     }
     3
@@ -315,7 +316,7 @@ fn plan_region(pool: &[u32], shape: Shape, domain: u32, paint: Paint) -> Request
     requires { ⌜ (domain < shape .domains) × Regular paint ⌝ }
     ensures { λ r. ⌜ RegionIs (now (pool .entry)) shape (aimOf domain paint) r ⌝ }
 {
-    let mut owners = [0u32; 72];
+    let mut owners = [0u32; census::PLACES];
     let sound = census::census(pool, shape, &mut owners);
     if !sound {
         return Request::Refused(6);

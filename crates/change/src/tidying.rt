@@ -14,9 +14,13 @@ use crate::Next;
 use crate::Work;
 use crate::make_stores;
 use table::Shape;
+use table::TABLE_WORDS;
 use targets::Target;
 use targets::UNPAINTED;
 use words::PoolWord;
+
+// The words of a root or a middle table, as an index of the pool.
+const TABLE_SIZE: usize = 1024;
 
 // What word `i` of the table at `base` is to become, where the root word `owner` leads to a middle table. A word that
 // does not lead stays: most are eight rights, and searching for their target would say so too.
@@ -28,15 +32,15 @@ fn target_at(pool: &[u32], shape: Shape, owner: u32, base: PoolWord, i: u32) -> 
     let word = words::word_after(base, i as usize);
     let k = words::pool_index(word);
     let w = pool[k];
-    if w >= 0x8000_0000 {
+    if w >= words::BIT_31 {
         return Target::Mixed;
     }
     let domains = shape.domains;
     let first = words::pool_index(base);
-    if first < (1024 * domains) as usize {
-        return targets::block_target(pool, UNPAINTED, w, (k % 1024) as u32);
+    if first < (TABLE_WORDS * domains) as usize {
+        return targets::block_target(pool, UNPAINTED, w, (k % TABLE_SIZE) as u32);
     }
-    targets::page_target(pool, UNPAINTED, w, owner % 1024 * 1024 + i)
+    targets::page_target(pool, UNPAINTED, w, owner % TABLE_WORDS * TABLE_WORDS + i)
 }
 
 // The first word from `from` on of the table at `base` whose table is given up.
@@ -46,7 +50,7 @@ fn next_given_up(pool: &[u32], shape: Shape, owner: u32, base: PoolWord, from: u
     ensures { λ r. ⌜ NextIn shape Work.Tidying (now (pool .entry)) 1 (base .0 + from) (base .0 + 1024) r ⌝ }
 {
     let mut i = from;
-    while i < 1024 {
+    while i < TABLE_WORDS {
         let k = words::word_after(base, i as usize);
         let n = census::plain_ahead(pool, k, i);
         if n == 0 {
@@ -78,12 +82,12 @@ fn next_in_place(pool: &[u32], shape: Shape, owners: &[u32], base: PoolWord, fro
     ensures { λ r. ⌜ NextIn shape Work.Tidying (now (pool .entry)) 1 (base .0 + from) (base .0 + 1024) r ⌝ }
 {
     let domains = shape.domains;
-    let roots = 1024 * domains;
+    let roots = TABLE_WORDS * domains;
     let first = words::pool_index(base);
     if first < roots as usize {
         return next_given_up(pool, shape, 0, base, from);
     }
-    let p = (first - roots as usize) / 1024;
+    let p = (first - roots as usize) / TABLE_SIZE;
     let owner = owners[p];
     if owner >= roots {
         return Next::None;
@@ -105,16 +109,16 @@ pub fn next_tidying(pool: &[u32], shape: Shape, owners: &[u32], from: Cursor) ->
 {
     let domains = shape.domains;
     let middles = shape.middles;
-    let end = (1024 * domains + 1024 * middles) as usize;
+    let end = (TABLE_WORDS * domains + TABLE_WORDS * middles) as usize;
     let mut k = words::pool_index(from.word);
     while k < end {
-        let i = k % 1024;
+        let i = k % TABLE_SIZE;
         let base = words::pool_word((k - i) as u32);
         let next = next_in_place(pool, shape, owners, base, i as u32);
         let Next::None = next else {
             return next;
         };
-        k = k - i + 1024;
+        k = k - i + TABLE_SIZE;
     }
     Next::None
 }
@@ -127,7 +131,7 @@ pub fn tidy(pool: &mut [u32], shape: Shape, allowance: u32) -> Answer
     if !table::shape_fits(shape, n) {
         return Answer::Refused(1);
     }
-    let mut owners = [0u32; 72];
+    let mut owners = [0u32; census::PLACES];
     let sound = census::census(pool, shape, &mut owners);
     if !sound {
         return Answer::Refused(6);

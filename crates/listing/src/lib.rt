@@ -155,7 +155,7 @@ fn feed_leaf(
     let start = words::pool_index(base);
     let mut s = run;
     let mut i: u32 = 0;
-    while i < 64 {
+    while i < table::LEAF_WORDS {
         let w = pool[start + i as usize];
         let from = at + i * 16;
         s = turns::feed_chunk(w, from, s, runs);
@@ -285,7 +285,7 @@ fn list_domain(
         count,
         from,
     };
-    let root = words::pool_word(1024 * domain);
+    let root = words::pool_word(table::TABLE_WORDS * domain);
     let s = feed_table(pool, shape, 2, root, 0, run, runs);
     close(s, MEMORY_WORDS, runs)
 }
@@ -317,7 +317,7 @@ pub fn list_runs(pool: &[u32], shape: Shape, from: usize, runs: &mut [u32]) -> L
     if !table::shape_fits(shape, long) {
         return Listed::Refused(1);
     }
-    let mut owners = [0u32; 72];
+    let mut owners = [0u32; census::PLACES];
     let sound = census::census(pool, shape, &mut owners);
     if !sound {
         return Listed::Refused(6);

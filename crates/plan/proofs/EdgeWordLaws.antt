@@ -156,9 +156,9 @@ module _ {s : Shape} {d : ℕ} {paint : Paint} {P : ℕ → ℕ} {owner : ℕ �
 
     leaf-at : (q : Plan) → Edges s d paint P owner q → (x : ℕ) → (x ≡ P k) ⊎ (x ≡ Q k) → tableAfter q 0 g j x ≡ Q k
     leaf-at q E x v =
-        ap (λ u. paintedLeaf u (entryBefore 0 g (64 * g .number + j) x) (64 * g .number + j)) (E .for-paint)
-        ∙ ap (λ u. paintedLeaf paint (entryBefore 0 g (64 * u + j) x) (64 * u + j)) (G .number)
-        ∙ leaf-painted (owner 0 p) n j (entryBefore 0 g (64 * n + j) x) o bn (ip .2) (leaf-before x v)
+        ap (λ u. paintedLeaf u (entryBefore 0 (g .old) (64 * g .number + j) x) (64 * g .number + j)) (E .for-paint)
+        ∙ ap (λ u. paintedLeaf paint (entryBefore 0 (g .old) (64 * u + j) x) (64 * u + j)) (G .number)
+        ∙ leaf-painted (owner 0 p) n j (entryBefore 0 (g .old) (64 * n + j) x) o bn (ip .2) (leaf-before x v)
         ∙ sym (owned-word k 0 p j ip bound)
 
   -- An entry above the leaves: that of block `i`, which has the number `n` in the domain.
@@ -227,7 +227,7 @@ module _ {s : Shape} {d : ℕ} {paint : Paint} {P : ℕ → ℕ} {owner : ℕ �
     page-at : (q : Plan) → Edges s d paint P owner q → (x : ℕ) → (x ≡ P k) ⊎ (x ≡ Q k) → tableAfter q 1 b j x ≡ Q k
     page-at q E x v =
         let e = owned-word k 1 p j ip in-block in
-        entry-at q E 0 i m (omega arith) page-below page-domain page-number (entryBefore 1 b m x)
+        entry-at q E 0 i m (omega arith) page-below page-domain page-number (entryBefore 1 (b .old) m x)
         (λ st. page-outside st x v ∙ e) ∙ sym e
 
   -- A word of the table of an edge.

@@ -55,14 +55,14 @@ entryAfter q (suc h) n x =
     (cond (eqb n (endsOf q h .last .number)) (endsOf q h .last .last)
     (cond (ltb (endsOf q h .first .number) n && ltb n (endsOf q h .last .number)) (eightOf (q .paint .right)) x))
 
--- The entry that block `n` had in the table of height `h` of an edge, where the word holds `x`; without a table, the
--- one that stood for it.
-abbrev pub entryBefore : ℕ → Edge → ℕ → ℕ → ℕ
-entryBefore h e n x = cond (leads (suc h) (e .old)) x (virtualOf h (e .old) n)
+-- The entry of height `h` that block `n` had, where the word holds `x` and the entry above was `old`: without a table,
+-- the one that stood for it.
+abbrev pub entryBefore : ℕ → ℕ → ℕ → ℕ → ℕ
+entryBefore h old n x = cond (leads (suc h) old) x (virtualOf h old n)
 
 -- Word `j` of the table of height `h` of an edge, where it holds `x`.
 abbrev pub tableAfter : Plan → ℕ → Edge → ℕ → ℕ → ℕ
-tableAfter q h e j x = entryAfter q h (size h * e .number + j) (entryBefore h e (size h * e .number + j) x)
+tableAfter q h e j x = entryAfter q h (size h * e .number + j) (entryBefore h (e .old) (size h * e .number + j) x)
 
 -- What word `k`, which holds `x`, is to hold if it is of the tables of a height, and else `y`.
 abbrev pub endsAfter : Plan → ℕ → ℕ → ℕ → ℕ → ℕ

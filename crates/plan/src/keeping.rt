@@ -7,7 +7,6 @@ ghost use Rattle.plan.specs.Edges.{staysOf, ownerStays, Marked};
 use crate::Ends;
 use crate::Marks;
 use census::NONE;
-use table::BIT_31;
 use table::Shape;
 
 // Whether block `n` of domain `e`, which has a table, wants it after the change too: only the change's own domain is
@@ -25,10 +24,10 @@ fn still_wanted(domain: u32, ends: Ends, e: u32, n: u32) -> bool
         return true;
     }
     if n == f {
-        return f_entry < BIT_31;
+        return f_entry < words::BIT_31;
     }
     if n == l {
-        return l_entry < BIT_31;
+        return l_entry < words::BIT_31;
     }
     if n < f {
         return true;

@@ -14,7 +14,6 @@ ghost use Rattle.plan.specs.Plan.{endsOf};
 ghost use Rattle.plan.specs.Planning.{Regular};
 ghost use Rattle.plan.specs.Edges.{PlansChange, EndsAre, edgeFor, edgeAt, endsAt, entryAt, ReadableRoot};
 ghost use Rattle.plan.specs.Edges.{RootGives, FirstFree, TakenIs, EndsGiven};
-use table::BIT_31;
 use table::Shape;
 use table::TABLE_WORDS;
 use targets::Paint;
@@ -96,7 +95,7 @@ fn edge_of(number: u32, old: u32, target: Target) -> Edge
             last: w,
         },
         Target::Mixed => {
-            if old < BIT_31 {
+            if old < words::BIT_31 {
                 return Edge {
                     number,
                     old,
@@ -133,7 +132,7 @@ fn old_entry(pool: &[u32], height: u32, domain: u32, n: u32) -> u32
         return root_entry(pool, domain, n);
     }
     let root = root_entry(pool, domain, n / TABLE_WORDS);
-    if root < BIT_31 {
+    if root < words::BIT_31 {
         let table = words::pool_word(root);
         let page = words::word_after(table, (n % TABLE_WORDS) as usize);
         let k = words::pool_index(page);
@@ -212,10 +211,10 @@ fn take_place(kept: Marks, shape: Shape, height: u32, from: u32, edge: Edge) -> 
     let number = edge.number;
     let old = edge.old;
     let last = edge.last;
-    if last >= BIT_31 {
+    if last >= words::BIT_31 {
         return Taken::At(edge, from);
     }
-    if old < BIT_31 {
+    if old < words::BIT_31 {
         return Taken::At(edge, from);
     }
     let count = table::places_of(shape, height);

@@ -17,11 +17,11 @@ use Rattle.theory.proofs.Encodes.{TellsWants}
 use Rattle.words.specs.Rights.{rightAt, pack}
 use Rattle.words.specs.Region.{covered}
 use Rattle.words.specs.declared.Region.{Region}
-use Rattle.words.proofs.RightsLaws.{right-small, pack-digit, pack-range, pack-good, pack-same}
+use Rattle.words.proofs.RightsLaws.{right-small, pack-digit, pack-range, pack-good, pack-same, eight-pack, sixteen-pack}
 use Rattle.table.specs.declared.Shape.{Shape}
 use Rattle.table.specs.Shape.{size}
 use Rattle.table.specs.Map.{addresses, block, part, parts, index, leads, Divided, formOf}
-use Rattle.table.specs.Wants.{any, wordAt, wordsIn, mixed, wantsOf, above, saidOf, WordRights}
+use Rattle.table.specs.Wants.{any, wordAt, wordsIn, mixed, wantsOf, above, saidOf, sameOf, WordRights}
 use Rattle.table.proofs.BlockLaws.{block-above, block-together, together-block, part-in-block, number-below}
 use Rattle.table.proofs.BlockLaws.{part-above}
 use Rattle.table.proofs.BlockLaws.{byte-part, byte-block, first-word, word-below, word-block, word-part}
@@ -75,6 +75,11 @@ divided-unsaid s h a w R (b, c, bb, bc, e, f, d) t =
     d (sym (t .each b bb (block-together s h a b (sym e)))
     ∙ ap (λ x. rightAt w (x % parts h)) f
     ∙ t .each c bc (block-together s h a c (sym e ∙ part-in-block h b c f)))
+
+-- One right in every sub-block.
+pub same-pack : (h q : ℕ) → pack (above h) (parts h) (λ i. q) ≡ sameOf h q
+same-pack zero q = sixteen-pack q
+same-pack (suc h) q = eight-pack q
 
 -- The test over the words of a block.
 

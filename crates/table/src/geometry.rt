@@ -24,8 +24,10 @@ pub const PAGE_BYTES: u32 = 4096;
 
 pub const LINE_BYTES: u32 = 64;
 
-// Bit 31, which is clear in an entry above the leaves exactly where it leads.
-pub const BIT_31: u32 = 0x8000_0000;
+// The blocks of 4 MB and the pages that a domain has.
+pub const DOMAIN_BLOCKS: u32 = 1024;
+
+pub const DOMAIN_PAGES: u32 = 1048576;
 
 // How many entries a table has.
 pub fn size_of(height: u32) -> u32
@@ -68,9 +70,19 @@ pub fn part_words(height: u32) -> u32
         return 1;
     }
     if height == 1 {
-        return 128;
+        return PAGE_BYTES / 32;
     }
-    131072
+    BLOCK_BYTES / 32
+}
+
+// How many entries of the height `below` stand for one right of the entry above them.
+pub fn part_entries(below: u32) -> u32
+    ensures { λ r. ⌜ r ≡ size below / 8 ⌝ }
+{
+    if below == 0 {
+        return LEAF_WORDS / 8;
+    }
+    TABLE_WORDS / 8
 }
 
 // All of these of one height: the entries of a table, the rights of an entry, and the memory words that one of them and
@@ -104,7 +116,7 @@ pub fn leads(height: u32, w: u32) -> bool
     if height == 0 {
         return false;
     }
-    w < BIT_31
+    w < words::BIT_31
 }
 
 // The entry that says one right for its whole block.

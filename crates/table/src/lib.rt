@@ -17,19 +17,21 @@ use words::PoolWord;
 
 mod geometry; // geometry.rt: blocks, parts, sizes and places by the height
 
-pub use geometry::BIT_31;
 pub use geometry::BLOCK_BYTES;
+pub use geometry::DOMAIN_BLOCKS;
+pub use geometry::DOMAIN_PAGES;
 pub use geometry::LEAF_WORDS;
 pub use geometry::LINE_BYTES;
+pub use geometry::Level;
 pub use geometry::PAGE_BYTES;
 pub use geometry::ROOT;
 pub use geometry::TABLE_WORDS;
 pub use geometry::block_words;
 pub use geometry::first_place;
 pub use geometry::leads;
-pub use geometry::part_words;
-pub use geometry::Level;
 pub use geometry::level_of;
+pub use geometry::part_entries;
+pub use geometry::part_words;
 pub use geometry::parts_of;
 pub use geometry::places_of;
 pub use geometry::root_word;
@@ -175,7 +177,7 @@ pub fn decode(shape: Shape, height: u32, w: u32) -> Entry
     if height == 0 {
         return Entry::Rights(w);
     }
-    if w < BIT_31 {
+    if w < words::BIT_31 {
         if height == 1 {
             let first_leaf = words::pool_word(TABLE_WORDS * domains + TABLE_WORDS * middles);
             return leads_to(first_leaf, LEAF_WORDS, leaves, FIRST_LEAF, w);
@@ -211,7 +213,7 @@ pub fn fresh(pool: &mut [u32], shape: Shape) -> Made
     let domains = shape.domains;
     let past_roots = words::pool_word(TABLE_WORDS * domains);
     let roots = words::pool_index(past_roots);
-    fill(&mut pool[..roots], 0x8000_0000);
+    fill(&mut pool[..roots], words::BIT_31);
     fill(&mut pool[roots..], 0);
     Made::Done
 }

@@ -52,7 +52,7 @@ pub fn seen_mixed(pool: &[u32], paint: Paint, height: u32, e: u32) -> bool
     if height != 1 {
         return false;
     }
-    if e >= 0x8000_0000 {
+    if e >= words::BIT_31 {
         return false;
     }
     let leaf = words::pool_word(e);

@@ -146,50 +146,6 @@ fn even_part(paint: Paint, o: u32, s: u32, n: u32) -> One
     }
 }
 
-// How many memory words the block of an entry has.
-fn block_words(height: u32) -> u32
-    ensures { λ r. ⌜ r ≡ block height / 4 ⌝ }
-{
-    if height == 0 {
-        return 16;
-    }
-    if height == 1 {
-        return 1024;
-    }
-    1048576
-}
-
-// How many memory words a sub-block has, where the table that may stand for it has entries of the height `below`.
-fn part_words(below: u32) -> u32
-    ensures { λ r. ⌜ r ≡ wordsIn (suc below) ⌝ }
-{
-    if below == 0 {
-        return 128;
-    }
-    131072
-}
-
-// How many entries of that table stand for the sub-block.
-fn part_entries(below: u32) -> u32
-    ensures { λ r. ⌜ r ≡ size below / 8 ⌝ }
-{
-    if below == 0 {
-        return 8;
-    }
-    128
-}
-
-// The entry of a height that says one right for its whole block.
-fn same_entry(height: u32, right: u32) -> u32
-    requires { ⌜ right < 4 ⌝ }
-    ensures { λ r. ⌜ pack (above height) (parts height) (λ i. right) ≡ r ⌝ }
-{
-    if height == 0 {
-        return words::sixteen_of(right);
-    }
-    words::eight_of(right)
-}
-
 // What the entry of the block numbered `n` should be after the painting, where it is `e`. A block that is covered
 // whole needs no search, nor does one that is not covered and has no table, and a leaf entry never does: the
 // sub-blocks that are searched are mostly made of these.
@@ -198,14 +154,14 @@ fn at_once(paint: Paint, height: u32, e: u32, n: u32) -> Told
     requires { ⌜ (height ≤ 2) × (n < entryBlocks height) × (paint .right < 4) ⌝ }
     ensures { λ r. ⌜ ToldIs r paint height e n ⌝ }
 {
-    let long = block_words(height);
+    let long = table::block_words(height);
     let c = meeting(paint, n * long, long);
     if let Cover::Whole = c {
         let right = paint.right;
-        return Told::Known(same_entry(height, right));
+        return Told::Known(table::same_entry(height, right));
     }
     if let Cover::Apart = c {
-        if e >= 0x8000_0000 {
+        if e >= words::BIT_31 {
             return Told::Known(e);
         }
         if height == 0 {
@@ -231,7 +187,7 @@ fn stands(paint: Paint, height: u32, e: u32, n: u32, same: u32) -> bool
     if e != same {
         return false;
     }
-    if e >= 0x8000_0000 {
+    if e >= words::BIT_31 {
         return true;
     }
     height == 0
@@ -262,7 +218,7 @@ fn rights_part(paint: Paint, below: u32, e: u32, n: u32, i: u32) -> One
     ensures { λ r. ⌜ ((P : ℕ → ℕ) → PartIs P paint (suc below) e n i r) ⌝ }
 {
     let o = words::right_at(e, i);
-    let long = part_words(below);
+    let long = table::part_words(below + 1);
     even_part(paint, o, (8 * n + i) * long, long)
 }
 
@@ -289,10 +245,10 @@ fn part(pool: &[u32], paint: Paint, below: u32, e: u32, n: u32, i: u32) -> One
     requires { ⌜ (below < 2) × (n < entryBlocks (suc below)) × (i < 8) × (paint .right < 4) ⌝ }
     ensures { λ r. ⌜ PartIs (words (now (pool .entry))) paint (suc below) e n i r ⌝ }
 {
-    if e >= 0x8000_0000 {
+    if e >= words::BIT_31 {
         return rights_part(paint, below, e, n, i);
     }
-    let count = part_entries(below);
+    let count = table::part_entries(below);
     let table = words::pool_word(e);
     let word = words::word_after(table, (count * i) as usize);
     let from = words::pool_index(word);
@@ -303,7 +259,7 @@ fn part(pool: &[u32], paint: Paint, below: u32, e: u32, n: u32, i: u32) -> One
         return One::Two;
     };
     let right = words::right_at(x, 0);
-    let same = same_entry(below, right);
+    let same = table::same_entry(below, right);
     let mut j: u32 = 0;
     while j < count {
         let w = pool[from + j as usize];
@@ -386,7 +342,7 @@ pub fn block_target(pool: &[u32], paint: Paint, e: u32, block: u32) -> Target
 pub fn virtual_entry(height: u32, e: u32, n: u32) -> u32
     ensures { λ r. ⌜ r ≡ virtualOf height e n ⌝ }
 {
-    let entries = part_entries(height);
+    let entries = table::part_entries(height);
     let i = n / entries % 8;
     let right = words::right_at(e, i);
     table::same_entry(height, right)

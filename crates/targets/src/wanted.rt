@@ -48,13 +48,13 @@ fn has_leaf(owners: &[u32], n: usize, block: u32) -> bool
     requires { ⌜ length (now owners) ≡ maxPlaces ⌝ }
     ensures { λ r. ⌜ (r ≡ true → LeafIn (now (owners .entry)) n block) ⌝ }
 {
-    if n >= 8 {
+    if n >= table::FIRST_LEAF {
         return false;
     }
-    let mut m: usize = 8;
-    while m < 72 {
+    let mut m: usize = table::FIRST_LEAF;
+    while m < census::PLACES {
         let page = owners[m];
-        if page / 1024 == block {
+        if page / table::TABLE_WORDS == block {
             return true;
         }
         m += 1;
@@ -71,7 +71,7 @@ pub fn settled(pool: &[u32], shape: Shape, owners: &[u32]) -> bool
     requires { ⌜ Owners (now pool) shape (now owners) ⌝ }
     ensures { λ r. ⌜ Decides r (Settled (formOf shape) (words (now (pool .entry)))) ⌝ }
 {
-    let mut n: usize = 72;
+    let mut n: usize = census::PLACES;
     while 0 < n {
         n -= 1;
         let owner = owners[n];

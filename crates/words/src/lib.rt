@@ -8,6 +8,9 @@ ghost use Rattle.words.specs.Rights.{rightAt, eightOf, sixteenOf, goodRi
 ghost use Rattle.words.specs.Region.{regionOf};
 ghost use Rattle.words.specs.Passing.{Passed, SkipsRights, AllSame};
 
+// Bit 31, which is set in a root or middle entry exactly where it is eight rights.
+pub const BIT_31: u32 = 0x8000_0000;
+
 // A byte address of the memory that the table protects.
 pub struct ByteAddr(pub u32);
 
@@ -88,7 +91,7 @@ pub fn eight_of(right: u32) -> u32
     requires { ⌜ right < 4 ⌝ }
     ensures { λ r. ⌜ r ≡ eightOf right ⌝ }
 {
-    0x8000_0000 + 0x5555 * right
+    BIT_31 + 0x5555 * right
 }
 
 // A leaf entry that gives one right to its sixteen words.
@@ -103,7 +106,7 @@ pub fn sixteen_of(right: u32) -> u32
 pub fn good_rights(w: u32) -> bool
     ensures { λ r. ⌜ r ≡ goodRights w ⌝ }
 {
-    if w < 0x8000_0000 {
+    if w < BIT_31 {
         return false;
     }
     w < 0x8001_0000

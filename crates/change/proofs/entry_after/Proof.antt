@@ -11,22 +11,33 @@ use Rattle.words.specs.Rights.{rightAt, eightOf}
 use Rattle.targets.specs.Targets.{entryBlocks}
 use Rattle.plan.specs.declared.Ends.{Ends}
 use Rattle.plan.specs.declared.Plan.{Plan}
-use Rattle.plan.specs.Plan.{endsOf, entryAfter}
+use Rattle.plan.specs.Plan.{endsOf, entryAfter, entryBefore}
 use Rattle.change.proofs.entry_after.Statement.{statement}
 use Rattle.change.proofs.entry_after.Tie as tie
 
 leaf-number : (h n : ℕ) → h ≡ 0 → n < entryBlocks h → n < 67108864
 leaf-number h n e b = rw e at b
 
+entry-before-requires : tie.Need-entry-before-requires
+entry-before-requires c κs = search needs
+
 paint-word-requires : tie.Need-paint-word-requires
 paint-word-requires c κs =
-    let s = c .before .before in
-    (leaf-number (s .args .height) (s .args .n) (c .if1 .taken) (s .pre .1), s .pre .0)
+    let s = c .before .before .before in
+    (leaf-number (s .args .height) (s .args .n) (c .before .if1 .taken) (s .pre .1), s .pre .0)
+
+-- What the entry was.
+abbrev was : tie.Start → ℕ
+was s = let a = s .args in entryBefore (a .height) (a .old) (a .n) (a .x)
 
 returns : tie.Need-returns
-returns c = let a = c .before .before .before .args in
-    c .paint-word .ensures (λ b. rightAt (a .x) (b / 4 % 16)) (λ b e. refl)
-    ∙ ap (λ h. entryAfter (a .plan) h (a .n) (a .x)) (sym (c .before .if1 .taken))
+returns c =
+    let b = c .before in
+    let s = b .before .before .before in
+    let a = s .args in
+    c .paint-word .ensures (λ i. rightAt (b .entry-before .result) (i / 4 % 16)) (λ i e. refl)
+    ∙ ap (entryAfter (a .plan) 0 (a .n)) (b .entry-before .ensures)
+    ∙ ap (λ h. entryAfter (a .plan) h (a .n) (was s)) (sym (b .before .if1 .taken))
 
 sub-ends-of : tie.Need-sub-ends-of
 sub-ends-of c = search needs
@@ -87,29 +98,38 @@ module _ (q : Plan) (e : Ends) (n x : ℕ) where
         ) refl
 
 -- What the function does above the leaves is right.
-is-high : (c : tie.After-ends-of) → let a = c .before .before .before .args in
-    high (a .plan) (c .ends-of .result) (a .n) (a .x) ≡ entryAfter (a .plan) (a .height) (a .n) (a .x)
-is-high c = let a = c .before .before .before .args in
-    high-is (a .plan) (c .ends-of .result) (a .n) (a .x) (a .height) (c .before .if1 .left) (c .ends-of .ensures)
+is-high : (c : tie.After-ends-of) → let s = c .before .before .before in
+    let a = s .args in
+    high (a .plan) (c .ends-of .result) (a .n) (was s) ≡ entryAfter (a .plan) (a .height) (a .n) (was s)
+is-high c =
+    let s = c .before .before .before in
+    let a = s .args in
+    high-is (a .plan) (c .ends-of .result) (a .n) (was s) (a .height) (c .before .if1 .left) (c .ends-of .ensures)
 
 returns-2 : tie.Need-returns-2
 returns-2 c =
     let e = c .before .before .before in
-    let a = e .before .before .before .args in
-    at-first (a .plan) (e .ends-of .result) (a .n) (a .x) (c .if2 .taken) ∙ is-high e
+    let s = e .before .before .before in
+    at-first (s .args .plan) (e .ends-of .result) (s .args .n) (was s) (c .if2 .taken) ∙ is-high e
 
 returns-3 : tie.Need-returns-3
 returns-3 c =
     let e = c .before .before .before .before in
-    let a = e .before .before .before .args in
-    at-last (a .plan) (e .ends-of .result) (a .n) (a .x) (c .before .if2 .left) (c .if3 .taken) ∙ is-high e
+    let s = e .before .before .before in
+    at-last (s .args .plan) (e .ends-of .result) (s .args .n) (was s) (c .before .if2 .left) (c .if3 .taken)
+    ∙ is-high e
+
+entry-before-requires-2 : tie.Need-entry-before-requires-2
+entry-before-requires-2 c κs = search needs
 
 returns-4 : tie.Need-returns-4
 returns-4 c =
-    let e = c .before .before .before .before .before in
-    let a = e .before .before .before .args in
-    before (a .plan) (e .ends-of .result) (a .n) (a .x) (c .before .before .if2 .left) (c .before .if3 .left)
-    (c .if4 .taken) ∙ is-high e
+    let l = c .before in
+    let e = l .before .before .before .before .before in
+    let s = e .before .before .before in
+    c .entry-before2 .ensures
+    ∙ before (s .args .plan) (e .ends-of .result) (s .args .n) (was s) (l .before .before .if2 .left)
+    (l .before .if3 .left) (l .if4 .taken) ∙ is-high e
 
 eight-of-requires : tie.Need-eight-of-requires
 eight-of-requires c κs = search needs
@@ -118,29 +138,37 @@ returns-5 : tie.Need-returns-5
 returns-5 c =
     let l = c .before .before in
     let e = l .before .before .before .before .before in
-    let a = e .before .before .before .args in
-    c .eight-of .ensures ∙ between (a .plan) (e .ends-of .result) (a .n) (a .x) (l .before .before .if2 .left)
+    let s = e .before .before .before in
+    c .eight-of .ensures
+    ∙ between (s .args .plan) (e .ends-of .result) (s .args .n) (was s) (l .before .before .if2 .left)
     (l .before .if3 .left) (l .if4 .left) (c .before .if5 .taken) ∙ is-high e
+
+entry-before-requires-3 : tie.Need-entry-before-requires-3
+entry-before-requires-3 c κs = search needs
 
 returns-6 : tie.Need-returns-6
 returns-6 c =
-    let l = c .before in
+    let l = c .before .before in
     let e = l .before .before .before .before .before in
-    let a = e .before .before .before .args in
-    past (a .plan) (e .ends-of .result) (a .n) (a .x) (l .before .before .if2 .left) (l .before .if3 .left)
-    (l .if4 .left) (c .if5 .left) ∙ is-high e
+    let s = e .before .before .before in
+    c .entry-before3 .ensures
+    ∙ past (s .args .plan) (e .ends-of .result) (s .args .n) (was s) (l .before .before .if2 .left)
+    (l .before .if3 .left) (l .if4 .left) (c .before .if5 .left) ∙ is-high e
 
 pub entry-after-spec : {M : Type 1} → statement M
 entry-after-spec =
     tie.close
     (tie.spec
+    entry-before-requires
     paint-word-requires
     returns
     sub-ends-of
     ends-of-requires
     returns-2
     returns-3
+    entry-before-requires-2
     returns-4
     eight-of-requires
     returns-5
+    entry-before-requires-3
     returns-6)

@@ -67,21 +67,17 @@ mul-n c = let (e, x, y) = number c in omega arith
 add-n : tie.Need-add-n
 add-n c = let (e, x, y) = number c in omega arith
 
-entry-before-requires : tie.Need-entry-before-requires
-entry-before-requires c κs = search needs
-
 entry-after-requires : tie.Need-entry-after-requires
 entry-after-requires c κs =
-    let (e, x, _) = number (c .before) in
-    (c .before .before .before .before .pre .0 .0, rw e x)
+    let (e, x, _) = number c in
+    (c .before .before .before .pre .0 .0, rw e x)
 
 returns : tie.Need-returns
 returns c =
-    let b = c .before in
-    let z = b .before in
+    let z = c .before in
     let a = z .before .before .before .args in
-    c .entry-after .ensures ∙ ap (entryAfter (a .plan) (a .height) _) (b .entry-before .ensures)
-    ∙ ap (λ m. entryAfter (a .plan) (a .height) m (entryBefore (a .height) (a .edge) m (a .x))) (number z .0)
+    c .entry-after .ensures
+    ∙ ap (λ m. entryAfter (a .plan) (a .height) m (entryBefore (a .height) (a .edge .old) m (a .x))) (number z .0)
 
 pub table-after-spec : {M : Type 1} → statement M
 table-after-spec =
@@ -92,6 +88,5 @@ table-after-spec =
     size-of-requires
     mul-n
     add-n
-    entry-before-requires
     entry-after-requires
     returns)

@@ -13,6 +13,7 @@ use lib.ListN.{length}
 use Rattle.theory.specs.Pool.{words}
 use Rattle.words.proofs.RightsLaws.{right-small}
 use Rattle.table.specs.Map.{block}
+use Rattle.table.proofs.WantLaws.{same-pack}
 use Rattle.targets.specs.declared.Target.{Target}
 use Rattle.targets.specs.declared.Target.the-variants.{Says}
 use Rattle.targets.specs.declared.One.the-variants.{Two}
@@ -39,9 +40,9 @@ use Rattle.targets.proofs.+entry_target+part+search.Lts-search as s
 use Rattle.targets.proofs.at_once.Reads as at-once-reads
 use Rattle.targets.proofs.says.Reads as says-reads
 use Rattle.targets.proofs.pack_eight.Reads as pack-eight-reads
-use Rattle.targets.proofs.part_entries.Reads as part-entries-reads
+use Rattle.table.proofs.part_entries.Reads as part-entries-reads
 use Rattle.targets.proofs.rights_part.Reads as rights-part-reads
-use Rattle.targets.proofs.same_entry.Reads as same-entry-reads
+use Rattle.table.proofs.same_entry.Reads as same-entry-reads
 use Rattle.targets.proofs.leaves.seen_mixed.Reads as seen-mixed-reads
 use Rattle.words.proofs.pool_word.Reads as pool-word-reads
 use Rattle.words.proofs.word_after.Reads as word-after-reads
@@ -391,7 +392,9 @@ module _ (t : ℕ) where
   two c d =
       let l = c .before .before .before .before .before in
       let k = l .before .before .before .before .before .before .before .before .before .before .before in
-      entries-two _ _ _ _ _ _ _ (sub k) _ _ (l .loop .j) (l .before .same-entry .ensures) (omega arith)
+      let same = same-pack (k .before .before .before .args .below) (l .before .before .right-at .result)
+      ∙ sym (l .before .same-entry .ensures) in
+      entries-two _ _ _ _ _ _ _ (sub k) _ _ (l .loop .j) same (omega arith)
       (l .loop .inv .1)
       (λ e. d (sym (read (c .before .before .before .before) _ (c .entry-target2 .ensures)) ∙ e))
 
@@ -426,7 +429,8 @@ module _ (t : ℕ) where
       let a = k .before .before .before .args in
       piece-plain (painted (a .paint) (given (words (a .pool .now)) (suc (a .below)) (a .e))) (a .below)
       ((8 * a .n + a .i) * k .part-entries .result)
-      (l .before .before .right-at .result) (l .before .same-entry .result) (l .before .same-entry .ensures)
+      (l .before .before .right-at .result) (l .before .same-entry .result)
+      (same-pack (a .below) (l .before .before .right-at .result) ∙ sym (l .before .same-entry .ensures))
       (l .loop .j)
       (painted-given-small _ (a .paint) _ (a .e) (k .before .before .before .pre .1 .1 .3))
       (rw (l .before .before .right-at .ensures) (right-small _ 0))

@@ -1,9 +1,10 @@
 -- `targets::at_once` meets its contract.
 use Prim.Native.Nat.{_<_}
-use mathlib.Core.Path.{_≡_, ap, subst, _∙_}
+use mathlib.Core.Path.{_≡_, sym, ap, subst, _∙_}
 use mathlib.Core.Bool.{false}
 use native.Mathlib.Omega.{arith}
 use borrow.Author.Needs.{needs}
+use Rattle.table.proofs.WantLaws.{same-pack}
 use Rattle.targets.specs.declared.Target.the-variants.{Says}
 use Rattle.table.specs.Map.{leads}
 use Rattle.targets.specs.Targets.{entryBlocks}
@@ -34,7 +35,7 @@ returns c = λ P R g.
     let a = m .before .before .args in
     whole-entry (a .paint) R (a .height) (a .n) (m .before .block-words .result) (m .before .block-words .ensures)
     (rw (c .before .enum-told .given .1) at (m .meeting .ensures))
-    ∙ ap Says (c .same-entry .ensures)
+    ∙ ap Says (same-pack (a .height) (a .paint .right) ∙ sym (c .same-entry .ensures))
 
 enum-told-2 : tie.Need-enum-told-2
 enum-told-2 c = search needs
