@@ -24,7 +24,7 @@ use Rattle.table.specs.Map.{addresses, formOf}
 use Rattle.targets.specs.declared.Paint.{Paint}
 use Rattle.plan.proofs.AimLaws.{change-covers, change-misses, aimed-covered, aimed-other}
 use Rattle.targets.specs.Paints.{region, paintOf}
-use Rattle.plan.specs.Aims.{aimOf, changeAim, aims}
+use Rattle.plan.specs.Aims.{aimOf, changeAim, aimedAt}
 use Rattle.change.specs.Cuts.{differing}
 use Rattle.change.specs.Answers.{IsCut, Asked}
 use Rattle.benchmarks.specs.Rows.{shape}
@@ -123,7 +123,7 @@ middle-one = record {
   ];
 }
 
-goal-aimed : (d a : ℕ) → d < 1 → a < addresses → cond (ltb (a / 4096) 129) 1 0 ≡ aims one-middle 0 reading
+goal-aimed : (d a : ℕ) → d < 1 → a < addresses → cond (ltb (a / 4096) 129) 1 0 ≡ aimedAt one-middle (aimOf 0 reading)
     (words middle-pool) d a
 goal-aimed d a bd ba = elim (decLt (a / 4096) 129) [
   | yes h ↦ ap (λ t. cond t 1 0) (lt-ltb (a / 4096) 129 h)
@@ -137,7 +137,8 @@ goal-aimed d a bd ba = elim (decLt (a / 4096) 129) [
       (covered-no in-middle a (λ x y. omega arith)))
 ]
 
-pub goal-finished : Finished (formOf one-middle) (words middle-pool) (aims one-middle 0 reading (words middle-pool))
+pub goal-finished : Finished (formOf one-middle) (words middle-pool) (aimedAt one-middle (aimOf 0 reading)
+    (words middle-pool))
     (words goal)
 goal-finished =
     let right = read-right 129 (omega arith) (omega arith) in

@@ -72,7 +72,7 @@ module _ {x : List ℕ} (c : IsCut one-middle (aimOf 0 reading) middle-pool 128 
       ap (λ b. cond b (cond (leads (formOf one-middle .zone j) (words middle-pool j)) 1 3) 2) (is-kept j lo hi)
       ∙ ap (λ h. cond (leads h (words middle-pool j)) 1 3) zone
       ∙ ap (λ t. cond t 1 3) (eight-good (shape 1 0) 0 (words middle-pool j) (omega arith)
-          (middle-one .middle j lo hi) .1)
+      (middle-one .middle j lo hi) .1)
 
   abbrev reached : ℕ → Bool
   reached j = ltb 3 (c .way .phase-reached) || (eqb 3 (c .way .phase-reached) && ltb j (c .way .word-reached))

@@ -40,7 +40,7 @@ module _ (M L : ℕ) {n : ℕ} (few : n ≤ M) (most : M ≤ 8) {X : ℕ → ℕ
         | no e ↦ absurd (true≢false (sym l ∙ rw (x, o .roots j (omega arith) y) refl))
       ])
       (λ (x, y, z). absurd (true≢false (sym l
-          ∙ rw x (eight-good (shape M L) 0 (X j) (omega arith) (o .middle j y z) .1))))
+      ∙ rw x (eight-good (shape M L) 0 (X j) (omega arith) (o .middle j y z) .1))))
       at
 
   visits-at : (a : ℕ) {m j : ℕ} (d : ℕ) → d < 1 → Visits F X a 2 (entry F d a) m j → At m j

@@ -77,7 +77,7 @@ module _ (L : ℕ) {P X : ℕ → ℕ} (p : OneTable P) (o : OneTable X) (R : �
   reached : (j : ℕ) → 1024 ≤ j → j < 2048 → Reach (formOf (shape 1 L)) X (Roots (formOf (shape 1 L))) 1 j
   reached j lo hi =
       let r : Reach (formOf (shape 1 L)) X (Roots (formOf (shape 1 L))) 2 0 = start
-          (0, 0, refl, refl, omega arith, omega arith) in
+      (0, 0, refl, refl, omega arith, omega arith) in
       let e : X 0 + (j - 1024) ≡ j = let z = o .first in omega arith in
       rw e at (step (j - 1024) r (rw (o .first) refl) (omega arith))
 

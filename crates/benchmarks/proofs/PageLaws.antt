@@ -352,7 +352,7 @@ module _ {L low : ℕ} {R : ℕ → ℕ} {a0 c0 w : ℕ} (o : OnePage L low R a0
     pub page-finished-from : Finished F X (λ d. R) Q
     page-finished-from =
         encodes-finished F (lawful (shape 1 L)) (exact (shape 1 L)) want place tells placing encodes (wanting
-            (shape 1 L)) follows
+        (shape 1 L)) follows
 
   pub page-finished : Finished F P (λ d. R) Q
   page-finished = page-finished-from P (λ j h. rw (fresh-low j h) refl) (λ j. inl refl)

@@ -88,7 +88,7 @@ GivesUpBoth = (n m : ℕ) → 1026 ≤ n → 1 ≤ m → (b : Answer) (p : List 
 abbrev pub SetsOneMiddle : Type 0
 SetsOneMiddle = (n : ℕ) → 1025 ≤ n
     → Always (Sets 1 0 0x1000 512 2 n) (λ a q. AnsweredDone 1025 a
-        × (words q (firstMiddle (shape 1 1) + 1) ≡ 0x80000002))
+    × (words q (firstMiddle (shape 1 1) + 1) ≡ 0x80000002))
 
 -- 7. M 0, L 0, set 0 for 524,288 bytes to 1: one store, 0x80000001.
 abbrev pub SetsOnePart : Type 0

@@ -16,16 +16,14 @@ use Rattle.theory.specs.Finished.{Finished}
 use Rattle.theory.specs.Stores.{Next}
 use Rattle.theory.specs.Phase.{phase, midway, Tells}
 use Rattle.theory.proofs.PhaseLaws.{midway-new, midway-old, midway-either, phase-next}
-use Rattle.theory.proofs.Logic.{by-cases}
 use Rattle.theory.proofs.FinishedLaws.{finished-words, one-finished}
 use Rattle.theory.proofs.StayLaws.{next-here}
 use Rattle.table.specs.declared.Shape.{Shape}
-use Rattle.table.specs.Shape.{firstMiddle, firstLeaf}
 use Rattle.table.specs.Map.{formOf, leads, zone}
 use Rattle.table.proofs.FormLaws.{lawful, exact}
 use Rattle.table.proofs.WantLaws.{wanting}
 use Rattle.plan.specs.declared.Plan.{Plan}
-use Rattle.plan.specs.Plan.{after, newWord, phaseOf}
+use Rattle.plan.specs.Plan.{after, phaseOf}
 use Rattle.plan.specs.Aims.{Aim, aimedAt, Goal}
 use Rattle.change.specs.Cuts.{differing, CutAt, Due}
 use Rattle.change.proofs.CutLaws.{put-cuts}

@@ -130,7 +130,7 @@ module _ (s : Shape) (range : InRange s) {R : ℕ → ℕ → ℕ} (S : (d : ℕ
       let y = seek-apart (blocks h * s .domains) (places s h) (want R h) (old P h) (free h) (was s P h)
       (O h hi)
       (number h d a) (number h e b) (number-below h (s .domains) d a hi bd ba) (number-below h
-          (s .domains) e b hi be bb)
+      (s .domains) e b hi be bb)
       (want-got h d a hi ba g) (want-got h e b hi bb k) x in
       let (u, v) = number-same h d a e b hi ba bb y in
       (u, block-together s (suc h) a b v)
@@ -198,7 +198,7 @@ module _ (s : Shape) (range : InRange s) {R : ℕ → ℕ → ℕ} (S : (d : ℕ
       let (u, v) = seek-lowest (blocks h * s .domains) (places s h) (want R h) (old P h) (free h)
       (was s P h) (O h hi)
       (number h d a) q (number-below h (s .domains) d a hi bd ba) (want-got h d a hi ba g)
-          (not-led-old s P d a ba h hi m) y in
+      (not-led-old s P d a ba h hi m) y in
       let (f, b, r, s, _, t, i, _) = place-owner h q 0 hi u v (some h) in
       (f, b, r, s, t, i ∙ k)
     where

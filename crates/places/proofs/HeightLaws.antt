@@ -1,5 +1,5 @@
 -- Laws of the heights of tables that stand at places: what holds of leaves and of middle tables holds at each height.
-use Prim.Native.Nat.{ℕ, zero, suc, _≤_, _<_}
+use Prim.Native.Nat.{ℕ, zero, suc, _<_}
 use native.Mathlib.Omega.{arith}
 use native.Mathlib.Decide.{decLt}
 use Rattle.places.specs.Count.{heights}

@@ -12,7 +12,7 @@ use Rattle.table.specs.declared.Shape.{Shape}
 use Rattle.table.specs.Map.{formOf}
 use Rattle.targets.specs.declared.Paint.{Paint}
 use Rattle.targets.specs.Paints.{region}
-use Rattle.plan.specs.Aims.{Aim, changeAim, aimOf, aimedAt, aims}
+use Rattle.plan.specs.Aims.{Aim, changeAim, aimOf, aimedAt}
 
 module _ (s : Shape) (A : Aim) (P : ℕ → ℕ) (e a : ℕ) where
   pub aimed-covered : A .covers e a ≡ true → aimedAt s A P e a ≡ A .sets e a
@@ -34,6 +34,6 @@ module _ (d : ℕ) (g : Region) (r e a : ℕ) where
 
 -- A change aims at its right on the words that it covers.
 pub aims-covered : (s : Shape) (d : ℕ) (paint : Paint) (P : ℕ → ℕ) (e a : ℕ)
-    → (e ≡ d) × (covered (region paint) a ≡ true) → aims s d paint P e a ≡ paint .right
+    → (e ≡ d) × (covered (region paint) a ≡ true) → aimedAt s (aimOf d paint) P e a ≡ paint .right
 aims-covered s d paint P e a (q, c) =
     aimed-covered s (aimOf d paint) P e a (change-covers d (region paint) (paint .right) e a q c)

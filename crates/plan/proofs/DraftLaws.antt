@@ -1,6 +1,6 @@
 -- Laws of a plan before places are given out: the entry of a page is readable and gives the page's rights, and a
 -- drafted edge tells what its block wants and had.
-use Prim.Native.Nat.{ℕ, zero, suc, _+_, _*_, _-_, _/_, _%_, _≤_, _<_}
+use Prim.Native.Nat.{ℕ, zero, suc, _+_, _*_, _-_, _/_, _%_, _<_}
 use mathlib.Core.Path.{_≡_, refl, sym, subst, ap, _∙_, fun-ext}
 use mathlib.Core.Bool.{true, false, cond, _&&_, true≢false}
 use mathlib.Core.List.{List}
@@ -29,7 +29,7 @@ use Rattle.targets.proofs.TargetLaws.{wanted-mixed, unwanted-said}
 use Rattle.targets.proofs.PoolLaws.{root-gives, middle-gives, virtual-gives, virtual-readable, root-readable}
 use Rattle.plan.specs.declared.Edge.{Edge}
 use Rattle.plan.specs.declared.Ends.{Ends}
-use Rattle.plan.specs.Aims.{aims}
+use Rattle.plan.specs.Aims.{aimOf, aimedAt}
 use Rattle.plan.specs.Planning.{Regular, firstOf, lastOf}
 use Rattle.plan.specs.Edges.{entryAt, edgeFor, edgeAt, endsAt, ReadableRoot, RootGives, Told}
 use Rattle.plan.specs.Edges.{EndsTold}
@@ -95,7 +95,7 @@ waits x = by-cases (leads 1 x) (λ l. ap (λ t. leads 1 (cond t x 2147483647)) l
 
 module _ (s : Shape) (d : ℕ) (paint : Paint) (P : ℕ → ℕ) (small : paint .right < 4) where
   abbrev T : ℕ → ℕ → ℕ
-  T = aims s d paint P
+  T = aimedAt s (aimOf d paint) P
 
   -- In its domain the change aims at the painted rights.
   abbrev goal : ℕ → ℕ

@@ -19,7 +19,7 @@ use Rattle.places.proofs.FinalWordLaws.{InPlace, entry-leads}
 use Rattle.targets.specs.declared.Paint.{Paint}
 use Rattle.plan.specs.declared.Edge.{Edge}
 use Rattle.plan.specs.Plan.{InTable, ofTable}
-use Rattle.plan.specs.Aims.{aims}
+use Rattle.plan.specs.Aims.{aimOf, aimedAt}
 use Rattle.plan.specs.Edges.{EdgeIs}
 use Rattle.plan.proofs.Setting.{Setting}
 use Rattle.plan.proofs.SettingLaws.{entry-lead}
@@ -31,7 +31,7 @@ module _ {s : Shape} {d : ℕ} {paint : Paint} {P : ℕ → ℕ} {owner : ℕ �
   D = s .domains
 
   abbrev T : ℕ → ℕ → ℕ
-  T = aims s d paint P
+  T = aimedAt s (aimOf d paint) P
 
   -- Block `n` of the domain of the change is one of the blocks of all domains.
   pub in-range : (h n : ℕ) → h < 2 → n < blocks h → blocks h * d + n < blocks h * D

@@ -29,7 +29,7 @@ use Rattle.plan.specs.Planning.{firstOf, lastOf}
 use Rattle.plan.specs.declared.Edge.{Edge}
 use Rattle.plan.specs.declared.Plan.{Plan}
 use Rattle.plan.specs.Plan.{endsOf, ofTable, paintedLeaf, entryAfter, entryBefore, tableAfter}
-use Rattle.plan.specs.Aims.{aims}
+use Rattle.plan.specs.Aims.{aimOf, aimedAt}
 use Rattle.plan.proofs.AimLaws.{aims-covered}
 use Rattle.plan.specs.Edges.{EdgeIs, Edges}
 use Rattle.plan.proofs.Setting.{Setting}
@@ -64,7 +64,7 @@ module _ {s : Shape} {d : ℕ} {paint : Paint} {P : ℕ → ℕ} {owner : ℕ �
   R = rightOf (formOf s) P
 
   abbrev T : ℕ → ℕ → ℕ
-  T = aims s d paint P
+  T = aimedAt s (aimOf d paint) P
 
   abbrev Q : ℕ → ℕ
   Q = final s owner T P

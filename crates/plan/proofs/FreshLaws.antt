@@ -1,7 +1,7 @@
 -- Which blocks can be fresh in a change, and which tables are kept, as the edges of the region tell it.
-use Prim.Native.Nat.{ℕ, zero, suc, _+_, _*_, _%_, _<_}
+use Prim.Native.Nat.{ℕ, _+_, _*_, _%_, _<_}
 use mathlib.Core.Path.{_≡_, sym, ap, _∙_}
-use mathlib.Core.Logic.{_≢_, ⊎-elim}
+use mathlib.Core.Logic.{_≢_}
 use mathlib.Core.Bool.{Bool, true, false, cond, _||_}
 use native.Mathlib.Omega.{arith}
 use native.Mathlib.Decide.{ℕ-discrete, decLt}
@@ -22,7 +22,7 @@ use Rattle.targets.specs.declared.Paint.{Paint}
 use Rattle.targets.specs.Paints.{region}
 use Rattle.plan.specs.Planning.{firstOf, lastOf, endOf}
 use Rattle.plan.specs.declared.Ends.{Ends}
-use Rattle.plan.specs.Aims.{aims}
+use Rattle.plan.specs.Aims.{aimOf, aimedAt}
 use Rattle.plan.specs.Edges.{staysOf, EndsTold}
 use Rattle.plan.proofs.AimLaws.{aims-covered}
 use Rattle.plan.proofs.MeetLaws.{between-covered, apart-uncovered}
@@ -49,7 +49,7 @@ kept-or-not n f l {a} {b} {z} first last between apart = elim (ℕ-discrete n f)
 module _ (s : Shape) (d : ℕ) (paint : Paint) {P : ℕ → ℕ} (q : Settled (formOf s) P) (h i : ℕ) (hi : h < 2)
     (bi : i < blocks h * s .domains) where
   abbrev T : ℕ → ℕ → ℕ
-  T = aims s d paint P
+  T = aimedAt s (aimOf d paint) P
 
   abbrev R : ℕ → ℕ → ℕ
   R = rightOf (formOf s) P

@@ -2,13 +2,12 @@
 -- tables wanted are too many.
 use Prim.Native.Nat.{ℕ, zero, suc, _+_, _*_, _/_, _%_, _≤_, _<_}
 use mathlib.Core.Path.{_≡_, refl, sym, subst, ap, _∙_}
-use mathlib.Core.Logic.{_≢_, _⊎_, ⊎-elim, inl}
+use mathlib.Core.Logic.{_≢_, _⊎_, ⊎-elim}
 use mathlib.Core.Bool.{Bool, true, false, cond, _&&_, not, true≢false}
 use mathlib.Core.List.{List}
 use native.Mathlib.Omega.{arith}
 use native.Mathlib.Decide.{ℕ-discrete}
 use native.Mathlib.Numerals.{add-one}
-use lib.Dec.{eqb}
 use lib.ListN.{getD}
 use borrow.Author.Tests.{eq-eqb, ne-eqb, lt-ltb}
 use Rattle.theory.proofs.Logic.{by-cases, and-both}
@@ -31,7 +30,7 @@ use Rattle.plan.specs.declared.Taken.the-variants.{At, None}
 use Rattle.plan.specs.declared.Ends.{Ends}
 use Rattle.plan.specs.declared.Placing.the-variants.{Both, Full}
 use Rattle.plan.specs.Plan.{isNew}
-use Rattle.plan.specs.Aims.{aims}
+use Rattle.plan.specs.Aims.{aimOf, aimedAt}
 use Rattle.plan.specs.Edges.{entryAt, EdgeIs, Told, EndsPlaced, EndsAre, Takes, TakenIs}
 use Rattle.plan.specs.Edges.{GivesOut}
 use Rattle.plan.proofs.OldEntryLaws.{old-leads}
@@ -67,7 +66,7 @@ module _ {s : Shape} {d : ℕ} {paint : Paint} {P : ℕ → ℕ} {h : ℕ} {f : 
   M = places s h
 
   abbrev W : ℕ → Bool
-  W = want (aims s d paint P) h
+  W = want (aimedAt s (aimOf d paint) P) h
 
   abbrev O : ℕ → Bool
   O = old P h
@@ -114,7 +113,7 @@ module _ {s : Shape} {d : ℕ} {paint : Paint} {P : ℕ → ℕ} {h : ℕ} {f : 
   }
     where
       said : ℕ
-      said = saidOf (aims s d paint P (domainOf h (nth n))) (suc h) (addressOf h (nth n))
+      said = saidOf (aimedAt s (aimOf d paint) P (domainOf h (nth n))) (suc h) (addressOf h (nth n))
 
       kept : W (nth n) ≡ true → leads (suc h) (g .old) ≡ true → g .last ≡ start (seek owner (nth n) M)
       kept w o =

@@ -26,7 +26,7 @@ use Rattle.census.specs.Census.{Owners}
 use Rattle.census.proofs.OwnerLaws.{was-owner, was-taken, owner-stands}
 use Rattle.targets.specs.declared.Paint.{Paint}
 use Rattle.plan.specs.declared.Ends.{Ends}
-use Rattle.plan.specs.Aims.{aims}
+use Rattle.plan.specs.Aims.{aimOf, aimedAt}
 use Rattle.plan.specs.Edges.{ownerStays, Marked, EndsTold, KeptMarked}
 use Rattle.plan.proofs.FreshLaws.{stays-is}
 
@@ -53,7 +53,7 @@ module _ (s : Shape) (d : ℕ) (paint : Paint) {P : ℕ → ℕ} (q : Settled (f
   m = places s h
 
   abbrev T : ℕ → ℕ → ℕ
-  T = aims s d paint P
+  T = aimedAt s (aimOf d paint) P
 
   abbrev at : ℕ → ℕ
   at = was s P h
@@ -87,7 +87,8 @@ module _ (p : List ℕ) (s : Shape) (d : ℕ) (paint : Paint) (fits : Fits s (le
 
   -- A marked place is that of a block which has its table there, and wants it.
   marked-kept : (c : ℕ) → c < m s d paint q h hi → getD f c false ≡ true
-      → (stood c < n s d paint q h hi) × (want (aims s d paint P) h (stood c) ≡ true) × (old P h (stood c) ≡ true)
+      → (stood c < n s d paint q h hi) × (want (aimedAt s (aimOf d paint) P) h (stood c) ≡ true)
+      × (old P h (stood c) ≡ true)
       × (c ≡ at s d paint q h hi (stood c))
   marked-kept c b e =
       let (t, w) = and-both (not (eqb (stood c) none)) _ (sym (mark .each c b) ∙ e) in
@@ -95,7 +96,7 @@ module _ (p : List ℕ) (s : Shape) (d : ℕ) (paint : Paint) (fits : Fits s (le
       (x, sym (stays-is s d paint q h (stood c) hi x told y) ∙ w, y, z)
 
   -- A block that has a table and wants it has its place marked.
-  kept-marked : (i : ℕ) → i < n s d paint q h hi → want (aims s d paint P) h i ≡ true → old P h i ≡ true
+  kept-marked : (i : ℕ) → i < n s d paint q h hi → want (aimedAt s (aimOf d paint) P) h i ≡ true → old P h i ≡ true
       → (getD f (at s d paint q h hi i) false ≡ true) × (stood (at s d paint q h hi i) ≡ i)
   kept-marked i b w x =
       let c = at s d paint q h hi i in

@@ -17,7 +17,7 @@ use Rattle.places.proofs.NumberLaws.{number-is}
 use Rattle.places.proofs.ChangedLaws.{changed-uncovered, changed-other}
 use Rattle.targets.specs.declared.Paint.{Paint}
 use Rattle.targets.specs.Paints.{region}
-use Rattle.plan.specs.Aims.{aims}
+use Rattle.plan.specs.Aims.{aimOf, aimedAt}
 use Rattle.plan.specs.Planning.{Regular, firstOf, lastOf, endOf}
 use Rattle.plan.proofs.AimLaws.{aims-covered}
 
@@ -109,10 +109,11 @@ module _ (s : Shape) (d : ℕ) (paint : Paint) (P : ℕ → ℕ) where
   -- The rights of block `i`, of the numbers over all domains, are to stay as they were; they are all to be `r`.
   abbrev pub RightsStay : ℕ → ℕ → Type 0
   RightsStay h i = (b : ℕ) → b < addresses → b / block (suc h) ≡ i % blocks h
-      → aims s d paint P (domainOf h i) b ≡ rightOf (formOf s) P (domainOf h i) b
+      → aimedAt s (aimOf d paint) P (domainOf h i) b ≡ rightOf (formOf s) P (domainOf h i) b
 
   abbrev pub Plain : ℕ → ℕ → ℕ → Type 0
-  Plain h i r = (b : ℕ) → b < addresses → b / block (suc h) ≡ i % blocks h → aims s d paint P (domainOf h i) b ≡ r
+  Plain h i r = (b : ℕ) → b < addresses → b / block (suc h) ≡ i % blocks h
+      → aimedAt s (aimOf d paint) P (domainOf h i) b ≡ r
 
   -- A block that lies apart from the region stays; one between its ends gets the right.
   pub apart-stays : (h i n : ℕ) → h < 2 → i % blocks h ≡ n → n ≢ firstOf h paint → n ≢ lastOf h paint

@@ -1,5 +1,5 @@
 -- There is one plan of a change: what `plan_change` promises leaves one outcome.
-use Prim.Native.Nat.{ℕ, zero, suc, _+_, _*_, _<_}
+use Prim.Native.Nat.{ℕ, suc, _+_, _*_, _<_}
 use mathlib.Core.Path.{_≡_, refl, sym, fun-ext, ap, _∙_}
 use mathlib.Core.Bool.{Bool, true, false}
 use native.Mathlib.Omega.{arith}
@@ -29,7 +29,7 @@ use Rattle.plan.specs.declared.Plan.{Plan}
 use Rattle.plan.specs.declared.Planning.{Planning}
 use Rattle.plan.specs.declared.Planning.the-variants.{Ready, NoRoom}
 use Rattle.plan.specs.Plan.{endsOf}
-use Rattle.plan.specs.Aims.{aims}
+use Rattle.plan.specs.Aims.{aimOf, aimedAt}
 use Rattle.plan.specs.Planning.{Regular, firstOf, lastOf}
 use Rattle.plan.specs.Edges.{EdgeIs, PlanReady, PlansChange}
 use Rattle.plan.proofs.Setting.{Setting}
@@ -42,7 +42,7 @@ module _ (s : Shape) (d : ℕ) (paint : Paint) (P : ℕ → ℕ) (range : InRang
   D = s .domains
 
   abbrev R : ℕ → ℕ → ℕ
-  R = aims s d paint P
+  R = aimedAt s (aimOf d paint) P
 
   abbrev wants : ℕ → ℕ → ℕ → Bool
   wants h e a = wantsOf (R e) h a

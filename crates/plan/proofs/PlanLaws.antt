@@ -1,6 +1,6 @@
 -- Laws that join the steps of planning: from the draft to the places, and from the places to a plan that is ready, or
 -- to no room.
-use Prim.Native.Nat.{ℕ, zero, suc, _*_, _<_}
+use Prim.Native.Nat.{ℕ, zero, suc, _<_}
 use mathlib.Core.Path.{_≡_, refl, sym, subst}
 use mathlib.Core.Bool.{Bool}
 use native.Mathlib.Omega.{arith}
@@ -15,7 +15,7 @@ use Rattle.plan.specs.declared.Ends.{Ends}
 use Rattle.plan.specs.declared.Plan.{Plan}
 use Rattle.plan.specs.declared.Placing.the-variants.{Full}
 use Rattle.plan.specs.Plan.{endsOf}
-use Rattle.plan.specs.Aims.{aims}
+use Rattle.plan.specs.Aims.{aimOf, aimedAt}
 use Rattle.plan.specs.Planning.{Regular}
 use Rattle.plan.specs.Edges.{EdgeIs, EndsIs, PlanReady, endsAt, EndsTold, Placed, EndsPlaced, EndsAre}
 use Rattle.plan.proofs.DraftLaws.{drafted-ends}
@@ -59,5 +59,5 @@ plan-ready s d paint P {blocks} {pages} x y =
 
 -- Too many tables of one height leave no room.
 pub full-height : (s : Shape) (d : ℕ) (paint : Paint) (P : ℕ → ℕ) (h : ℕ) → h < heights → EndsAre s d paint P h Full
-    → Room s (aims s d paint P) → ⊥
+    → Room s (aimedAt s (aimOf d paint) P) → ⊥
 full-height s d paint P h hi x r = let y = r .tables h hi in omega arith

@@ -1,5 +1,5 @@
 -- A plan that is right at its edges is right at every word of the pool.
-use Prim.Native.Nat.{ℕ, zero, suc, _+_, _*_, _-_, _/_, _%_, _≤_, _<_}
+use Prim.Native.Nat.{ℕ, _+_, _*_, _-_, _/_, _%_, _≤_, _<_}
 use mathlib.Core.Path.{_≡_, refl, sym, ap, _∙_}
 use mathlib.Core.Logic.{_≢_, _⊎_, inl, inr, ⊎-elim}
 use mathlib.Core.Bool.{Bool, true, false, not, true≢false}
@@ -25,7 +25,7 @@ use Rattle.targets.specs.declared.Paint.{Paint}
 use Rattle.plan.specs.declared.Edge.{Edge}
 use Rattle.plan.specs.declared.Plan.{Plan}
 use Rattle.plan.specs.Plan.{edgeOf, InTable, ofTable, ofNew, entryAfter, after, newWord}
-use Rattle.plan.specs.Aims.{aimOf, aims}
+use Rattle.plan.specs.Aims.{aimOf, aimedAt}
 use Rattle.plan.specs.Planning.{Regular, endOf}
 use Rattle.plan.specs.Goals.{Planned}
 use Rattle.plan.specs.Edges.{EdgeIs, Edges}
@@ -45,7 +45,7 @@ module _ {s : Shape} {d : ℕ} {paint : Paint} {P : ℕ → ℕ} {owner : ℕ �
   D = s .domains
 
   abbrev T : ℕ → ℕ → ℕ
-  T = aims s d paint P
+  T = aimedAt s (aimOf d paint) P
 
   abbrev Q : ℕ → ℕ
   Q = final s owner T P
@@ -171,9 +171,9 @@ module _ {s : Shape} {d : ℕ} {paint : Paint} {P : ℕ → ℕ} {owner : ℕ �
 
 pub planned : (s : Shape) (d : ℕ) (paint : Paint) (p : List ℕ) → Fits s (length p) → Settled (formOf s) (words p)
     → ((k : ℕ) → words p k < 4294967296) → d < s .domains → Regular paint
-    → {owner : ℕ → ℕ → ℕ} (free : ℕ → ℕ → Bool) → AllOwned s (aims s d paint (words p)) (words p) free owner
+    → {owner : ℕ → ℕ → ℕ} (free : ℕ → ℕ → Bool) → AllOwned s (aimedAt s (aimOf d paint) (words p)) (words p) free owner
     → (q : Plan) → Edges s d paint (words p) owner q
-    → Planned s (aimOf d paint) q p (final s owner (aims s d paint (words p)) (words p)) (keptWord s free)
+    → Planned s (aimOf d paint) q p (final s owner (aimedAt s (aimOf d paint) (words p)) (words p)) (keptWord s free)
 planned s d paint p fits st small bd reg {owner} free O q E =
     let c : Setting s d paint (words p) owner free =
     record { range = fits .range; settled = st; domain = bd; regular = reg; placed = O } in
@@ -183,7 +183,7 @@ planned s d paint p fits st small bd reg {owner} free O q E =
         sound = st .sound;
         finished = final-finished s (fits .range) (λ e be. aims-rights c e) (st .sound) owner free O (λ j. refl);
         tells = final-tells s (fits .range) (λ e be. aims-rights c e) (st .sound) owner free O (λ j. refl);
-        beyond = λ k b. final-past s owner (aims s d paint (words p)) (words p) k (rw (fits .long) at b);
+        beyond = λ k b. final-past s owner (aimedAt s (aimOf d paint) (words p)) (words p) k (rw (fits .long) at b);
       };
       final = λ k b. planned-word c q E k (words p k) (rw (fits .long) at b) (inl refl);
       still = λ k b. planned-word c q E k _ (rw (fits .long) at b) (inr refl);

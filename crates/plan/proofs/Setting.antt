@@ -9,7 +9,7 @@ use Rattle.table.specs.Map.{formOf}
 use Rattle.places.specs.Final.{AllOwned}
 use Rattle.targets.specs.declared.Paint.{Paint}
 use Rattle.plan.specs.Planning.{Regular}
-use Rattle.plan.specs.Aims.{aims}
+use Rattle.plan.specs.Aims.{aimOf, aimedAt}
 
 pub record Setting (s : Shape) (d : ℕ) (paint : Paint) (P : ℕ → ℕ) (owner : ℕ → ℕ → ℕ)
     (free : ℕ → ℕ → Bool) : Type 0 where
@@ -17,4 +17,4 @@ pub record Setting (s : Shape) (d : ℕ) (paint : Paint) (P : ℕ → ℕ) (owne
   pub settled : Settled (formOf s) P
   pub domain : d < s .domains
   pub regular : Regular paint
-  pub placed : AllOwned s (aims s d paint P) P free owner
+  pub placed : AllOwned s (aimedAt s (aimOf d paint) P) P free owner

@@ -21,7 +21,7 @@ use Rattle.places.proofs.ChangedLaws.{changed-rights}
 use Rattle.places.proofs.FinalWordLaws.{entry-leads, entry-says}
 use Rattle.targets.specs.declared.Paint.{Paint}
 use Rattle.targets.specs.Paints.{region}
-use Rattle.plan.specs.Aims.{aims}
+use Rattle.plan.specs.Aims.{aimOf, aimedAt}
 use Rattle.plan.proofs.Setting.{Setting}
 use Rattle.plan.proofs.BlockRightsLaws.{said-near, said-plain}
 use Rattle.plan.proofs.MeetLaws.{Plain}
@@ -33,7 +33,7 @@ module _ {s : Shape} {d : ℕ} {paint : Paint} {P : ℕ → ℕ} {owner : ℕ �
   D = s .domains
 
   abbrev T : ℕ → ℕ → ℕ
-  T = aims s d paint P
+  T = aimedAt s (aimOf d paint) P
 
   pub aims-rights : (e : ℕ) → WordRights (T e)
   aims-rights e = changed-rights (rightOf (formOf s) P) d (region paint) (paint .right) e (c .regular .right)

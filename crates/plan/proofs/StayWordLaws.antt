@@ -20,7 +20,7 @@ use Rattle.places.proofs.OldLaws.{led-old, old-led, old-at}
 use Rattle.places.proofs.OwnedLaws.{seek-keeps}
 use Rattle.places.proofs.FinalWordLaws.{InPlace, entry-leads, entry-says}
 use Rattle.targets.specs.declared.Paint.{Paint}
-use Rattle.plan.specs.Aims.{aims}
+use Rattle.plan.specs.Aims.{aimOf, aimedAt}
 use Rattle.plan.proofs.Setting.{Setting}
 use Rattle.plan.proofs.BlockRightsLaws.{wants-near, said-near}
 use Rattle.plan.proofs.MeetLaws.{RightsStay}
@@ -38,7 +38,7 @@ module _ {s : Shape} {d : ℕ} {paint : Paint} {P : ℕ → ℕ} {owner : ℕ �
   R = rightOf (formOf s) P
 
   abbrev T : ℕ → ℕ → ℕ
-  T = aims s d paint P
+  T = aimedAt s (aimOf d paint) P
 
   -- Entry `j` of a place whose owner had its table before: the walk of the old pool comes there.
   pub place-visits : (k h p j : ℕ) → InPlace s k h p j → owner h p < blocks h * D → old P h (owner h p) ≡ true

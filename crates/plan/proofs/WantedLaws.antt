@@ -16,7 +16,7 @@ use Rattle.places.specs.Final.{old}
 use Rattle.places.proofs.NumberLaws.{number-first}
 use Rattle.targets.specs.declared.Paint.{Paint}
 use Rattle.plan.specs.Planning.{endOf}
-use Rattle.plan.specs.Aims.{aims}
+use Rattle.plan.specs.Aims.{aimOf, aimedAt}
 use Rattle.plan.proofs.BlockRightsLaws.{wants-near, wants-plain}
 use Rattle.plan.proofs.MeetLaws.{RightsStay, Plain, meeting}
 
@@ -33,23 +33,24 @@ old-wants s {P} st h i hi bi = settled-table s (λ e a be ba. refl) (λ e be. po
 
 module _ (s : Shape) (d : ℕ) (paint : Paint) (P : ℕ → ℕ) (h i : ℕ) (hi : h < 2) (bi : i < blocks h * s .domains) where
   -- A block of one right wants no table.
-  pub plain-want : (r : ℕ) → Plain s d paint P h i r → want (aims s d paint P) h i ≡ false
+  pub plain-want : (r : ℕ) → Plain s d paint P h i r → want (aimedAt s (aimOf d paint) P) h i ≡ false
   plain-want r pl =
-      wants-near (aims s d paint P (domainOf h i)) (λ b. r) (suc h) (addressOf h i)
+      wants-near (aimedAt s (aimOf d paint) P (domainOf h i)) (λ b. r) (suc h) (addressOf h i)
       (number-first h (s .domains) i hi bi .1)
       (λ b bb x. pl b bb (x ∙ first-address h i hi))
       ∙ wants-plain r (suc h) (addressOf h i)
 
   module _ (st : Settled (formOf s) P) where
     -- A block whose rights stay wants a table where it had one.
-    pub stays-want : RightsStay s d paint P h i → want (aims s d paint P) h i ≡ old P h i
+    pub stays-want : RightsStay s d paint P h i → want (aimedAt s (aimOf d paint) P) h i ≡ old P h i
     stays-want same =
-        wants-near (aims s d paint P (domainOf h i)) (rightOf (formOf s) P (domainOf h i)) (suc h) (addressOf h i)
+        wants-near (aimedAt s (aimOf d paint) P (domainOf h i)) (rightOf (formOf s) P (domainOf h i)) (suc h)
+        (addressOf h i)
         (number-first h (s .domains) i hi bi .1) (λ b bb x. same b bb (x ∙ first-address h i hi))
         ∙ sym (old-wants s st h i hi bi)
 
     -- Only the two ends of the region can be fresh.
-    pub only-edges-fresh : want (aims s d paint P) h i ≡ true → old P h i ≡ false
+    pub only-edges-fresh : want (aimedAt s (aimOf d paint) P) h i ≡ true → old P h i ≡ false
         → (first : Bool) × (i ≡ blocks h * d + endOf h paint first)
     only-edges-fresh w o = ⊎-elim
         (λ same. absurd (true≢false (sym w ∙ stays-want same ∙ o)))

@@ -36,10 +36,6 @@ aimOf d paint = changeAim d (region paint) (paint .right)
 abbrev pub aimedAt : Shape → Aim → (ℕ → ℕ) → ℕ → ℕ → ℕ
 aimedAt s A P e a = cond (A .covers e a) (A .sets e a) (rightOf (formOf s) P e a)
 
--- The same for a domain and a paint.
-abbrev pub aims : Shape → ℕ → Paint → (ℕ → ℕ) → ℕ → ℕ → ℕ
-aims s d paint P = aimedAt s (aimOf d paint) P
-
 -- What the pool `p` is to become: `Q` is the finished pool, and `kept` tells the words of roots and of tables that
 -- stay.
 pub record Goal (s : Shape) (A : Aim) (p : List ℕ) (Q : ℕ → ℕ) (kept : ℕ → Bool) : Type 0 where

@@ -33,7 +33,7 @@ use Rattle.plan.specs.declared.Placing.the-variants.{Both, Full}
 use Rattle.plan.specs.declared.Planning.{Planning}
 use Rattle.plan.specs.declared.Planning.the-variants.{Ready, NoRoom}
 use Rattle.plan.specs.Plan.{endsOf, isNew}
-use Rattle.plan.specs.Aims.{aims}
+use Rattle.plan.specs.Aims.{aimOf, aimedAt}
 use Rattle.plan.specs.Planning.{Regular, firstOf, lastOf}
 
 -- The entry that block `n` of domain `d` has in the pool `P`; of a page in a block of eight rights, the eight rights
@@ -49,7 +49,7 @@ module _ (s : Shape) (d : ℕ) (paint : Paint) (P : ℕ → ℕ) (owner : ℕ �
   pub record EdgeIs (h n : ℕ) (e : Edge) : Type 0 where
     pub number : e .number ≡ n
     pub old : e .old ≡ entryAt P h d n
-    pub last : e .last ≡ entryWord s owner (aims s d paint P) P h (blocks h * d + n)
+    pub last : e .last ≡ entryWord s owner (aimedAt s (aimOf d paint) P) P h (blocks h * d + n)
 
   -- The edges of a height are right.
   pub record EndsIs (h : ℕ) (ends : Ends) : Type 0 where
@@ -65,19 +65,19 @@ module _ (s : Shape) (d : ℕ) (paint : Paint) (P : ℕ → ℕ) (owner : ℕ �
 -- The tables of a height have their places: `owner` says which block stands where.
 abbrev pub Placed : Shape → ℕ → Paint → (ℕ → ℕ) → ℕ → (ℕ → Bool) → (ℕ → ℕ) → Type 0
 Placed s d paint P h free owner =
-    Owned (blocks h * s .domains) (places s h) (want (aims s d paint P) h) (old P h) free (was s P h) owner
+    Owned (blocks h * s .domains) (places s h) (want (aimedAt s (aimOf d paint) P) h) (old P h) free (was s P h) owner
 
 -- A plan that is ready: the tables of the finished pool have their places, and the plan is right at its edges.
 pub record PlanReady (s : Shape) (d : ℕ) (paint : Paint) (P : ℕ → ℕ) (q : Plan) : Type 0 where
   pub free : ℕ → ℕ → Bool
   pub owner : ℕ → ℕ → ℕ
-  pub placed : AllOwned s (aims s d paint P) P free owner
+  pub placed : AllOwned s (aimedAt s (aimOf d paint) P) P free owner
   pub edges : Edges s d paint P owner q
 
 -- The plan of a change: ready, or the finished rights need more tables than there are places.
 abbrev pub PlansChange : Shape → ℕ → Paint → (ℕ → ℕ) → Planning → Type 0
 PlansChange s d paint P (Ready q) = PlanReady s d paint P q
-PlansChange s d paint P NoRoom = Room s (aims s d paint P) → ⊥
+PlansChange s d paint P NoRoom = Room s (aimedAt s (aimOf d paint) P) → ⊥
 
 -- The steps, for each height: first the edges, then the marks of kept tables, then the places of new ones.
 
@@ -130,10 +130,11 @@ module _ (s : Shape) (d : ℕ) (paint : Paint) (P : ℕ → ℕ) where
   pub record Told (h n : ℕ) (e : Edge) : Type 0 where
     pub number : e .number ≡ n
     pub old : e .old ≡ entryAt P h d n
-    pub wanted : leads (suc h) (e .last) ≡ want (aims s d paint P) h (blocks h * d + n)
+    pub wanted : leads (suc h) (e .last) ≡ want (aimedAt s (aimOf d paint) P) h (blocks h * d + n)
     pub kept : leads (suc h) (e .old) ≡ true → leads (suc h) (e .last) ≡ true → e .last ≡ e .old
     pub said : leads (suc h) (e .last) ≡ false
-        → e .last ≡ saidOf (aims s d paint P (domainOf h (blocks h * d + n))) (suc h) (addressOf h (blocks h * d + n))
+        → e .last ≡ saidOf (aimedAt s (aimOf d paint) P (domainOf h (blocks h * d + n))) (suc h) (addressOf h
+        (blocks h * d + n))
 
   -- The same of both ends of the region.
   pub record EndsTold (h : ℕ) (ends : Ends) : Type 0 where
@@ -143,7 +144,8 @@ module _ (s : Shape) (d : ℕ) (paint : Paint) (P : ℕ → ℕ) where
   -- Of the tables of height `h` of the blocks below `i`, the places of those that are kept are marked.
   pub record KeptMarked (h i : ℕ) (f : List Bool) : Type 0 where
     pub owner : ℕ → ℕ
-    pub keeping : Keeping (blocks h * s .domains) (places s h) (want (aims s d paint P) h) (old P h) (was s P h) i owner
+    pub keeping : Keeping (blocks h * s .domains) (places s h) (want (aimedAt s (aimOf d paint) P) h) (old P h)
+        (was s P h) i owner
     pub marks : (p : ℕ) → p < places s h → getD f p false ≡ ltb (owner p) (blocks h * s .domains)
     pub long : length f ≡ 64
 
@@ -157,7 +159,7 @@ module _ (s : Shape) (d : ℕ) (paint : Paint) (P : ℕ → ℕ) where
   -- They have their places, or they are too many.
   abbrev pub EndsAre : ℕ → Placing → Type 0
   EndsAre h (Both ends) = EndsPlaced h ends
-  EndsAre h Full = places s h < count (want (aims s d paint P) h) (blocks h * s .domains)
+  EndsAre h Full = places s h < count (want (aimedAt s (aimOf d paint) P) h) (blocks h * s .domains)
 
 -- `r` is the first place from `c` on that is not marked, or `m` where all below `m` are.
 pub record FirstFree (f : List Bool) (c m r : ℕ) : Type 0 where

@@ -204,7 +204,8 @@ fn change_refused<S: Subject>(subject: &'static S) -> Body {
     })
 }
 
-/// A pool that a cut left with a table that is not wanted; before each run the words that a tidying stores are put back.
+/// A pool that a cut left with a table that is not wanted; before each run the words that a tidying stores
+/// are put back.
 fn tidy_after_cut<S: Subject>(subject: &'static S) -> Body {
     let mut cut = almost_full(subject);
     let page = 0x3F_0000;

@@ -19,7 +19,7 @@ impl Segments {
         self.0.range(..=word).next_back().map_or(0, |(_, &right)| right)
     }
 
-    /// Gives the words from `lo` up to `hi` a right: the segments there go, and neighbours of the same right are joined.
+    /// Gives the words from `lo` up to `hi` a right: the segments there go, and neighbours of one right are joined.
     #[inline(never)]
     pub fn set(&mut self, lo: u32, hi: u32, right: u32) {
         let after = if hi < WORDS { Some(self.right(hi)) } else { None };

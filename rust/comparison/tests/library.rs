@@ -55,8 +55,8 @@ fn soak() {
     }
 }
 
-/// The paper leaves open which words a cut has reached; the library fixes them by its order of stores, which is also the
-/// twin's.
+/// The paper leaves open which words a cut has reached; the library fixes them by its order of stores, which is also
+/// the twin's.
 #[test]
 fn cuts_reach_the_words_of_the_fixed_order() {
     let shape = Shape::new(2, 3, 5);

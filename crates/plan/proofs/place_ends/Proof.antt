@@ -1,5 +1,4 @@
 -- `plan::place_ends` meets its contract.
-use mathlib.Core.Path.{_≡_}
 use native.Mathlib.Omega.{arith}
 use borrow.Author.Needs.{needs}
 use Rattle.plan.proofs.GiveLaws.{given-none, given-one, given-second-none, given-two, taken-low}

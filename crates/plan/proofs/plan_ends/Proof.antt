@@ -1,6 +1,5 @@
 -- `plan::plan_ends` meets its contract.
 use native.Mathlib.Omega.{arith}
-use borrow.Author.Needs.{needs}
 use Rattle.theory.specs.Pool.{words}
 use Rattle.plan.proofs.DraftLaws.{pool-root, pool-gives}
 use Rattle.plan.proofs.KeptLaws.{marked-all}

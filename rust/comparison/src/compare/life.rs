@@ -1,5 +1,5 @@
-//! A supervisor's life: changes that finish or are cut, flushes, resets, tidyings, and checks between them. It holds what
-//! the paper demands of a whole series: what right a word may have, and that a buffer gives the walk's verdict.
+//! A supervisor's life: changes that finish or are cut, flushes, resets, tidyings, and checks between them. It holds
+//! what the paper demands of a whole series: what right a word may have, and that a buffer gives the walk's verdict.
 
 use super::series::fresh;
 use super::{Run, MARK};
