@@ -11,7 +11,8 @@ use borrow.Author.Tests.{eqb-true, not-true}
 use lib.Dec.{eqb}
 use lib.ListN.{length, getD, take, drop, set, length-set, length-append, drop-of-length-le}
 use lib.Seq.{sets, drop-cons, getD-at, getD-append-seam, getD-append-add}
-use Rattle.rows.specs.Rows.{wordsOf, Layout}
+use Rattle.rows.specs.Rows.{wordsOf}
+use Rattle.rows.proofs.Layouts.{Layout}
 use Rattle.rows.proofs.RowLaws.{add-two, length-said, said-at, length-words, row-words, words-set}
 use Rattle.rows.proofs.RowLaws.{words-set-after, words-said, rows-words}
 use Rattle.gates.specs.declared.Gate.{Gate}

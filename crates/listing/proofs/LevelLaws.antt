@@ -16,8 +16,8 @@ use Rattle.table.specs.declared.Shape.{Shape}
 use Rattle.table.specs.declared.Entry.the-variants.{Rights, Leads, Bad}
 use Rattle.table.specs.Shape.{Fits, size}
 use Rattle.table.specs.Map.{part, parts, index, formOf}
-use Rattle.table.specs.Wants.{wordsIn, levelOf, blockWords, sameOf}
-use Rattle.table.specs.Entries.{decodeOf}
+use Rattle.table.specs.Wants.{wordsIn}
+use Rattle.table.specs.Entries.{decodeOf, levelOf, blockWords, sameOf}
 use Rattle.table.proofs.BlockLaws.{first-word}
 use Rattle.table.proofs.EntryLaws.{decode-rights, bad-rights, rights-leads}
 use Rattle.census.proofs.ReadableLaws.{Walkable, sound-readable, reached-not-bad, reached-rights-right, reached-leads}

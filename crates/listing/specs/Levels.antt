@@ -9,7 +9,7 @@ use Rattle.words.specs.Rights.{rightAt}
 use Rattle.table.specs.declared.Shape.{Shape}
 use Rattle.table.specs.Shape.{Fits, size}
 use Rattle.table.specs.Map.{part, parts, index, formOf}
-use Rattle.table.specs.Wants.{blockWords, sameOf}
+use Rattle.table.specs.Entries.{blockWords, sameOf}
 use Rattle.listing.specs.Runs.{memoryWords}
 
 -- For how many words a table stands.

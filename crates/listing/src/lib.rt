@@ -12,7 +12,7 @@ ghost use Rattle.listing.specs.Scan.{listingOf};
 ghost use Rattle.listing.specs.Sheets.{putRun, sheet, counted, closed, feed, fed, OpenAt, written, opening};
 ghost use Rattle.listing.specs.Sheets.{countOf};
 ghost use Rattle.listing.specs.Levels.{tableWords, entrySays, entryRight};
-ghost use Rattle.table.specs.Wants.{blockWords};
+ghost use Rattle.table.specs.Entries.{blockWords};
 ghost use Rattle.listing.specs.Levels.{tableRight, AllSay, EntryAt, TableAt};
 ghost use Rattle.listing.specs.Listing.{wordRight, Lists};
 

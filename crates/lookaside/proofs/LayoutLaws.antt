@@ -8,7 +8,8 @@ use native.Mathlib.Numerals.{add-one}
 use native.Mathlib.Omega.{arith}
 use lib.ListN.{length, getD, take, drop, set, replicate, length-set, length-append, length-map, drop-of-length-le}
 use lib.Seq.{sets, set-getD, drop-cons, getD-at, getD-append-seam, getD-append-add}
-use Rattle.rows.specs.Rows.{wordsOf, Layout}
+use Rattle.rows.specs.Rows.{wordsOf}
+use Rattle.rows.proofs.Layouts.{Layout}
 use Rattle.rows.proofs.RowLaws.{add-two, add-three, length-said, length-words, row-again, words-set, words-set-after}
 use Rattle.rows.proofs.RowLaws.{words-said, rows-words}
 use Rattle.lookaside.specs.declared.Slot.{Slot}

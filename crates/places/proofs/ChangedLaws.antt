@@ -11,7 +11,7 @@ use Rattle.words.specs.Region.{covered}
 use Rattle.words.specs.declared.Region.{Region}
 use Rattle.table.specs.Wants.{WordRights}
 use Rattle.table.proofs.WantLaws.{painted-rights}
-use Rattle.places.specs.Count.{changed}
+use Rattle.places.specs.Final.{changed}
 
 module _ (R : ℕ → ℕ → ℕ) (e : ℕ) (region : Region) (r : ℕ) where
   pub changed-covered : (a : ℕ) → covered region a ≡ true → changed R e region r e a ≡ r

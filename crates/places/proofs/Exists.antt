@@ -18,8 +18,8 @@ use Rattle.table.specs.Map.{addresses, formOf}
 use Rattle.table.specs.Wants.{WordRights}
 use Rattle.table.proofs.FormLaws.{lawful, exact}
 use Rattle.table.proofs.WantLaws.{wants-divided, divided-wants, wanting, pool-rights}
-use Rattle.places.specs.Count.{count, heights, blocks, domainOf, addressOf, want, Room, changed}
-use Rattle.places.specs.Final.{number, old, was, AllOwned, final}
+use Rattle.places.specs.Count.{count, heights, blocks, domainOf, addressOf, want, Room}
+use Rattle.places.specs.Final.{number, old, was, AllOwned, final, changed}
 use Rattle.places.proofs.CountLaws.{count-into, count-all}
 use Rattle.places.proofs.KeepLaws.{owners}
 use Rattle.places.proofs.HeightLaws.{choose, dec-heights}

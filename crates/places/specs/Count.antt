@@ -1,9 +1,6 @@
--- How many tables rights need, and the rights after a change.
+-- How many tables rights need.
 use Prim.Native.Nat.{ℕ, zero, suc, _+_, _*_, _/_, _%_, _≤_, _<_}
-use mathlib.Core.Bool.{Bool, cond, _&&_}
-use lib.Dec.{eqb}
-use Rattle.words.specs.Region.{covered}
-use Rattle.words.specs.declared.Region.{Region}
+use mathlib.Core.Bool.{Bool, cond}
 use Rattle.table.specs.declared.Shape.{Shape}
 use Rattle.table.specs.Shape.{places}
 use Rattle.table.specs.Map.{block}
@@ -39,7 +36,3 @@ want R h i = wantsOf (R (domainOf h i)) (suc h) (addressOf h i)
 -- At each height the rights `R` want no more tables, over all domains, than there are places.
 pub record Room (s : Shape) (R : ℕ → ℕ → ℕ) : Type 0 where
   pub tables : (h : ℕ) → h < heights → count (want R h) (blocks h * s .domains) ≤ places s h
-
--- The rights after a change: domain `e` has the right `r` on the covered words, and all else is as in `R`.
-abbrev pub changed : (ℕ → ℕ → ℕ) → ℕ → Region → ℕ → ℕ → ℕ → ℕ
-changed R e region r d a = cond (eqb d e && covered region a) r (R d a)

@@ -2,7 +2,9 @@
 -- What is said of a height `h` below 2 is said of the tables of that height: 0 the leaves, 1 the middle tables.
 use Prim.Native.Nat.{ℕ, zero, suc, _+_, _*_, _-_, _/_, _%_, _<_}
 use mathlib.Core.Bool.{Bool, true, cond, _&&_, not}
-use lib.Dec.{ltb}
+use lib.Dec.{eqb, ltb}
+use Rattle.words.specs.Region.{covered}
+use Rattle.words.specs.declared.Region.{Region}
 use Rattle.table.specs.declared.Shape.{Shape}
 use Rattle.table.specs.Shape.{firstMiddle, firstPlace, places, size}
 use Rattle.table.specs.Map.{block, leads, zone}
@@ -78,3 +80,7 @@ module _ (s : Shape) where
       cond (ltb k (firstMiddle s)) true
       (ltb ((k - firstPlace s (zone s k)) / size (zone s k)) (places s (zone s k))
       && not (free (zone s k) ((k - firstPlace s (zone s k)) / size (zone s k))))
+
+-- The rights after a change: domain `e` has the right `r` on the covered words, and all else is as in `R`.
+abbrev pub changed : (ℕ → ℕ → ℕ) → ℕ → Region → ℕ → ℕ → ℕ → ℕ
+changed R e region r d a = cond (eqb d e && covered region a) r (R d a)

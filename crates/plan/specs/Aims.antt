@@ -13,7 +13,6 @@ use Rattle.words.specs.declared.Region.{Region}
 use Rattle.table.specs.declared.Shape.{Shape}
 use Rattle.table.specs.Map.{formOf}
 use Rattle.targets.specs.declared.Paint.{Paint}
-use Rattle.targets.specs.Paints.{region}
 
 -- Which addresses of which domains are covered, and the right that each of them is to get.
 pub record Aim : Type 0 where
@@ -30,7 +29,7 @@ noAim = record { covers = λ e a. false; sets = λ e a. 0 }
 
 -- The aim that a domain and a paint fix.
 abbrev pub aimOf : ℕ → Paint → Aim
-aimOf d paint = changeAim d (region paint) (paint .right)
+aimOf d paint = changeAim d (record { lo = paint .lo; hi = paint .hi }) (paint .right)
 
 -- The rights at which an aim aims, from the pool `P`: its own where it covers, and elsewhere those that there are.
 abbrev pub aimedAt : Shape → Aim → (ℕ → ℕ) → ℕ → ℕ → ℕ

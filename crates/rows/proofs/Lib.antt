@@ -1,2 +1,3 @@
 -- The laws of rows in words.
+pub mod Layouts
 pub mod RowLaws

@@ -12,7 +12,8 @@ use native.Mathlib.Omega.{arith}
 use lib.ListN.{length, getD, take, drop, set, replicate, length-append, List·getD-append, take-append-drop}
 use lib.Seq.{sets, sets-eq, take-add, take-at, drop-at, drop-append-add, getD-at, split-at, ext-getD, length-take-le}
 use lib.Seq.{set-split, take-suc-set, take-all}
-use Rattle.rows.specs.Rows.{rowsOf, wordsOf, Layout}
+use Rattle.rows.specs.Rows.{rowsOf, wordsOf}
+use Rattle.rows.proofs.Layouts.{Layout}
 
 -- The sums of an index and a small number, as numbers that a list is read by.
 pub add-two : (j : ℕ) → j + 2 ≡ suc (suc j)

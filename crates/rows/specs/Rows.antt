@@ -1,9 +1,6 @@
 -- Rows in words: each row the same number of words, one row after the other.
-use Prim.Native.Nat.{ℕ, zero, suc, _+_, _≤_}
-use mathlib.Core.Path.{_≡_}
-use mathlib.Core.Bool.{Bool, true}
+use Prim.Native.Nat.{ℕ, zero, suc}
 use mathlib.Core.List.{List, [], _∷_, _++_}
-use lib.ListN.{length, take, drop}
 
 -- The rows `f 0`, `f 1` and so on, `n` of them.
 unfoldable pub rowsOf : {A : Type 0} → ℕ → (ℕ → A) → List A
@@ -14,14 +11,3 @@ rowsOf (suc n) f = rowsOf n f ++ f n ∷ []
 unfoldable pub wordsOf : {A : Type 0} → (A → List ℕ) → List A → List ℕ
 wordsOf row [] = []
 wordsOf row (x ∷ xs) = row x ++ wordsOf row xs
-
--- How a row lies in words: in how many; the row in the words from an index on; the words of a row; and that the two
--- are inverse to each other, for each row that words can say.
-pub record Layout (A : Type 0) : Type 0 where
-  pub width : ℕ
-  pub at : List ℕ → ℕ → A
-  pub row : A → List ℕ
-  pub sayable : A → Bool
-  pub long : (x : A) → length (row x) ≡ width
-  pub read : (ws : List ℕ) (j : ℕ) → j + width ≤ length ws → row (at ws j) ≡ take width (drop j ws)
-  pub again : (x : A) → sayable x ≡ true → (b a : List ℕ) → at (b ++ (row x ++ a)) (length b) ≡ x

@@ -21,7 +21,8 @@ use Rattle.words.proofs.RightsLaws.{right-small, pack-digit, pack-range, pack-g
 use Rattle.table.specs.declared.Shape.{Shape}
 use Rattle.table.specs.Shape.{size}
 use Rattle.table.specs.Map.{addresses, block, part, parts, index, leads, Divided, formOf}
-use Rattle.table.specs.Wants.{any, wordAt, wordsIn, mixed, wantsOf, above, saidOf, sameOf, WordRights}
+use Rattle.table.specs.Entries.{sameOf}
+use Rattle.table.specs.Wants.{any, wordAt, wordsIn, mixed, wantsOf, above, saidOf, WordRights}
 use Rattle.table.proofs.BlockLaws.{block-above, block-together, together-block, part-in-block, number-below}
 use Rattle.table.proofs.BlockLaws.{part-above}
 use Rattle.table.proofs.BlockLaws.{byte-part, byte-block, first-word, word-below, word-block, word-part}

@@ -1,11 +1,9 @@
 -- Whether a block wants a table, as a test over its words, and the entry of a block that wants none.
 use Prim.Native.Nat.{ℕ, zero, suc, _+_, _*_, _/_, _<_}
 use mathlib.Core.Path.{_≡_}
-use mathlib.Core.Bool.{Bool, false, cond, _||_, not}
+use mathlib.Core.Bool.{Bool, false, _||_, not}
 use lib.Dec.{eqb}
-use Rattle.words.specs.Rights.{pack, eightOf, sixteenOf}
-use Rattle.table.specs.declared.geometry.Level.{Level}
-use Rattle.table.specs.Shape.{size}
+use Rattle.words.specs.Rights.{pack}
 use Rattle.table.specs.Map.{addresses, block, part, parts}
 
 -- One of the first `n` numbers passes the test `f`.
@@ -16,10 +14,6 @@ any f (suc n) = f n || any f n
 -- The address of word `j` of sub-block `i` of the block of an entry of height `h` around `a`.
 abbrev pub wordAt : ℕ → ℕ → ℕ → ℕ → ℕ
 wordAt h a i j = a / block h * block h + part h * i + 4 * j
-
--- How many words the block of an entry has.
-abbrev pub blockWords : ℕ → ℕ
-blockWords h = block h / 4
 
 -- How many words a sub-block has.
 abbrev pub wordsIn : ℕ → ℕ
@@ -41,15 +35,6 @@ above (suc h) = 32768
 -- The entry of a block that wants no table: the right of the first word of each sub-block.
 abbrev pub saidOf : (ℕ → ℕ) → ℕ → ℕ → ℕ
 saidOf R h a = pack (above h) (parts h) (λ i. R (wordAt h a i 0))
-
--- The numbers of a height.
-abbrev pub levelOf : ℕ → Level
-levelOf h = record { entries = size h; parts = parts h; step = wordsIn h; block = blockWords h }
-
--- The entry that says one right for its whole block.
-abbrev pub sameOf : ℕ → ℕ → ℕ
-sameOf zero q = sixteenOf q
-sameOf (suc h) q = eightOf q
 
 -- Rights of words: below 4, and one for the four bytes of a word.
 pub record WordRights (R : ℕ → ℕ) : Type 0 where

@@ -5,7 +5,8 @@ ghost use mathlib.Core.Path.{_≡_};
 ghost use Prim.Native.Nat.{_+_, _*_, _/_, _<_, _≤_};
 ghost use Rattle.table.specs.Shape.{InRange, firstPlace, places, size};
 ghost use Rattle.table.specs.Map.{parts, leads};
-ghost use Rattle.table.specs.Wants.{blockWords, wordsIn, levelOf, sameOf};
+ghost use Rattle.table.specs.Entries.{blockWords, levelOf, sameOf};
+ghost use Rattle.table.specs.Wants.{wordsIn};
 use crate::Shape;
 use words::PoolWord;
 

@@ -9,7 +9,8 @@ use Rattle.words.specs.Rights.{rightAt, goodRights}
 use Rattle.words.specs.Region.{covered}
 use Rattle.table.specs.Shape.{size}
 use Rattle.table.specs.Map.{addresses, block, part, parts, index, leads}
-use Rattle.table.specs.Wants.{wantsOf, saidOf, sameOf}
+use Rattle.table.specs.Entries.{sameOf}
+use Rattle.table.specs.Wants.{wantsOf, saidOf}
 use Rattle.targets.specs.declared.Paint.{Paint}
 use Rattle.targets.specs.declared.Target.{Target}
 use Rattle.targets.specs.declared.Target.the-variants.{Says, Mixed}

@@ -5,7 +5,7 @@ use native.Mathlib.Omega.{arith}
 use borrow.Author.Needs.{needs}
 use lib.ListN.{length}
 use Rattle.table.specs.declared.Shape.{Shape}
-use Rattle.table.specs.Wants.{levelOf}
+use Rattle.table.specs.Entries.{levelOf}
 use Rattle.listing.specs.Runs.{memoryWords}
 use Rattle.listing.specs.Sheets.{sheet}
 use Rattle.listing.specs.Levels.{tableRight, EntryAt, TableAt}

@@ -5,7 +5,7 @@ use native.Mathlib.Omega.{arith}
 use borrow.Author.Needs.{needs}
 use lib.ListN.{length}
 use Rattle.words.specs.Rights.{rightAt}
-use Rattle.table.specs.Wants.{blockWords, sameOf}
+use Rattle.table.specs.Entries.{blockWords, sameOf}
 use Rattle.listing.specs.Levels.{entrySays}
 use Rattle.listing.specs.Sheets.{sheet, feed}
 use Rattle.listing.proofs.SheetLaws.{Along, along-start, along-end}

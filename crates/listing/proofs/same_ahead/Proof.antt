@@ -5,7 +5,7 @@ use native.Mathlib.Omega.{arith}
 use borrow.Author.Needs.{needs}
 use Rattle.theory.specs.Pool.{words}
 use Rattle.words.proofs.RightsLaws.{right-small}
-use Rattle.table.specs.Wants.{sameOf}
+use Rattle.table.specs.Entries.{sameOf}
 use Rattle.listing.specs.Levels.{AllSay}
 use Rattle.listing.proofs.same_ahead.Statement.{statement}
 use Rattle.listing.proofs.same_ahead.Tie as tie

@@ -5,7 +5,7 @@ use native.Mathlib.Omega.{arith}
 use borrow.Author.Needs.{needs}
 use Rattle.words.specs.Rights.{rightAt}
 use Rattle.table.specs.Shape.{size}
-use Rattle.table.specs.Wants.{sameOf}
+use Rattle.table.specs.Entries.{sameOf}
 use Rattle.targets.proofs.virtual_entry.Statement.{statement}
 use Rattle.targets.proofs.virtual_entry.Tie as tie
 

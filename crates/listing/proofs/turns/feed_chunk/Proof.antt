@@ -2,7 +2,7 @@
 use mathlib.Core.Path.{_≡_, sym, ap, _∙_}
 use borrow.Author.Needs.{needs}
 use Rattle.words.specs.Rights.{rightAt}
-use Rattle.table.specs.Wants.{sameOf}
+use Rattle.table.specs.Entries.{sameOf}
 use Rattle.listing.specs.Sheets.{sheet, feed}
 use Rattle.listing.proofs.LevelLaws.{same-fed}
 use Rattle.listing.proofs.turns.feed_chunk.Statement.{statement}
