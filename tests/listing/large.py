@@ -48,16 +48,15 @@ class Rights:
 
     def change(self, domain, start, length, right):
         """The number for a change: within the first part, or of whole parts, so that there is always room."""
-        start, length = start // 4 * 4, (length + 3) // 4 * 4
         if domain > 3:
             return 2
         if right > 3:
             return 3
         if length == 0:
             return 4
-        if start + length > 1 << 32:
+        start, end = start // 4 * 4, start // 4 * 4 + (start % 4 + length + 3) // 4 * 4
+        if end > 1 << 32:
             return 5
-        end = start + length
         if domain == 0 and start < PART:
             past = min(end, PART)
             self.words[start // 4:past // 4] = bytes([right]) * ((past - start) // 4)
@@ -91,7 +90,8 @@ def request(rng):
         start = rng.randrange(1 << 16)
         return rng.choice((0,) * 9 + (4,)), start, rng.randrange(400), right
     part, parts = rng.randrange(8192), rng.randrange(4) if rng.random() < 0.9 else rng.randrange(8192)
-    return rng.randrange(4), part * PART + rng.randrange(4), max(parts * PART - rng.randrange(4), 0), right
+    low = rng.randrange(4)
+    return rng.randrange(4), part * PART + low, max(parts * PART - low - rng.randrange(4), 0), right
 
 
 def line(rng):

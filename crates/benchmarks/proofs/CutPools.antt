@@ -18,6 +18,7 @@ use Rattle.words.specs.Rights.{rightAt}
 use Rattle.words.specs.Region.{rounded, regionOf}
 use Rattle.words.specs.declared.Region.{Region}
 use Rattle.words.proofs.RightsLaws.{eight-right}
+use Rattle.words.proofs.RegionLaws.{covered-yes, covered-no, covered-range}
 use Rattle.table.specs.declared.Shape.{Shape}
 use Rattle.table.specs.Shape.{Fits}
 use Rattle.table.specs.Map.{addresses, formOf}
@@ -28,7 +29,7 @@ use Rattle.plan.specs.Aims.{aimOf, changeAim, aimedAt}
 use Rattle.change.specs.Cuts.{differing}
 use Rattle.change.specs.Answers.{IsCut, Asked}
 use Rattle.benchmarks.specs.Rows.{shape}
-use Rattle.benchmarks.proofs.RowLaws.{fresh-fits, in-range, covered-yes, covered-no, covered-range}
+use Rattle.benchmarks.proofs.RowLaws.{fresh-fits, in-range}
 use Rattle.benchmarks.proofs.RowLaws.{aims-fresh, change-cut, listed, listed-long, listed-words}
 use Rattle.benchmarks.proofs.PageLaws.{after, at-root, at-middle, after-root, after-middle, after-past}
 use Rattle.benchmarks.proofs.PagePools.{page-word, page-long, page-done-finished}

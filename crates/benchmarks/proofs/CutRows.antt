@@ -14,6 +14,7 @@ use Rattle.theory.proofs.Logic.{by-cases}
 use Rattle.words.specs.Rights.{rightAt}
 use Rattle.words.specs.Region.{regionOf, covered}
 use Rattle.words.proofs.RightsLaws.{eight-right}
+use Rattle.words.proofs.RegionLaws.{covered-range}
 use Rattle.table.specs.declared.Found.the-variants.{By}
 use Rattle.table.specs.Shape.{Fits}
 use Rattle.table.specs.Map.{addresses, formOf}
@@ -30,7 +31,7 @@ use Rattle.change.specs.Answers.{IsCut as WasCut}
 use Rattle.change.proofs.ChangesLaws.{one-change}
 use Rattle.change.proofs.DifferLaws.{differing-set, differing-self}
 use Rattle.benchmarks.specs.Rows.{shape, NoneOrTwo, CutBeforeTheLast, GivesUpBoth}
-use Rattle.benchmarks.proofs.RowLaws.{always-change, finds, fresh-fits, in-range, covered-range, aims-fresh}
+use Rattle.benchmarks.proofs.RowLaws.{always-change, finds, fresh-fits, in-range, aims-fresh}
 use Rattle.benchmarks.proofs.RowLaws.{change-done, listed}
 use Rattle.benchmarks.proofs.FlatLaws.{flat-finished, flat-right}
 use Rattle.benchmarks.proofs.PageLaws.{after, after-root}

@@ -18,6 +18,7 @@ use Rattle.words.specs.Region.{rounded, regionOf, covered}
 use Rattle.words.specs.declared.Region.{Region}
 use Rattle.words.specs.declared.Rounded.the-variants.{Covers}
 use Rattle.words.proofs.RightsLaws.{eight-right}
+use Rattle.words.proofs.RegionLaws.{covered-yes, covered-no}
 use Rattle.table.specs.declared.Deciding.{Deciding}
 use Rattle.table.specs.declared.Found.the-variants.{By, Refused}
 use Rattle.table.specs.declared.Made.the-variants.{Done as Made}
@@ -40,7 +41,7 @@ use Rattle.change.specs.Cuts.{differing}
 use Rattle.change.specs.Answers.{Asked, in-order, no-room}
 use Rattle.change.proofs.DifferLaws.{differing-set, differing-self}
 use Rattle.benchmarks.specs.Rows.{shape, AnyAddress, SetsOnePart, NoRoomForLess, SetsAll, ZeroWord}
-use Rattle.benchmarks.proofs.RowLaws.{always-change, finds, fresh-fits, in-range, covered-yes, covered-no}
+use Rattle.benchmarks.proofs.RowLaws.{always-change, finds, fresh-fits, in-range}
 use Rattle.benchmarks.proofs.RowLaws.{aims-fresh, change-done}
 use Rattle.benchmarks.proofs.FlatLaws.{flat-finished, flat-right, first-part}
 

@@ -11,6 +11,7 @@ use Rattle.theory.proofs.FinishedLaws.{finished-same, settled-finished}
 use Rattle.words.specs.Rights.{pack}
 use Rattle.words.specs.Region.{rounded, regionOf, covered}
 use Rattle.words.specs.declared.Region.{Region}
+use Rattle.words.proofs.RegionLaws.{covered-range}
 use Rattle.table.specs.Map.{formOf}
 use Rattle.table.specs.Wants.{saidOf}
 use Rattle.table.specs.Fresh.{freshPool}
@@ -23,7 +24,7 @@ use Rattle.change.specs.Cuts.{differing}
 use Rattle.change.specs.Answers.{no-region, in-order, cut}
 use Rattle.change.proofs.DifferLaws.{differing-self}
 use Rattle.benchmarks.specs.Rows.{shape, Always, AnsweredCut, AnsweredRefused, Sets, LastWord}
-use Rattle.benchmarks.proofs.RowLaws.{always-change, covered-range, aims-fresh}
+use Rattle.benchmarks.proofs.RowLaws.{always-change, aims-fresh}
 use Rattle.benchmarks.proofs.RowLaws.{change-done, listed}
 use Rattle.benchmarks.proofs.CutRows.{fresh, fresh-fit}
 use Rattle.benchmarks.proofs.PageLaws.{OnePage, after}

@@ -11,6 +11,7 @@ pub mod OneTable
 pub mod RootTidy
 pub mod TidyRow
 pub mod Rows
+pub mod LengthRows
 pub mod AllowanceLaws
 pub mod CutPools
 pub mod CutWitness

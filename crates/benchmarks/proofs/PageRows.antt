@@ -7,6 +7,7 @@ use Rattle.theory.specs.Walk.{walk}
 use Rattle.words.specs.Rights.{pack}
 use Rattle.words.specs.Region.{rounded, regionOf}
 use Rattle.words.specs.declared.Region.{Region}
+use Rattle.words.proofs.RegionLaws.{covered-range}
 use Rattle.table.specs.declared.Found.the-variants.{By}
 use Rattle.table.specs.Wants.{any}
 use Rattle.table.specs.Fresh.{freshPool}
@@ -14,7 +15,7 @@ use Rattle.table.proofs.WantLaws.{wants-leaf}
 use Rattle.change.specs.declared.Answer.the-variants.{Done}
 use Rattle.change.specs.Cuts.{differing}
 use Rattle.benchmarks.specs.Rows.{shape, Sets, SetsOneLeaf, LooksAround, SetsOneMiddle}
-use Rattle.benchmarks.proofs.RowLaws.{always-change, finds, listed, covered-range}
+use Rattle.benchmarks.proofs.RowLaws.{always-change, finds, listed}
 use Rattle.benchmarks.proofs.PageLaws.{OnePage, after}
 use Rattle.benchmarks.proofs.PagePools.{painted, one-page, pagePool, page-done}
 

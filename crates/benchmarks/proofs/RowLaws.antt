@@ -8,14 +8,12 @@ use mathlib.Core.List.{List, [], _∷_}
 use native.Mathlib.Omega.{arith}
 use native.Mathlib.Nat.{le-of-suc-le-suc}
 use native.Mathlib.Decide.{decLt}
-use lib.Dec.{leb, ltb}
 use lib.ListN.{length, length-append, length-replicate, List·getD-eq-default}
 use lib.Seq.{ext-getD}
-use borrow.Author.Tests.{eq-eqb, le-leb, lt-ltb, leb-true, ltb-true}
+use borrow.Author.Tests.{eq-eqb}
 use Rattle.theory.specs.Pool.{words, SoundPool, rightOf}
 use Rattle.theory.specs.Settled.{Settled}
 use Rattle.theory.specs.Finished.{Finished}
-use Rattle.theory.proofs.Logic.{by-cases, and-both}
 use Rattle.theory.proofs.FinishedLaws.{one-finished}
 use Rattle.words.specs.Region.{covered}
 use Rattle.words.specs.declared.Region.{Region}
@@ -87,18 +85,6 @@ fresh-fits s r = record { range = r; long = fresh-long s }
 
 pub in-range : (M L : ℕ) → M ≤ maxMiddles → L ≤ maxLeaves → InRange (shape M L)
 in-range M L m l = record { some-domain = omega arith; domains = omega arith; middles = m; leaves = l }
-
--- Whether an address is covered.
-pub covered-yes : (g : Region) (a : ℕ) → g .lo ≤ a / 4 → a / 4 < g .hi → covered g a ≡ true
-covered-yes g a x y = rw (le-leb (g .lo) (a / 4) x, lt-ltb (a / 4) (g .hi) y) refl
-
-pub covered-range : (g : Region) (a : ℕ) → covered g a ≡ true → (g .lo ≤ a / 4) × (a / 4 < g .hi)
-covered-range g a e =
-    let (x, y) = and-both (leb (g .lo) (a / 4)) (ltb (a / 4) (g .hi)) e in
-    (leb-true (g .lo) (a / 4) x, ltb-true (a / 4) (g .hi) y)
-
-pub covered-no : (g : Region) (a : ℕ) → (g .lo ≤ a / 4 → a / 4 < g .hi → ⊥) → covered g a ≡ false
-covered-no g a f = by-cases (covered g a) (λ e. let (x, y) = covered-range g a e in absurd (f x y)) (λ e. e)
 
 -- What a change aims at where there are no rights: the right on the covered words, and none elsewhere.
 pub aims-bare : (s : Shape) (g : Region) (r : ℕ) (X : ℕ → ℕ) (d a : ℕ) → d < 1 → rightOf (formOf s) X d a ≡ 0

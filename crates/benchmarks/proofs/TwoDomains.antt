@@ -12,6 +12,7 @@ use Rattle.theory.specs.Pool.{words, rightOf}
 use Rattle.theory.specs.Settled.{Settled, HasTable}
 use Rattle.words.specs.Region.{rounded, covered}
 use Rattle.words.specs.declared.Region.{Region}
+use Rattle.words.proofs.RegionLaws.{covered-no}
 use Rattle.table.specs.declared.Shape.{Shape}
 use Rattle.table.specs.Shape.{Fits, places}
 use Rattle.table.specs.Map.{addresses, block, formOf}
@@ -27,7 +28,7 @@ use Rattle.plan.specs.Aims.{Aim, changeAim, aimedAt}
 use Rattle.change.specs.Answers.{IsDone}
 use Rattle.change.proofs.GoalLaws.{change-sets, fits-goal}
 use Rattle.benchmarks.specs.Witnesses.{SomeSettled}
-use Rattle.benchmarks.proofs.RowLaws.{fresh-fits, covered-no}
+use Rattle.benchmarks.proofs.RowLaws.{fresh-fits}
 use Rattle.benchmarks.proofs.AllowanceLaws.{enough-done}
 
 abbrev here : Region

@@ -8,7 +8,7 @@ use mathlib.Core.Bool.{Bool, true, false, cond, _&&_, true≢false, and-eq-true-
 use native.Mathlib.Omega.{arith}
 use native.Mathlib.Decide.{ℕ-discrete, decLt}
 use lib.Dec.{eqb, ltb, leb}
-use borrow.Author.Tests.{ne-eqb, lt-ltb, le-ltb, le-leb, leb-true, ltb-true}
+use borrow.Author.Tests.{ne-eqb, lt-ltb, le-ltb, le-leb, leb-true}
 use Rattle.theory.specs.Form.{Form}
 use Rattle.theory.specs.Pool.{words, rightOf, Led}
 use Rattle.theory.specs.Settled.{Together, Says}
@@ -18,6 +18,7 @@ use Rattle.theory.proofs.Encodes.{TellsWants, Gets, spot, Placing, Encodes, Fol
 use Rattle.theory.proofs.EncodesLaws.{gets-led, encodes-finished}
 use Rattle.words.specs.Rights.{rightAt, pack}
 use Rattle.words.specs.Region.{rounded, covered}
+use Rattle.words.proofs.RegionLaws.{covered-range}
 use Rattle.words.proofs.RightsLaws.{eight-right, sixteen-right}
 use Rattle.table.specs.declared.Shape.{Shape}
 use Rattle.table.specs.Map.{addresses, block, part, parts, leads, Divided, formOf}
@@ -95,17 +96,13 @@ far h n e = (
       (sym (range-near h n (omega arith) (omega arith)) ∙ e),
 )
 
-covered-range : (a : ℕ) → covered (rounded 0x3FFFFC 8) a ≡ true → (0x3FFFFC ≤ a) × (a < 0x400004)
-covered-range a e =
-    let (x, y) = and-eq-true-iff (leb 1048575 (a / 4)) (ltb (a / 4) 1048577) .0 e in
-    let p = leb-true 1048575 (a / 4) x in
-    let q = ltb-true (a / 4) 1048577 y in
-    (omega arith, omega arith)
+two-words : (a : ℕ) → covered (rounded 0x3FFFFC 8) a ≡ true → (0x3FFFFC ≤ a) × (a < 0x400004)
+two-words a e = let (lo, hi) = covered-range (rounded 0x3FFFFC 8) a e in (omega arith, omega arith)
 
 covered-near : (h a : ℕ) → covered (rounded 0x3FFFFC 8) a ≡ true → near h (a / block h) ≡ true
-covered-near zero a e = let r = covered-range a e in range-near 0 (a / 64) (omega arith) (omega arith)
-covered-near (suc zero) a e = let r = covered-range a e in range-near 1 (a / 4096) (omega arith) (omega arith)
-covered-near (suc (suc h)) a e = let r = covered-range a e in range-near 2 (a / 4194304) (omega arith) (omega arith)
+covered-near zero a e = let r = two-words a e in range-near 0 (a / 64) (omega arith) (omega arith)
+covered-near (suc zero) a e = let r = two-words a e in range-near 1 (a / 4096) (omega arith) (omega arith)
+covered-near (suc (suc h)) a e = let r = two-words a e in range-near 2 (a / 4194304) (omega arith) (omega arith)
 
 -- A block that has none of the two words has no right.
 quiet : (h a b : ℕ) → near h (a / block h) ≡ false → a / block h ≡ b / block h → (d : ℕ) → painted d b ≡ 0

@@ -28,13 +28,41 @@ nothing : regionOf 0xFFFFFFFC 0 ≡ Refused 4
 unfolding regionOf
 nothing = refl
 
--- Start and length are rounded each by itself: 0x1004 and 0x1005 are asked for, and not covered.
-one-word : regionOf 0x1002 4 ≡ Covers (record { lo = 0x400; hi = 0x401 })
+-- From the middle of a word: the start's low two bits count with the length.
+middle-of-a-word : regionOf 0x1002 4 ≡ Covers (record { lo = 0x400; hi = 0x402 })
 unfolding regionOf
-one-word = refl
+middle-of-a-word = refl
 
-one-word-covers : (covered (rounded 0x1002 4) 0x1003 ≡ true) × (covered (rounded 0x1002 4) 0x1004 ≡ false)
-one-word-covers = (refl, refl)
+middle-covers : (covered (rounded 0x1002 4) 0x1007 ≡ true) × (covered (rounded 0x1002 4) 0x1008 ≡ false)
+middle-covers = (refl, refl)
+
+-- They make no word more where the bytes asked for lie in one ..
+half-a-word : regionOf 0x1002 2 ≡ Covers (record { lo = 0x400; hi = 0x401 })
+unfolding regionOf
+half-a-word = refl
+
+-- .. nor a length out of none.
+no-length : regionOf 0x1002 0 ≡ Refused 4
+unfolding regionOf
+no-length = refl
+
+-- At the top of memory.
+last-half : regionOf 0xFFFFFFFE 2 ≡ Covers (record { lo = 0x3FFFFFFF; hi = 0x40000000 })
+unfolding regionOf
+last-half = refl
+
+past-last-half : regionOf 0xFFFFFFFE 3 ≡ Refused 5
+unfolding regionOf
+past-last-half = refl
+
+-- Sums that do not fit 32 bits: the last byte is asked for, and one past it.
+from-one : regionOf 1 0xFFFFFFFF ≡ Covers (record { lo = 0; hi = 0x40000000 })
+unfolding regionOf
+from-one = refl
+
+from-two : regionOf 2 0xFFFFFFFF ≡ Refused 5
+unfolding regionOf
+from-two = refl
 
 -- Words of the paper's benchmarks.
 leaf-of-twos : sixteenOf 2 ≡ 0xAAAAAAAA

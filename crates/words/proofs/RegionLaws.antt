@@ -1,15 +1,15 @@
--- Laws of regions: the three answers, what a region covers in bytes, and its bounds. Assumes nothing.
-use Prim.Native.Nat.{ℕ, _*_, _/_, _≤_, _<_}
+-- Laws of regions: the three answers, what a region covers, and that these are the words asked for. Assumes nothing.
+use Prim.Native.Nat.{ℕ, _+_, _*_, _/_, _%_, _≤_, _<_}
 use mathlib.Core.Path.{_≡_, refl, sym, ap, _∙_}
 use mathlib.Core.Logic.{_⊎_, inl, inr}
-use mathlib.Core.Bool.{_&&_}
+use mathlib.Core.Bool.{true, false, _&&_, and-eq-true-iff}
 use native.Mathlib.Omega.{arith}
 use native.Mathlib.Decide.{ℕ-discrete, decLt, decLe}
 use lib.Dec.{leb, ltb}
-use borrow.Author.Tests.{eq-eqb, ne-eqb, le-leb, lt-leb, lt-ltb, le-ltb}
+use borrow.Author.Tests.{eq-eqb, ne-eqb, le-leb, lt-leb, lt-ltb, le-ltb, leb-true, ltb-true}
 use Rattle.words.specs.declared.Region.{Region}
 use Rattle.words.specs.declared.Rounded.the-variants.{Covers, Refused}
-use Rattle.words.specs.Region.{roundedStart, roundedEnd, rounded, regionOf, numbers, covered}
+use Rattle.words.specs.Region.{roundedStart, roundedLength, roundedEnd, rounded, regionOf, numbers, covered}
 
 pub region-equal : (r s : Region) → r .lo ≡ s .lo → r .hi ≡ s .hi → r ≡ s
 region-equal r s e f = ap (λ x. record { lo = x; hi = r .hi }) e ∙ ap (λ x. record { lo = s .lo; hi = x }) f
@@ -89,6 +89,25 @@ region-covering start length r e = elim (ℕ-discrete length 0) [
     made : 0 < length → roundedEnd start length ≤ 4294967296 → r ≡ rounded start length → Covering start length r
     made h k p = record { asked = h; is-rounded = p; within = k; some = rw p (omega arith); below = rw p (omega arith) }
 
+-- Whether an address is covered.
+
+pub covered-yes : (g : Region) (a : ℕ) → g .lo ≤ a / 4 → a / 4 < g .hi → covered g a ≡ true
+covered-yes g a x y = rw (le-leb (g .lo) (a / 4) x, lt-ltb (a / 4) (g .hi) y) refl
+
+pub covered-no : (g : Region) (a : ℕ) → (g .lo ≤ a / 4 → a / 4 < g .hi → ⊥) → covered g a ≡ false
+covered-no g a f = elim (decLe (g .lo) (a / 4)) [
+  | yes x ↦ elim (decLt (a / 4) (g .hi)) [
+    | yes y ↦ absurd (f x y)
+    | no y ↦ rw (le-leb (g .lo) (a / 4) x, le-ltb (a / 4) (g .hi) (omega arith)) refl
+  ]
+  | no x ↦ rw (lt-leb (g .lo) (a / 4) (omega arith)) refl
+]
+
+pub covered-range : (g : Region) (a : ℕ) → covered g a ≡ true → (g .lo ≤ a / 4) × (a / 4 < g .hi)
+covered-range g a e =
+    let (x, y) = and-eq-true-iff (leb (g .lo) (a / 4)) (ltb (a / 4) (g .hi)) .0 e in
+    (leb-true (g .lo) (a / 4) x, ltb-true (a / 4) (g .hi) y)
+
 -- What a region covers, in bytes.
 
 pub covered-bytes : (r : Region) (a : ℕ) → covered r a ≡ (leb (4 * r .lo) a && ltb a (4 * r .hi))
@@ -118,3 +137,29 @@ rounded-covers start length a =
 
     hi : 4 * rounded start length .hi ≡ roundedEnd start length
     hi = omega arith
+
+-- What is asked for is the bytes from the start on, as many as the length says. Each of them is covered ..
+pub asked-covered : (start length b : ℕ) → start ≤ b → b < start + length → covered (rounded start length) b ≡ true
+asked-covered start length b lo hi = covered-yes (rounded start length) b (omega arith) (omega arith)
+
+-- .. and each word covered has one of them.
+pub covered-asked : (start length a : ℕ) → 0 < length → covered (rounded start length) a ≡ true
+    → (b : ℕ) × (b / 4 ≡ a / 4) × (start ≤ b) × (b < start + length)
+covered-asked start length a h e =
+    let (lo, hi) = covered-range (rounded start length) a e in
+    elim (decLe start (a / 4 * 4)) [
+      | yes k ↦ (a / 4 * 4, omega arith, k, omega (arith, hi))
+      | no k ↦ (start, omega (arith, lo), omega arith, omega (arith, h))
+    ]
+
+-- 5 is given exactly where one of them lies past the end of memory.
+pub asked-beyond : (start length : ℕ) → 0 < length → 4294967296 < start + length → regionOf start length ≡ Refused 5
+asked-beyond start length h k = region-beyond start length h (omega arith)
+
+pub asked-within : (start length : ℕ) → 0 < length → start + length ≤ 4294967296
+    → regionOf start length ≡ Covers (rounded start length)
+asked-within start length h k = region-covers start length h (omega arith)
+
+-- From the first byte of a word on, the length is rounded by itself.
+pub whole-words : (start length : ℕ) → start % 4 ≡ 0 → roundedLength start length ≡ (length + 3) / 4 * 4
+whole-words start length e = omega (arith, e)

@@ -1,5 +1,5 @@
 -- Regions: how a start and a length in bytes are rounded to memory words, and when they are refused.
-use Prim.Native.Nat.{ℕ, _+_, _*_, _/_}
+use Prim.Native.Nat.{ℕ, _+_, _*_, _/_, _%_}
 use mathlib.Core.Bool.{Bool, cond, _&&_}
 use lib.Dec.{eqb, leb, ltb}
 use Rattle.words.specs.declared.Region.{Region}
@@ -10,9 +10,9 @@ use Rattle.words.specs.declared.Rounded.the-variants.{Covers, Refused}
 abbrev pub roundedStart : ℕ → ℕ
 roundedStart start = start / 4 * 4
 
--- The length, in bytes, rounded up to a multiple of 4, wherever it starts.
+-- The length, in bytes, with the start's low two bits added to it and then rounded up to a multiple of 4.
 abbrev pub roundedLength : ℕ → ℕ → ℕ
-roundedLength start length = (length + 3) / 4 * 4
+roundedLength start length = (start % 4 + length + 3) / 4 * 4
 
 -- The first byte after a region: rounded start plus rounded length.
 abbrev pub roundedEnd : ℕ → ℕ → ℕ

@@ -2,10 +2,10 @@
 // rounded to memory words.
 ghost use mathlib.Core.Path.{_≡_};
 ghost use mathlib.Core.Bool.{true};
-ghost use Prim.Native.Nat.{_+_, _<_, _≤_};
+ghost use Prim.Native.Nat.{_+_, _/_, _<_, _≤_};
 ghost use lib.ListN.{length};
 ghost use Rattle.words.specs.Rights.{rightAt, eightOf, sixteenOf, goodRights};
-ghost use Rattle.words.specs.Region.{regionOf};
+ghost use Rattle.words.specs.Region.{roundedLength, regionOf};
 ghost use Rattle.words.specs.Passing.{Passed, SkipsRights, AllSame};
 
 // Bit 31, which is set in a root or middle entry exactly where it is eight rights.
@@ -208,8 +208,16 @@ pub fn all_same(pool: &[u32], at: PoolWord, count: usize, value: u32) -> bool
     n == count
 }
 
-// The words of a start and a length in bytes. The length's remainder is rounded by itself, since `length + 3` could
-// wrap.
+// How many words a length in bytes takes that begins `low` bytes into a word. What is left of whole words is rounded by
+// itself, since the sum of all could wrap.
+fn words_from(low: u32, length: u32) -> u32
+    requires { ⌜ low < 4 ⌝ }
+    ensures { λ r. ⌜ r ≡ roundedLength low length / 4 ⌝ }
+{
+    length / 4 + (low + length % 4 + 3) / 4
+}
+
+// The words of a start and a length in bytes.
 pub fn round_region(start: ByteAddr, length: u32) -> Rounded
     ensures { λ r. ⌜ r ≡ regionOf (start .0) length ⌝ }
 {
@@ -217,9 +225,7 @@ pub fn round_region(start: ByteAddr, length: u32) -> Rounded
         return Rounded::Refused(4);
     }
     let lo = start.0 / 4;
-    let rest = length % 4 + 3;
-    let count = length / 4 + rest / 4;
-    let hi = lo + count;
+    let hi = lo + words_from(start.0 % 4, length);
     if hi > 0x4000_0000 {
         return Rounded::Refused(5);
     }

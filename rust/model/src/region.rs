@@ -1,4 +1,5 @@
-//! A region of memory, rounded as the paper says: the start down, the length up, each to a multiple of 4.
+//! A region of memory, rounded to words: the start down to a multiple of 4; its low two bits are added to the length,
+//! which is then rounded up to a multiple of 4.
 
 use crate::Refusal;
 
@@ -15,8 +16,9 @@ impl Region {
         if length == 0 {
             return Err(4);
         }
-        let first = u64::from(start) / 4 * 4;
-        let bytes = u64::from(length).div_ceil(4) * 4;
+        let (start, length) = (u64::from(start), u64::from(length));
+        let first = start / 4 * 4;
+        let bytes = (start % 4 + length).div_ceil(4) * 4;
         if first + bytes > 1 << 32 {
             return Err(5);
         }

@@ -53,6 +53,20 @@ fn rows_6_to_10() {
 }
 
 #[test]
+fn lengths_from_the_middle_of_a_word() {
+    let shape = Shape::new(1, 1, 1);
+    let mut pool = shape.fresh();
+    assert_eq!(set(&mut pool, shape, 0x1002, 4, 2), Ok(1026));
+    assert_eq!(pool[shape.leaf(0)], 0xA);
+    assert_eq!([0xFFF, 0x1000, 0x1007, 0x1008].map(|byte| found(&pool, shape, byte).0), [0, 2, 2, 0]);
+    let mut pool = shape.fresh();
+    assert_eq!(set(&mut pool, shape, 0xFFFF_FFFE, 3, 1), Err(5));
+    assert_eq!(set(&mut pool, shape, 0x1002, 0, 1), Err(4));
+    assert_eq!(set(&mut pool, shape, 2, 4_294_967_295, 1), Err(5));
+    assert_eq!(set(&mut pool, shape, 0xFFFF_FFFE, 2, 1), Ok(1026));
+}
+
+#[test]
 fn rows_11_and_12() {
     let shape = Shape::new(1, 1, 0);
     let mut pool = shape.fresh();

@@ -46,11 +46,11 @@ impl Region {
             return Err(4);
         }
         let lo = start / 4;
-        let words = length.div_ceil(4);
-        if u64::from(lo) + u64::from(words) > 1 << 30 {
+        let words = (u64::from(start % 4) + u64::from(length)).div_ceil(4);
+        if u64::from(lo) + words > 1 << 30 {
             return Err(5);
         }
-        Ok(Region { lo, hi: lo + words })
+        Ok(Region { lo, hi: lo + words as u32 })
     }
 
     /// How a stretch of `n` words lies to the region.

@@ -11,25 +11,26 @@ use Rattle.words.proofs.round_region.Tie as tie
 returns : tie.Need-returns
 returns c = sym (region-empty (c .before .args .start .0) (c .before .args .length) (omega arith))
 
-add-rest : tie.Need-add-rest
-add-rest c = search needs
-
-add-count : tie.Need-add-count
-add-count c = search needs
+words-from-requires : tie.Need-words-from-requires
+words-from-requires c κs = search needs
 
 add-hi : tie.Need-add-hi
 add-hi c = search needs
 
 returns-2 : tie.Need-returns-2
 returns-2 c =
-    let a = c .before .before .before .args in
-    sym (region-beyond (a .start .0) (a .length) (omega (arith, c .before .before .if1 .left)) (omega arith))
+    let r = c .before in
+    let a = r .before .before .before .before .args in
+    let e = r .words-from .ensures in
+    sym (region-beyond (a .start .0) (a .length) (omega (arith, r .before .before .before .if1 .left)) (omega (arith, e)))
 
 returns-3 : tie.Need-returns-3
 returns-3 c =
-    let a = c .before .before .before .args in
-    ap Covers (region-equal _ (rounded (a .start .0) (a .length)) (omega arith) (omega arith))
-    ∙ sym (region-covers (a .start .0) (a .length) (omega (arith, c .before .before .if1 .left)) (omega arith))
+    let r = c .before in
+    let a = r .before .before .before .before .args in
+    let e = r .words-from .ensures in
+    ap Covers (region-equal _ (rounded (a .start .0) (a .length)) (omega arith) (omega (arith, e)))
+    ∙ sym (region-covers (a .start .0) (a .length) (omega (arith, r .before .before .before .if1 .left)) (omega (arith, e)))
 
 pub round-region-spec : {M : Type 1} → statement M
-round-region-spec = tie.close (tie.spec returns add-rest add-count add-hi returns-2 returns-3)
+round-region-spec = tie.close (tie.spec returns words-from-requires add-hi returns-2 returns-3)

@@ -1,0 +1,127 @@
+-- The rows of lengths from the middle of a word.
+use Prim.Native.Nat.{ℕ, _≤_}
+use mathlib.Core.Path.{_≡_, refl, sym, ap, _∙_}
+use mathlib.Core.Bool.{cond}
+use mathlib.Core.List.{List}
+use native.Mathlib.Omega.{arith}
+use Rattle.theory.specs.Walk.{walk}
+use Rattle.words.specs.Rights.{pack}
+use Rattle.words.specs.Region.{rounded, regionOf}
+use Rattle.words.specs.declared.Region.{Region}
+use Rattle.words.specs.declared.Rounded.the-variants.{Refused as NoRegion}
+use Rattle.words.proofs.RegionLaws.{covered-range, rounded-covers}
+use Rattle.table.specs.declared.Shape.{Shape}
+use Rattle.table.specs.declared.Found.the-variants.{By}
+use Rattle.table.specs.Shape.{maxMiddles, maxLeaves}
+use Rattle.table.specs.Fresh.{freshPool}
+use Rattle.table.proofs.WantLaws.{wants-leaf}
+use Rattle.change.specs.declared.Answer.{Answer}
+use Rattle.change.specs.declared.Answer.the-variants.{Done}
+use Rattle.change.specs.Cuts.{differing}
+use Rattle.change.specs.Answers.{Changes, no-shape, no-domain, no-right, no-region, in-order}
+use Rattle.lookaside.specs.Slots.{holdsFor, holds}
+use Rattle.lookaside.specs.Flushes.{flushedBuffer, flushedSlot, flushes, meets, pointed}
+use Rattle.benchmarks.specs.Rows.{shape, Sets}
+use Rattle.benchmarks.specs.Lengths.{SameChange, Refuses, FourBytes, LooksBeside, LastHalf, NoLength, LongSum}
+use Rattle.benchmarks.specs.Lengths.{FlushesFollow, Lengths}
+use Rattle.benchmarks.proofs.RowLaws.{always-change, finds, listed, fresh-fits, in-range, aims-fresh}
+use Rattle.benchmarks.proofs.PageLaws.{OnePage, after}
+use Rattle.benchmarks.proofs.PagePools.{painted, one-page, pagePool, page-done-finished, page-done}
+
+-- A change looks at start and length through their rounding alone.
+module _ {start len start' len' : ℕ} (e : regionOf start len ≡ regionOf start' len') where
+  by-rounding : {p : List ℕ} {s : Shape} {d r n : ℕ} {a : Answer} {q : List ℕ} → Changes p s d start len r n a q
+      → Changes p s d start' len' r n a q
+  by-rounding (no-shape f) = no-shape f
+  by-rounding (no-domain f k) = no-domain f k
+  by-rounding (no-right f k h) = no-right f k h
+  by-rounding (no-region f k h m z) = no-region f k h m (sym e ∙ z)
+  by-rounding (in-order g x c) = in-order g (record {
+    fits = x .fits;
+    domain = x .domain;
+    right = x .right;
+    region = sym e ∙ x .region;
+  }) c
+
+same-change : {start len start' len' : ℕ} → regionOf start len ≡ regionOf start' len'
+    → SameChange start len start' len'
+same-change e p s d r n a q = (by-rounding e, by-rounding (sym e))
+
+-- A region that is refused.
+refuses : (M L start len k : ℕ) → M ≤ maxMiddles → L ≤ maxLeaves → regionOf start len ≡ NoRegion k
+    → Refuses M L start len k
+refuses M L start len k m l e r n h =
+    always-change (no-region (fresh-fits (shape M L) (in-range M L m l)) (omega arith) h k e) (refl, refl)
+
+-- Rows 1 and 2: two words of a leaf's first entry.
+abbrev two-words : Region
+two-words = rounded 0x1002 4
+
+words-page : OnePage 1 0 (painted two-words 2) 0x1000 0x1008 0xA
+unfolding pack
+words-page = one-page 1 0 two-words 2 0x1000 0x1008 (omega arith) (λ z. omega arith) (omega arith) (omega arith)
+    (λ z. omega arith) (omega arith)
+    (λ b e. let r = covered-range two-words b e in omega arith) refl refl refl (wants-leaf (painted two-words 2) 0x1000)
+
+abbrev words-pool : List ℕ
+words-pool = pagePool 1 0 0x1000 0xA
+
+words-stores : differing (freshPool (shape 1 1)) words-pool ≡ 1026
+unfolding differing listed after
+words-stores = refl
+
+words-set : (n : ℕ) → 1026 ≤ n → Sets 1 1 0x1002 4 2 n (Done 1026) words-pool
+unfolding regionOf
+words-set n h = page-done two-words 2 words-page (omega arith) 0x1002 4 (omega arith) refl n 1026 words-stores h
+
+row-1 : FourBytes
+unfolding listed after
+row-1 n h = always-change (words-set n h) (
+  refl,
+  refl,
+  λ b i. page-done-finished two-words 2 words-page (omega arith) .rights 0 b (omega arith) i
+      ∙ aims-fresh (shape 1 1) two-words 2 0 b (omega arith) (omega arith)
+      ∙ ap (λ t. cond t 2 0) (rounded-covers 0x1002 4 b),
+)
+
+row-2 : LooksBeside
+unfolding listed after walk
+row-2 n h = always-change (words-set n h) (
+  finds words-pool (shape 1 1) 0x1000 (By (record { right = 2; entry = 0xA; loads = 3 })) refl,
+  finds words-pool (shape 1 1) 0x1007 (By (record { right = 2; entry = 0xA; loads = 3 })) refl,
+  finds words-pool (shape 1 1) 0x1008 (By (record { right = 0; entry = 0xA; loads = 3 })) refl,
+  finds words-pool (shape 1 1) 0xFFF (By (record { right = 0; entry = 0x80000000; loads = 2 })) refl,
+)
+
+-- Rows 3, 4 and 5: by rounding alone.
+row-3 : LastHalf
+unfolding regionOf
+row-3 = (same-change refl, refuses 1 1 0xFFFFFFFE 3 5 (omega arith) (omega arith) refl)
+
+row-4 : NoLength
+unfolding regionOf
+row-4 = refuses 1 1 0x1002 0 4 (omega arith) (omega arith) refl
+
+row-5 : LongSum
+unfolding regionOf
+row-5 = (same-change refl, refuses 0 0 2 4294967295 5 (omega arith) (omega arith) refl)
+
+-- Row 6.
+row-6 : FlushesFollow
+unfolding regionOf pointed flushedBuffer flushedSlot flushes meets holdsFor holds
+row-6 = record {
+  both-lines = λ w. refl;
+  last-line = λ w. refl;
+  past-the-end = λ w. refl;
+  no-length = λ w. refl;
+}
+
+pub all-lengths : Lengths
+all-lengths = record {
+  row-1 = row-1;
+  row-2 = row-2;
+  row-3 = row-3;
+  row-4 = row-4;
+  row-5 = row-5;
+  row-6 = row-6;
+}
