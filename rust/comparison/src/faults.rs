@@ -16,6 +16,9 @@ use programs::*;
 pub struct Wrong {
     /// The shape that lent words say to it; nothing where they say none.
     reads: fn(&[u32]) -> Option<Shape>,
+    /// The start and length that it takes those of a change for, and those of a flush.
+    rounds: fn(u32, u32) -> (u32, u32),
+    flush_rounds: fn(u32, u32) -> (u32, u32),
     fresh: fn(&mut [u32], Shape) -> u32,
     change: fn(&mut [u32], Shape, Request, u32, &mut [u32]) -> u32,
     tidy: fn(&mut [u32], Shape, u32, &mut [u32]) -> u32,
@@ -32,6 +35,8 @@ pub struct Wrong {
 
 const RIGHT: Wrong = Wrong {
     reads: |shape| shape_of(shape, &[]).ok(),
+    rounds: |start, length| (start, length),
+    flush_rounds: |start, length| (start, length),
     fresh: |pool, shape| Twin.fresh(pool, &shape.words()),
     change: |pool, shape, request, allowance, out| Twin.change(pool, &shape.words(), request, allowance, out),
     tidy: |pool, shape, allowance, out| Twin.tidy(pool, &shape.words(), allowance, out),
@@ -62,7 +67,8 @@ impl Subject for Wrong {
     }
 
     fn change(&self, pool: &mut [u32], shape: &[u32], request: Request, allowance: u32, out: &mut [u32]) -> u32 {
-        by_shape!(self, change, pool, shape, request, allowance, out)
+        let (start, length) = (self.rounds)(request.start, request.length);
+        by_shape!(self, change, pool, shape, Request { start, length, ..request }, allowance, out)
     }
 
     fn tidy(&self, pool: &mut [u32], shape: &[u32], allowance: u32, out: &mut [u32]) -> u32 {
@@ -94,6 +100,7 @@ impl Subject for Wrong {
     }
 
     fn flush_region(&self, buffer: &mut [u32], domain: u32, start: u32, length: u32) -> u32 {
+        let (start, length) = (self.flush_rounds)(start, length);
         (self.flush_region)(buffer, domain, start, length)
     }
 
@@ -150,6 +157,15 @@ pub const ALL: &[Fault] = &[
     ("takes the later of two gates at one place", "steps", Wrong { step: later_gate, ..RIGHT }),
     ("pushes the address for the target", "steps", Wrong { step: pushes_address, ..RIGHT }),
     ("clears the frame that it pops", "steps", Wrong { step: clears_frame, ..RIGHT }),
+    ("rounds start and length each by itself", "lengths", Wrong { rounds: each_by_itself, ..RIGHT }),
+    ("rounds start and length each by itself", "short series", Wrong { rounds: each_by_itself, ..RIGHT }),
+    ("adds the low bits after rounding", "lengths", Wrong { rounds: bits_after, ..RIGHT }),
+    ("adds the low bits after rounding", "short series", Wrong { rounds: bits_after, ..RIGHT }),
+    ("adds the low bits in 32 bits", "lengths", Wrong { rounds: sum_wraps, ..RIGHT }),
+    ("refuses 4 by the sum", "lengths", Wrong { rounds: sum_for_length, ..RIGHT }),
+    ("flushes a region rounded by itself", "lengths", Wrong { flush_rounds: each_by_itself, ..RIGHT }),
+    ("flushes a region rounded by itself", "lives", Wrong { flush_rounds: each_by_itself, ..RIGHT }),
+    ("flushes with the low bits after rounding", "lengths", Wrong { flush_rounds: bits_after, ..RIGHT }),
     ("looks at no form", "lent shapes", Wrong { reads: form_unseen, ..RIGHT }),
     ("looks at no V", "lent shapes", Wrong { reads: v_unseen, ..RIGHT }),
     ("takes the first five words of more", "lent shapes", Wrong { reads: first_five, ..RIGHT }),

@@ -1,9 +1,9 @@
 //! The comparisons with their seeds, their sizes and the kinds of cases that each must meet.
 
-use crate::compare::{cuts, gates, lent, life, listings, pools, rows, series, slots, Run};
+use crate::compare::{cuts, gates, lengths, lent, life, listings, pools, rows, series, slots, Run};
 use crate::given::shapes;
 use crate::subject::Subject;
-use crate::tally::{answers, Tally};
+use crate::tally::{answers, remainders, Tally};
 use crate::Difference;
 use model::shape::Shape;
 
@@ -33,6 +33,8 @@ pub struct Comparison {
     seed: u64,
     body: Body,
     answers: &'static [(&'static str, &'static [u32])],
+    /// The kinds of regions that must have been met with starts of every remainder by 4 and lengths of every one.
+    regions: &'static [&'static str],
     kinds: &'static [&'static str],
 }
 
@@ -50,6 +52,7 @@ impl Comparison {
         for (call, numbers) in self.answers {
             kinds.extend(answers(call, numbers));
         }
+        kinds.extend(self.regions.iter().flat_map(|what| remainders(what)));
         Outcome { missing: run.tally.missing(&kinds), tally: run.tally, difference }
     }
 }
@@ -162,12 +165,20 @@ const LENT_KINDS: &[&str] = &[
 ];
 
 pub const ALL: &[Comparison] = &[
-    Comparison { name: "rows", seed: 1, body: rows::rows, answers: &[], kinds: &["row of the paper"] },
+    Comparison {
+        name: "rows",
+        seed: 1,
+        body: rows::rows,
+        answers: &[],
+        regions: &[],
+        kinds: &["row of the paper", "row of lengths"],
+    },
     Comparison {
         name: "short series",
         seed: 2,
         body: |run| series::series(run, 150, 8),
         answers: &[("fresh", &[0]), ("change", &[0, 2, 3, 4, 5, 8])],
+        regions: &["series: change"],
         kinds: SERIES_KINDS,
     },
     Comparison {
@@ -175,6 +186,7 @@ pub const ALL: &[Comparison] = &[
         seed: 3,
         body: |run| series::series(run, 56, 80),
         answers: &[("fresh", &[0]), ("change", &[0, 2, 3, 4, 5, 8])],
+        regions: &["series: change"],
         kinds: SERIES_KINDS,
     },
     Comparison {
@@ -182,6 +194,7 @@ pub const ALL: &[Comparison] = &[
         seed: 4,
         body: far_cuts,
         answers: &[("change with an allowance", &[0, 100])],
+        regions: &[],
         kinds: CUT_KINDS,
     },
     Comparison {
@@ -189,6 +202,7 @@ pub const ALL: &[Comparison] = &[
         seed: 5,
         body: near_cuts,
         answers: &[("change with an allowance", &[0, 100]), ("tidying with an allowance", &[0, 100])],
+        regions: &[],
         kinds: CUT_KINDS,
     },
     Comparison {
@@ -196,9 +210,17 @@ pub const ALL: &[Comparison] = &[
         seed: 6,
         body: cuts::unwanted,
         answers: &[("change with an allowance", &[0, 100]), ("tidying with an allowance", &[0, 100])],
+        regions: &[],
         kinds: UNSETTLED,
     },
-    Comparison { name: "lives", seed: 13, body: |run| life::lives(run, 24, 120), answers: &[], kinds: LIFE_KINDS },
+    Comparison {
+        name: "lives",
+        seed: 13,
+        body: |run| life::lives(run, 24, 120),
+        answers: &[],
+        regions: &["life: change and flush"],
+        kinds: LIFE_KINDS,
+    },
     Comparison {
         name: "pools",
         seed: 7,
@@ -209,6 +231,7 @@ pub const ALL: &[Comparison] = &[
             ("tidying of any pool", &[0, 1, 6, 100]),
             ("lookup in any pool", &[0, 1, 2, 6]),
         ],
+        regions: &[],
         kinds: POOL_KINDS,
     },
     Comparison {
@@ -216,6 +239,7 @@ pub const ALL: &[Comparison] = &[
         seed: 8,
         body: |run| pools::tidyings(run, 120),
         answers: &[("tidying with an allowance", &[0, 100])],
+        regions: &[],
         kinds: &["sound pool, settled", "sound pool, not settled"],
     },
     Comparison {
@@ -223,6 +247,7 @@ pub const ALL: &[Comparison] = &[
         seed: 9,
         body: |run| listings::listings(run, 300),
         answers: &[("listing", &[0, 1, 6])],
+        regions: &[],
         kinds: LISTING_KINDS,
     },
     Comparison {
@@ -235,6 +260,7 @@ pub const ALL: &[Comparison] = &[
             ("flush of a domain", &[0, 18, 101]),
             ("flush of a region", &[0, 4, 5, 18, 101]),
         ],
+        regions: &["flush of a region"],
         kinds: SLOT_KINDS,
     },
     Comparison {
@@ -246,6 +272,7 @@ pub const ALL: &[Comparison] = &[
             ("setting a return gate", &[0, 1, 2, 11, 12, 18, 101]),
             ("removing a gate", &[0, 1, 2, 11, 13, 18, 101]),
         ],
+        regions: &[],
         kinds: &["setting replaces a gate", "setting adds a gate"],
     },
     Comparison {
@@ -253,6 +280,7 @@ pub const ALL: &[Comparison] = &[
         seed: 12,
         body: |run| gates::steps(run, 600),
         answers: &[("step", &[0, 1, 2, 6, 10, 15, 16, 17, 18, 101])],
+        regions: &[],
         kinds: STEP_KINDS,
     },
     Comparison {
@@ -268,7 +296,25 @@ pub const ALL: &[Comparison] = &[
             ("check by a lent shape", &[0, 1, 2, 6, 9, 10, 18, 101]),
             ("step by a lent shape", &[0, 1, 2, 10, 18, 101]),
         ],
+        regions: &[],
         kinds: LENT_KINDS,
+    },
+    Comparison {
+        name: "lengths",
+        seed: 15,
+        body: lengths::lengths,
+        answers: &[("change", &[0, 4, 5]), ("flush of a region", &[0, 4, 5])],
+        regions: &[
+            "change",
+            "change of the last word",
+            "change past the end",
+            "change with every cut",
+            "change of the last word with every cut",
+            "flush of a region",
+            "flush of a region of the last word",
+            "flush of a region past the end",
+        ],
+        kinds: &[],
     },
 ];
 

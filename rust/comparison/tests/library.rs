@@ -39,6 +39,7 @@ library! {
     gates: "gates",
     steps: "steps",
     lent_shapes: "lent shapes",
+    lengths: "lengths",
 }
 
 /// All comparisons on the cases of other seeds, by hand: `SEEDS=20 cargo test --release -- --ignored soak`.

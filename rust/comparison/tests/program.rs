@@ -2,8 +2,8 @@
 
 use comparison::given::lines;
 use comparison::rng::Rng;
-use comparison::tally::{answers, Tally};
-use model::program::output;
+use comparison::tally::{answers, remainders, Tally};
+use model::program::{output, parse};
 use std::io::Write;
 use std::path::{Path, PathBuf};
 use std::process::{Command, Stdio};
@@ -48,11 +48,24 @@ fn compare(tally: &mut Tally, what: &str, input: &[u8]) {
             Err(_) => tally.met("run listed"),
         }
     }
+    let changes = input.split(|byte| *byte == b'\n').map(parse);
+    for (change, number) in changes.zip(must.lines()) {
+        match (change, number) {
+            (Some(change), "0") => tally.region("line done", change.start, change.length),
+            (Some(change), "5") => tally.region("line refused 5", change.start, change.length),
+            _ => {}
+        }
+    }
 }
 
-fn accept(tally: Tally, kinds: &[String]) {
+/// Each number, runs, and lines done with starts of every remainder and lengths of every remainder must have been met,
+/// and these kinds of regions so too.
+fn accept(tally: Tally, regions: &[&str]) {
     println!("{tally}");
-    let missing = tally.missing(kinds);
+    let mut kinds = answers("line", &[0, 2, 3, 4, 5, 8, 99]);
+    kinds.push("run listed".to_string());
+    kinds.extend(["line done"].iter().chain(regions).flat_map(|what| remainders(what)));
+    let missing = tally.missing(&kinds);
     assert!(missing.is_empty(), "never met: {missing:?}");
 }
 
@@ -62,7 +75,7 @@ fn inputs_with_one_thing_each() {
     for (what, input) in lines::named() {
         compare(&mut tally, what, &input);
     }
-    accept(tally, &[answers("line", &[0, 2, 3, 4, 5, 8, 99]), vec!["run listed".to_string()]].concat());
+    accept(tally, &["line refused 5"]);
 }
 
 #[test]
@@ -75,7 +88,7 @@ fn random_lines_and_bytes() {
         let input = lines::bytes(&mut rng, 3000);
         compare(&mut tally, "random bytes", &input);
     }
-    accept(tally, &[answers("line", &[0, 2, 3, 4, 5, 8, 99]), vec!["run listed".to_string()]].concat());
+    accept(tally, &[]);
 }
 
 #[test]

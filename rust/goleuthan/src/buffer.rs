@@ -143,8 +143,8 @@ impl LookasideBuffer {
         Refusal::none_or(words::flush_domain(&mut self.words, domain))
     }
 
-    /// Empties every slot of a domain whose block meets a region, which is rounded as a change's is. All other slots
-    /// stay as they are, those that count as empty too, and so does the next-pointer.
+    /// Empties every slot of a domain whose block meets a region, which is rounded and refused as a change's is. All
+    /// other slots stay as they are, those that count as empty too, and so does the next-pointer.
     pub fn flush_region(&mut self, domain: u32, start: u32, length: u32) -> Result<(), Refusal> {
         Refusal::none_or(words::flush_region(&mut self.words, domain, start, length))
     }

@@ -76,7 +76,8 @@ impl Right {
     }
 }
 
-/// A change of rights: the start is rounded down to a multiple of 4, the length up.
+/// A change of rights. The words that hold one of its bytes get the right: the start is rounded down to a multiple of
+/// 4; its low two bits are added to the length, which is then rounded up.
 #[derive(Clone, Copy, Debug, PartialEq, Eq, Hash)]
 pub struct Request {
     /// The domain that gets the right.

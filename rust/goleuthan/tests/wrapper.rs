@@ -51,6 +51,20 @@ fn changes_lookups_and_runs() {
 }
 
 #[test]
+fn lengths_from_the_middle_of_a_word() {
+    let mut pool = vec![0; SHAPE.pool_words()];
+    let mut table = Table::fresh(&mut pool, SHAPE).unwrap();
+    assert_eq!(table.change(request(0, 0x1002, 4, Right::Read), u32::MAX), Ok(Answer::Done { stores: 1026 }));
+    let run = Run { domain: 0, first_byte: 0x1000, last_byte: 0x1007, right: Right::Read };
+    assert_eq!(table.runs(), Ok(vec![run]));
+    assert_eq!(number(table.change(request(0, 0xFFFF_FFFE, 3, Right::Read), u32::MAX)), 5);
+    assert_eq!(number(table.change(request(0, 0x1002, 0, Right::Read), u32::MAX)), 4);
+    let mut buffer = LookasideBuffer::empty();
+    assert_eq!(number(buffer.flush_region(0, 0xFFFF_FFFE, 3)), 5);
+    assert_eq!(buffer.flush_region(0, 0xFFFF_FFFE, 2), Ok(()));
+}
+
+#[test]
 fn more_runs_than_are_listed_at_once() {
     let shape = Shape::new(1, 1, 1);
     let mut pool = vec![0; shape.pool_words()];

@@ -121,7 +121,9 @@ fn one_check(run: &mut Run, pool: &[u32], shape: &[u32]) -> Result<(), Differenc
     let filled = states::buffer(&mut run.rng, 2);
     let mut buffer = resized(run, filled);
     let rng = &mut run.rng;
-    let access = Access { domain: rng.below(3), kind: rng.below(4), size: 4, address: requests::address(rng) };
+    let at = requests::address(rng);
+    let address = if rng.once_in(4) { at } else { at & !3 };
+    let access = Access { domain: rng.below(3), kind: rng.below(4), size: 4, address };
     let mut must = buffer.clone();
     let lengths = [(buffer.len(), BUFFER_WORDS)];
     note_lengths(run, shape, &lengths);

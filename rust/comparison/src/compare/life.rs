@@ -102,6 +102,7 @@ impl Life {
             self.events.push(Event { domain: request.domain, region, right: request.right, finished });
             let flushed = run.subject.flush_region(&mut self.buffer, request.domain, request.start, request.length);
             hold!(flushed == 0, "life: the flush answers {flushed}");
+            run.tally.region("life: change and flush", request.start, request.length);
             self.checks_in(run, request)?;
         }
         if number == 7 {

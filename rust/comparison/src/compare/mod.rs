@@ -2,6 +2,7 @@
 
 pub mod cuts;
 pub mod gates;
+pub mod lengths;
 pub mod lent;
 pub mod life;
 pub mod listings;

@@ -1,4 +1,4 @@
-//! The paper's twelve rows, run.
+//! The paper's twelve rows, and those of lengths from the middle of a word, run.
 
 use super::{Run, MARK};
 use crate::subject::Subject;
@@ -49,6 +49,10 @@ pub fn rows(run: &mut Run) -> Result<(), Difference> {
     for row in rows {
         row(run.subject)?;
         run.tally.met("row of the paper");
+    }
+    for row in [length_1_2, length_3_4, length_5] {
+        row(run.subject)?;
+        run.tally.met("row of lengths");
     }
     Ok(())
 }
@@ -137,5 +141,32 @@ fn row_12(subject: &dyn Subject) -> Result<(), Difference> {
     let mut row = Row::fresh(subject, 1, 1);
     row.pool[0] = 0;
     hold!(row.lookup(0) == (6, 0, 0), "row 12: {:?}", row.lookup(0));
+    Ok(())
+}
+
+fn length_1_2(subject: &dyn Subject) -> Result<(), Difference> {
+    let mut row = Row::fresh(subject, 1, 1);
+    let answer = row.set(0x1002, 4, 2, ALL);
+    let leaf = row.pool[row.shape.leaf(0)];
+    hold!(answer == (0, 1026) && leaf == 0xA, "length row 1: {answer:?}, the leaf's first entry is {leaf:#x}");
+    let found = [0x1000, 0x1007, 0x1008, 0xFFF].map(|address| row.lookup(address));
+    hold!(found == [(0, 2, 3), (0, 2, 3), (0, 0, 3), (0, 0, 2)], "length row 2: {found:?}");
+    Ok(())
+}
+
+fn length_3_4(subject: &dyn Subject) -> Result<(), Difference> {
+    let mut row = Row::fresh(subject, 1, 1);
+    let answers = [row.set(0xFFFF_FFFE, 3, 2, ALL), row.set(0x1002, 0, 2, ALL), row.set(0xFFFF_FFFE, 2, 2, ALL)];
+    hold!(answers == [(5, 0), (4, 0), (0, 1026)], "length rows 3 and 4: {answers:?}");
+    hold!(row.lookup(0xFFFF_FFFC) == (0, 2, 3), "length row 3: {:?}", row.lookup(0xFFFF_FFFC));
+    Ok(())
+}
+
+fn length_5(subject: &dyn Subject) -> Result<(), Difference> {
+    let mut row = Row::fresh(subject, 0, 0);
+    let refused = row.set(2, 4_294_967_295, 1, ALL);
+    let answer = row.set(1, 4_294_967_295, 1, ALL);
+    let all = row.pool.iter().all(|word| *word == 0x8000_5555);
+    hold!(refused == (5, 0) && answer == (0, 1024) && all, "length row 5: {refused:?}, {answer:?}, all: {all}");
     Ok(())
 }

@@ -72,28 +72,30 @@ pub fn finished_change(run: &mut Run, pool: &mut [u32], state: State, request: R
     Expected::new(count.map(|count| [count]).map_err(|refusal| *refusal)).held(&what, number, &out)?;
     let after = answer.unwrap_or(state);
     same_words(&what, pool, &after.words)?;
-    note(run, &after, number);
+    if number == 0 {
+        run.tally.region("series: change", request.start, request.length);
+        note(run, &after);
+    }
     Ok(after)
 }
 
-fn note(run: &mut Run, after: &State, number: u32) {
-    if number == 0 {
-        let middles = after.middles.iter().flatten().count();
-        let leaves = after.leaves.iter().flatten().count();
-        run.tally.met(match (middles, leaves) {
-            (0, _) => "series: a pool of roots alone",
-            (_, 0) => "series: a pool with middle tables alone",
-            _ if middles == after.middles.len() && leaves == after.leaves.len() => "series: a full pool",
-            _ => "series: a pool with leaves",
-        });
-    }
+fn note(run: &mut Run, after: &State) {
+    let middles = after.middles.iter().flatten().count();
+    let leaves = after.leaves.iter().flatten().count();
+    run.tally.met(match (middles, leaves) {
+        (0, _) => "series: a pool of roots alone",
+        (_, 0) => "series: a pool with middle tables alone",
+        _ if middles == after.middles.len() && leaves == after.leaves.len() => "series: a full pool",
+        _ => "series: a pool with leaves",
+    });
 }
 
 /// Lookups at the region's edges and at other addresses, in all domains.
 pub fn lookups(run: &mut Run, pool: &[u32], state: &State, request: Request) -> Result<(), Difference> {
-    let end = request.start.wrapping_add(request.length);
+    let last = request.start.wrapping_add(request.length).wrapping_sub(1);
+    let after = (last | 3).wrapping_add(1);
     let other = requests::address(&mut run.rng);
-    for address in [request.start, request.start.wrapping_sub(4), end.wrapping_sub(1), end, other] {
+    for address in [request.start, request.start.wrapping_sub(4), last, last | 3, after, other] {
         let domain = run.rng.below(state.shape.domains);
         one_lookup(run, pool, state, domain, address)?;
     }

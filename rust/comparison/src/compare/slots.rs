@@ -79,6 +79,9 @@ fn one_flush(run: &mut Run, buffer: &mut [u32], shape: Shape) -> Result<(), Diff
     let what = format!("{call}, domain {domain}, start {start:#x}, length {length:#x}");
     let must_number = answer.err().unwrap_or(0);
     hold!(number == must_number, "{what}: answers {number}, must be {must_number}");
+    if call == "flush of a region" && number == 0 {
+        run.tally.region(call, start, length);
+    }
     let emptied = held.slots.iter().zip(&must.slots).filter(|(old, new)| old != new).count();
     if emptied > 1 {
         run.tally.met("flush empties several slots");

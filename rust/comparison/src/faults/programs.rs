@@ -26,6 +26,27 @@ pub fn first_five(shape: &[u32]) -> Option<Shape> {
     shape_of(shape.get(..SHAPE_WORDS)?, &[]).ok()
 }
 
+/// Start and length are rounded each by itself.
+pub fn each_by_itself(start: u32, length: u32) -> (u32, u32) {
+    (start & !3, length)
+}
+
+/// The start's low two bits are added to the length once it is rounded up.
+pub fn bits_after(start: u32, length: u32) -> (u32, u32) {
+    let up = length.checked_next_multiple_of(4).unwrap_or(u32::MAX);
+    (start & !3, if length == 0 { 0 } else { up.saturating_add(start % 4) })
+}
+
+/// The sum of the length and the low two bits loses what does not fit 32 bits.
+pub fn sum_wraps(start: u32, length: u32) -> (u32, u32) {
+    (start & !3, if length == 0 { 0 } else { length.wrapping_add(start % 4) })
+}
+
+/// Length 0 is missed where the low two bits make the sum more than 0.
+pub fn sum_for_length(start: u32, length: u32) -> (u32, u32) {
+    (start, if length == 0 { start % 4 } else { length })
+}
+
 pub fn roots_alone(pool: &mut [u32], shape: Shape) -> u32 {
     let places = pool.to_vec();
     let number = Twin.fresh(pool, &shape.words());

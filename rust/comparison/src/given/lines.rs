@@ -47,6 +47,9 @@ pub fn named() -> Vec<(&'static str, Vec<u8>)> {
         ("refused 8 for middle tables", refused_for_room(1 << 22, 10)),
         ("refused 8 for leaves", refused_for_room(1 << 12, 66)),
         ("changes undone", undone()),
+        ("every start and length in the middle of words", middles(0x1000)),
+        ("every start and length at the top of memory", middles(0xFFFF_FFF8)),
+        ("a sum that does not fit 32 bits", text("S 0 1 4294967295 1\nS 1 2 4294967295 1\nS 1 3 4294967294 1\n")),
         ("the first and the last word", text("S 0 0 4 1\nS 0 4294967292 4 3\n")),
         ("all memory in all domains", text("S 0 0 4294967295 1\nS 1 0 4294967295 1\nS 2 0 4294967295 1\n")),
         ("high bytes", vec![0xFF, 0x80, b'\n', b'S', b' ', 0xB2, b'\n', 0xC3, 0xA9]),
@@ -60,6 +63,15 @@ fn refused_for_room(apart: u32, count: u32) -> Vec<u8> {
     lines.push(line(word(0, 0)));
     lines.push(line(word(count, 3)));
     lines.push(line(word(count + 1, 3)));
+    lines.join("\n").into_bytes()
+}
+
+/// Starts in two words and lengths of up to three, each line with another right than the one before.
+fn middles(from: u32) -> Vec<u8> {
+    let pairs = (0..8).flat_map(|more| (0..13).map(move |length| (from + more, length)));
+    let requests =
+        pairs.zip(0..).map(|((start, length), i)| Request { domain: i % 4, start, length, right: 1 + i % 3 });
+    let lines: Vec<String> = requests.map(line).collect();
     lines.join("\n").into_bytes()
 }
 

@@ -33,6 +33,15 @@ const LENGTHS: [u32; 24] = [
     1 << 30,
 ];
 
+/// A number, or as often one of the next three.
+fn nudged(rng: &mut Rng, number: u32) -> u32 {
+    if rng.once_in(2) {
+        number + rng.below(4)
+    } else {
+        number
+    }
+}
+
 /// A byte address near one of a few edges, or any.
 pub fn address(rng: &mut Rng) -> u32 {
     if rng.once_in(24) {
@@ -40,19 +49,23 @@ pub fn address(rng: &mut Rng) -> u32 {
     }
     let block = if rng.once_in(12) { rng.below(1024) } else { rng.pick(&BLOCKS) };
     let page = if rng.once_in(6) { rng.below(1024) } else { rng.pick(&PAGES) };
-    let offset = if rng.once_in(4) { rng.below(4096) } else { rng.pick(&OFFSETS) };
+    let edge = rng.pick(&OFFSETS);
+    let offset = if rng.once_in(4) { rng.below(4096) } else { nudged(rng, edge) };
     (block << 22) + (page << 12) + offset
 }
 
 fn length(rng: &mut Rng, start: u32) -> u32 {
     match rng.below(40) {
         0 => rng.word(),
-        1 => 0u32.wrapping_sub(start & !3),
-        2 => 0u32.wrapping_sub(start & !3).wrapping_add(1),
+        1 => 0u32.wrapping_sub(start),
+        2 => 0u32.wrapping_sub(start).wrapping_add(1),
         3 => 0xFFFF_FFFF,
         4 => rng.below(1 << 24),
         5..=9 => rng.below(8192),
-        _ => rng.pick(&LENGTHS),
+        _ => {
+            let length = rng.pick(&LENGTHS);
+            nudged(rng, length)
+        }
     }
 }
 
@@ -86,7 +99,7 @@ pub fn clearing(rng: &mut Rng, domains: u32) -> Request {
 /// A request like the last one with its edges moved, mostly by whole lines, sub-blocks or pages. It makes tables and
 /// gives up tables in one change, and has cuts at which a table is not wanted.
 pub fn moved(rng: &mut Rng, domains: u32, last: Request) -> Request {
-    const MOVES: [u32; 10] = [0, 0, 4, 64, 256, 512, 4096, 4096, 1 << 19, 1 << 22];
+    const MOVES: [u32; 11] = [0, 0, 1, 4, 64, 256, 512, 4096, 4096, 1 << 19, 1 << 22];
     let by = rng.pick(&MOVES);
     let start = if rng.once_in(2) { last.start.saturating_sub(by) } else { last.start.saturating_add(by) };
     let by = rng.pick(&MOVES);
@@ -101,5 +114,6 @@ pub fn near(rng: &mut Rng, domains: u32) -> Request {
     let unit = rng.pick(&[4, 64, 256, 512, 4096]);
     let start = rng.below(3 * 4096 / unit) * unit;
     let length = (1 + rng.below(6)) * rng.pick(&[4, 64, 128, 512, 1024, 4096]);
+    let (start, length) = (nudged(rng, start), nudged(rng, length));
     Request { domain: rng.below(domains), start, length, right: rng.below(3) }
 }

@@ -21,12 +21,12 @@ pub const CLASSES: [Shape; 14] = [
     Shape::new(4, 8, 64),
 ];
 
-/// A class by turns, or any shape in range.
+/// A class by turns, or a shape in range with each M by turns.
 pub fn any(rng: &mut Rng, turn: usize) -> Shape {
     if turn.is_multiple_of(2) {
         CLASSES[turn / 2 % CLASSES.len()]
     } else {
-        Shape::new(1 + rng.below(4), rng.below(9), rng.below(65))
+        Shape::new(1 + rng.below(4), (turn / 2 % 9) as u32, rng.below(65))
     }
 }
 
