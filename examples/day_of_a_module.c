@@ -1,6 +1,6 @@
 /*
  * A day of a module, told: a counter calls a service of the supervisor through a gate and comes back, its accesses are
- * checked, and a right is taken from it.
+ * checked, a right is taken from it, and one is given to it from the middle of a word on.
  *
  * Domain 0 is the supervisor, domain 1 the counter, which counts what the panels give. Each executes its own code. The
  * counter writes its counts and reads the supervisor's clock. One address of the supervisor's code is open to it: a
@@ -16,6 +16,7 @@ enum { D = 2, M = 3, L = 2, POOL = GOL_POOL_WORDS(D, M, L), SHAPE = GOL_SHAPE_WO
 static const uint32_t SERVICES = 0x00000000, ENTRY = 0x00000400, INSIDE = 0x00000404, EXIT = 0x0000047C;
 static const uint32_t PROGRAM = 0x00001000, CALL = 0x00001040, AFTER_CALL = 0x00001044, PAGE = 0x1000;
 static const uint32_t COUNTS = 0x20000000, COUNTS_LENGTH = 256, CLOCK = 0x20001000, CLOCK_LENGTH = 8;
+static const uint32_t TARIFF = 0x2000103E, TARIFF_LENGTH = 4;
 
 static const uint32_t shape[SHAPE] = {GOL_EIGHTS, D, M, L, 0};
 static uint32_t pool[POOL], buffer[GOL_BUFFER_WORDS], gates[GOL_GATES_WORDS], stack[GOL_STACK_WORDS];
@@ -99,6 +100,18 @@ static void afternoon(void) {
     attempt("a count, whose slot is left", GOL_LOAD, 4, COUNTS + 8);
 }
 
+/* The tariff lies in two words: both become the counter's to read, and the flush of the same bytes reaches both. */
+static void dusk(void) {
+    printf("Dusk. The counter gets the tariff to read, 4 bytes from the middle of a word on:\n");
+    attempt("its first half, not yet", GOL_LOAD, 2, TARIFF);
+    attempt("its second half, not yet", GOL_LOAD, 2, TARIFF + 2);
+    grant(COUNTER, TARIFF, TARIFF_LENGTH, GOL_READ);
+    must(gol_flush_region(buffer, GOL_BUFFER_WORDS, COUNTER, TARIFF, TARIFF_LENGTH) == GOL_DONE, "a flush");
+    attempt("its first half", GOL_LOAD, 2, TARIFF);
+    attempt("its second half", GOL_LOAD, 2, TARIFF + 2);
+    attempt("the word after it", GOL_LOAD, 4, TARIFF + 6);
+}
+
 static void evening(void) {
     printf("Evening. The supervisor makes the pool fresh, and nobody has a right:\n");
     must(gol_fresh(pool, POOL, shape, SHAPE) == GOL_DONE, "a fresh pool");
@@ -114,6 +127,7 @@ int main(void) {
     morning();
     noon();
     afternoon();
+    dusk();
     evening();
     return 0;
 }

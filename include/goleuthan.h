@@ -142,8 +142,10 @@ extern "C" {
 uint32_t gol_fresh(uint32_t *pool, size_t words, const uint32_t *shape, size_t shape_len);
 
 /*
- * Gives `domain` the right `right` on the bytes from `start`, `length` of them. The start is rounded down to a
- * multiple of 4 and the length up, each by itself. Words outside keep their rights, and other domains too.
+ * Gives `domain` the right `right` on every word that has one of the `length` bytes from `start` on. The start is
+ * rounded down to a multiple of 4; its low two bits are added to the length, which is then rounded up to a multiple of
+ * 4. So 4 bytes at 0x1002 are the words at 0x1000 and 0x1004. Refusal 4 is on the length as given; 5 is given where one
+ * of the bytes lies past 0xFFFFFFFF. Words outside keep their rights, and other domains too.
  * At most `allowance` words of the pool are written, each once; the allowance does not alter which, nor in which order.
  * Afterwards, done or cut, flush the same region for the domain in every lookaside buffer of this pool.
  * out[0]: the number of words written; 0 where it was cut or refused.
@@ -208,9 +210,9 @@ uint32_t gol_flush_all(uint32_t *buffer, size_t buffer_len);
 uint32_t gol_flush_domain(uint32_t *buffer, size_t buffer_len, uint32_t domain);
 
 /*
- * Empties the slots of `domain`, which may be any number, whose block meets the region, which is rounded as gol_change
- * rounds it. Left as they are: slots of other domains, slots whose block does not meet the region, slots that count as
- * empty, and next. After a change in a domain this is the flush to make, with the same three numbers.
+ * Empties the slots of `domain`, which may be any number, whose block meets the region, which is rounded and refused as
+ * gol_change does it. Left as they are: slots of other domains, slots whose block does not meet the region, slots that
+ * count as empty, and next. After a change in a domain this is the flush to make, with the same three numbers.
  * Returns 0, 101, 18, 4, or 5.
  */
 uint32_t gol_flush_region(uint32_t *buffer, size_t buffer_len, uint32_t domain, uint32_t start, uint32_t length);
