@@ -21,12 +21,13 @@ use Rattle.change.specs.Cuts.{differing}
 use Rattle.change.specs.Answers.{Changes, no-shape, no-domain, no-right, no-region, in-order}
 use Rattle.lookaside.specs.Slots.{holdsFor, holds}
 use Rattle.lookaside.specs.Flushes.{flushedBuffer, flushedSlot, flushes, meets, pointed}
-use Rattle.benchmarks.specs.Rows.{shape, Sets}
+use Rattle.benchmarks.specs.Rows.{shape, Always, Sets}
 use Rattle.benchmarks.specs.Lengths.{SameChange, Refuses, FourBytes, LooksBeside, LastHalf, NoLength, LongSum}
 use Rattle.benchmarks.specs.Lengths.{FlushesFollow, Lengths}
 use Rattle.benchmarks.proofs.RowLaws.{always-change, finds, listed, fresh-fits, in-range, aims-fresh}
 use Rattle.benchmarks.proofs.PageLaws.{OnePage, after}
 use Rattle.benchmarks.proofs.PagePools.{painted, one-page, pagePool, page-done-finished, page-done}
+use Rattle.benchmarks.proofs.LastRow.{row-10}
 
 -- A change looks at start and length through their rounding alone.
 module _ {start len start' len' : ℕ} (e : regionOf start len ≡ regionOf start' len') where
@@ -46,6 +47,14 @@ module _ {start len start' len' : ℕ} (e : regionOf start len ≡ regionOf star
 same-change : {start len start' len' : ℕ} → regionOf start len ≡ regionOf start' len'
     → SameChange start len start' len'
 same-change e p s d r n a q = (by-rounding e, by-rounding (sym e))
+
+-- What is said of a change of the one region holds of the other.
+always-same : {start len start' len' : ℕ} → SameChange start len start' len'
+    → {p : List ℕ} {s : Shape} {d r n : ℕ} {Is : Answer → List ℕ → Type 0}
+    → Always (Changes p s d start' len' r n) Is → Always (Changes p s d start len r n) Is
+always-same e x =
+    let (a, q, c) = x .some in
+    record { some = (a, q, e _ _ _ _ _ a q .1 c); each = λ b y z. x .each b y (e _ _ _ _ _ b y .0 z) }
 
 -- A region that is refused.
 refuses : (M L start len k : ℕ) → M ≤ maxMiddles → L ≤ maxLeaves → regionOf start len ≡ NoRegion k
@@ -94,9 +103,17 @@ row-2 n h = always-change (words-set n h) (
 )
 
 -- Rows 3, 4 and 5: by rounding alone.
+last-half : SameChange 0xFFFFFFFE 2 0xFFFFFFFC 4
+unfolding regionOf
+last-half = same-change refl
+
 row-3 : LastHalf
 unfolding regionOf
-row-3 = (same-change refl, refuses 1 1 0xFFFFFFFE 3 5 (omega arith) (omega arith) refl)
+row-3 = (
+  λ r n h k. always-same last-half (row-10 r n h .0 k),
+  last-half,
+  refuses 1 1 0xFFFFFFFE 3 5 (omega arith) (omega arith) refl,
+)
 
 row-4 : NoLength
 unfolding regionOf

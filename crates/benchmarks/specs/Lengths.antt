@@ -18,7 +18,7 @@ use Rattle.lookaside.specs.declared.Slot.{Slot}
 use Rattle.lookaside.specs.declared.Buffer.{Buffer}
 use Rattle.lookaside.specs.Slots.{slotFor, emptySlot}
 use Rattle.lookaside.specs.Flushes.{flushedRegion, refused}
-use Rattle.benchmarks.specs.Rows.{shape, Always, AnsweredDone, AnsweredRefused, Sets, FindsRight}
+use Rattle.benchmarks.specs.Rows.{shape, Always, AnsweredDone, AnsweredRefused, Sets, FindsRight, lastStores}
 
 -- Of every pool, in every domain, with every right and allowance, a change of the one region is one of the other.
 abbrev pub SameChange : (start len start' len' : ℕ) → Type 0
@@ -44,9 +44,12 @@ LooksBeside = (n : ℕ) → 1026 ≤ n → Always (Sets 1 1 0x1002 4 2 n)
     (λ a q. FindsRight q (shape 1 1) 0x1000 2 0xA 3 × FindsRight q (shape 1 1) 0x1007 2 0xA 3
     × FindsRight q (shape 1 1) 0x1008 0 0xA 3 × FindsRight q (shape 1 1) 0xFFF 0 0x80000000 2)
 
--- 3. Start 0xFFFFFFFE: length 2 is accepted as length 4 from 0xFFFFFFFC is, row 10 of the twelve; 3 is refused 5.
+-- 3. M 1, L 1, start 0xFFFFFFFE: length 2 accepted, 3 refused 5. Accepted: with an allowance that suffices done, and
+-- the last word has the right; and in every pool it is what length 4 from 0xFFFFFFFC is, row 10 of the twelve.
 abbrev pub LastHalf : Type 0
-LastHalf = SameChange 0xFFFFFFFE 2 0xFFFFFFFC 4 × Refuses 1 1 0xFFFFFFFE 3 5
+LastHalf = ((r n : ℕ) → r ≤ 3 → lastStores r ≤ n → Always (Sets 1 1 0xFFFFFFFE 2 r n)
+    (λ a q. AnsweredDone (lastStores r) a × (rightOf (formOf (shape 1 1)) (words q) 0 0xFFFFFFFC ≡ r)))
+    × SameChange 0xFFFFFFFE 2 0xFFFFFFFC 4 × Refuses 1 1 0xFFFFFFFE 3 5
 
 -- 4. The length as given counts for 4: start 0x1002, length 0 is refused 4.
 abbrev pub NoLength : Type 0
@@ -57,25 +60,25 @@ NoLength = Refuses 1 1 0x1002 0 4
 abbrev pub LongSum : Type 0
 LongSum = SameChange 1 4294967295 0 4294967295 × Refuses 0 0 2 4294967295 5
 
--- A buffer of four lines of 64 bytes: those at 0x1000, 0x1040 and 0x1080, and the last of the memory.
-abbrev pub fourLines : (one two three last : Slot) → Buffer
-fourLines one two three last = record { slots = one ∷ two ∷ three ∷ last ∷ replicate 60 emptySlot; next = 4 }
+-- A buffer of four slots, the others empty.
+abbrev pub fourSlots : (one two three last : Slot) → Buffer
+fourSlots one two three last = record { slots = one ∷ two ∷ three ∷ last ∷ replicate 60 emptySlot; next = 4 }
 
--- The slot of the line at `a` in domain 0, with the entry `w`.
+-- The slot of a line, the 64 bytes at `a`, in domain 0 with the entry `w`.
 abbrev pub lineAt : ℕ → ℕ → Slot
 lineAt w a = slotFor 0 a w 3
 
--- .. and the buffer that holds all four.
+-- A buffer that holds the lines at 0x1000, 0x1040 and 0x1080, and the last of the memory.
 abbrev pub held : ℕ → Buffer
-held w = fourLines (lineAt w 0x1000) (lineAt w 0x1040) (lineAt w 0x1080) (lineAt w 0xFFFFFFC0)
+held w = fourSlots (lineAt w 0x1000) (lineAt w 0x1040) (lineAt w 0x1080) (lineAt w 0xFFFFFFC0)
 
 -- 6. A flush of 4 bytes at 0x103E empties the slots of both lines in which they lie, and no other; start 0xFFFFFFFE:
 -- with length 2 it empties that of the last line, with 3 it is refused 5; start 0x1002, length 0: refused 4.
 pub record FlushesFollow : Type 0 where
   pub both-lines : (w : ℕ) → flushedRegion (held w) 0 0x103E 4
-      ≡ record { refusal = 0; buffer = fourLines emptySlot emptySlot (lineAt w 0x1080) (lineAt w 0xFFFFFFC0) }
+      ≡ record { refusal = 0; buffer = fourSlots emptySlot emptySlot (lineAt w 0x1080) (lineAt w 0xFFFFFFC0) }
   pub last-line : (w : ℕ) → flushedRegion (held w) 0 0xFFFFFFFE 2
-      ≡ record { refusal = 0; buffer = fourLines (lineAt w 0x1000) (lineAt w 0x1040) (lineAt w 0x1080) emptySlot }
+      ≡ record { refusal = 0; buffer = fourSlots (lineAt w 0x1000) (lineAt w 0x1040) (lineAt w 0x1080) emptySlot }
   pub past-the-end : (w : ℕ) → flushedRegion (held w) 0 0xFFFFFFFE 3 ≡ refused 5 (held w)
   pub no-length : (w : ℕ) → flushedRegion (held w) 0 0x1002 0 ≡ refused 4 (held w)
 
