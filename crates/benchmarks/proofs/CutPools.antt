@@ -18,7 +18,7 @@ use Rattle.words.specs.Rights.{rightAt}
 use Rattle.words.specs.Region.{rounded, regionOf}
 use Rattle.words.specs.declared.Region.{Region}
 use Rattle.words.proofs.RightsLaws.{eight-right}
-use Rattle.words.proofs.RegionLaws.{covered-yes, covered-no, covered-range}
+use Rattle.words.proofs.RegionLaws.{covered-yes, covered-no}
 use Rattle.table.specs.declared.Shape.{Shape}
 use Rattle.table.specs.Shape.{Fits}
 use Rattle.table.specs.Map.{addresses, formOf}

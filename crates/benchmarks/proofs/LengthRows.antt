@@ -18,7 +18,8 @@ use Rattle.table.proofs.WantLaws.{wants-leaf}
 use Rattle.change.specs.declared.Answer.{Answer}
 use Rattle.change.specs.declared.Answer.the-variants.{Done}
 use Rattle.change.specs.Cuts.{differing}
-use Rattle.change.specs.Answers.{Changes, no-shape, no-domain, no-right, no-region, in-order}
+use Rattle.change.specs.Answers.{Changes, no-region}
+use Rattle.change.proofs.ChangesLaws.{rounded-alike}
 use Rattle.lookaside.specs.Slots.{holdsFor, holds}
 use Rattle.lookaside.specs.Flushes.{flushedBuffer, flushedSlot, flushes, meets, pointed}
 use Rattle.benchmarks.specs.Rows.{shape, Always, Sets}
@@ -29,24 +30,9 @@ use Rattle.benchmarks.proofs.PageLaws.{OnePage, after}
 use Rattle.benchmarks.proofs.PagePools.{painted, one-page, pagePool, page-done-finished, page-done}
 use Rattle.benchmarks.proofs.LastRow.{row-10}
 
--- A change looks at start and length through their rounding alone.
-module _ {start len start' len' : ℕ} (e : regionOf start len ≡ regionOf start' len') where
-  by-rounding : {p : List ℕ} {s : Shape} {d r n : ℕ} {a : Answer} {q : List ℕ} → Changes p s d start len r n a q
-      → Changes p s d start' len' r n a q
-  by-rounding (no-shape f) = no-shape f
-  by-rounding (no-domain f k) = no-domain f k
-  by-rounding (no-right f k h) = no-right f k h
-  by-rounding (no-region f k h m z) = no-region f k h m (sym e ∙ z)
-  by-rounding (in-order g x c) = in-order g (record {
-    fits = x .fits;
-    domain = x .domain;
-    right = x .right;
-    region = sym e ∙ x .region;
-  }) c
-
 same-change : {start len start' len' : ℕ} → regionOf start len ≡ regionOf start' len'
     → SameChange start len start' len'
-same-change e p s d r n a q = (by-rounding e, by-rounding (sym e))
+same-change e p s d r n a q = (rounded-alike e, rounded-alike (sym e))
 
 -- What is said of a change of the one region holds of the other.
 always-same : {start len start' len' : ℕ} → SameChange start len start' len'

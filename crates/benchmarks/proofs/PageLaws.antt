@@ -115,7 +115,8 @@ module _ {L low : ℕ} {R : ℕ → ℕ} {a0 c0 w : ℕ} (o : OnePage L low R a0
   near h a = eqb (a / block h) (a0 / block h)
 
   -- One that is not has no right.
-  block-quiet : (h a b : ℕ) → low ≤ h → h ≤ 2 → b < addresses → near h a ≡ false → a / block h ≡ b / block h → R b ≡ 0
+  block-quiet : (h a b : ℕ) → low ≤ h → h ≤ 2 → b < addresses → near h a ≡ false → a / block h ≡ b / block h
+      → R b ≡ 0
   block-quiet h a b lo hi bb e x =
       o .quiet b bb
       (λ z. true≢false (sym (eq-eqb (a / block h) (a0 / block h) (x ∙ block-above h low b a0 lo hi z)) ∙ e))
@@ -309,7 +310,8 @@ module _ {L low : ℕ} {R : ℕ → ℕ} {a0 c0 w : ℕ} (o : OnePage L low R a0
 
   -- A word where no walk comes is as it was.
   unchanged : (j : ℕ)
-      → ((h d a : ℕ) → d < 1 → a < addresses → h ≤ 2 → Gets F want h d a → j ≡ spot F want place h d a → ⊥) → Q j ≡ P j
+      → ((h d a : ℕ) → d < 1 → a < addresses → h ≤ 2 → Gets F want h d a → j ≡ spot F want place h d a → ⊥)
+      → Q j ≡ P j
   unchanged j un = elim (decLt j 1024) [
     | yes x ↦ elim (ℕ-discrete j (index 2 a0)) [
       | yes e ↦ absurd (un 2 0 a0 (omega arith) (o .inside) (omega arith) (λ i lo hi. absurd (omega arith))

@@ -1,5 +1,5 @@
 -- What the census finds: it says that the pool is sound exactly where it is, and then leaves the owners of all places.
-use Prim.Native.Nat.{ℕ, zero, suc, _+_, _*_, _-_, _/_, _%_, _≤_, _<_}
+use Prim.Native.Nat.{ℕ, zero, suc, _*_, _-_, _/_, _%_, _<_}
 use mathlib.Core.Path.{_≡_, refl, sym, ap, _∙_}
 use mathlib.Core.Logic.{inl, inr, ⊎-elim}
 use mathlib.Core.Bool.{Bool, true, false, not, false≢true}
@@ -23,9 +23,9 @@ use Rattle.places.specs.Count.{blocks}
 use Rattle.places.specs.Final.{entryOf, old}
 use Rattle.places.proofs.OldLaws.{old-one}
 use Rattle.census.specs.Places.{maxPlaces, placeHeight, placeWord}
-use Rattle.census.proofs.PlaceLaws.{hasPlace, place-kinds, led-place}
+use Rattle.census.proofs.PlaceLaws.{place-kinds, led-place}
 use Rattle.census.proofs.ReadableLaws.{Reached}
-use Rattle.census.specs.Tally.{Tally, refused, owned, none, taken, rootsTally}
+use Rattle.census.specs.Tally.{refused, owned, none, taken, rootsTally}
 use Rattle.census.specs.Census.{StandsAt, Owners, Census}
 use Rattle.census.proofs.AlikeLaws.{Alike, Matches, roots-alike}
 

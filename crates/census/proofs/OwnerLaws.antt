@@ -1,5 +1,5 @@
 -- The owners of the places of one height: where the table of a block stands, and whose the table at a place is.
-use Prim.Native.Nat.{ℕ, zero, suc, _+_, _*_, _-_, _/_, _<_}
+use Prim.Native.Nat.{ℕ, suc, _+_, _*_, _-_, _/_, _<_}
 use mathlib.Core.Path.{_≡_, refl, sym, ap, _∙_}
 use mathlib.Core.Logic.{⊎-elim}
 use mathlib.Core.Bool.{true, not, true≢false}
@@ -20,7 +20,7 @@ use Rattle.census.specs.Places.{placeHeight, firstNumber}
 use Rattle.census.proofs.PlaceLaws.{PlaceAt, place-number}
 use Rattle.census.specs.Tally.{none, taken}
 use Rattle.census.specs.Census.{StandsAt, Owners}
-use Rattle.census.proofs.StandLaws.{EntryOf, block-few, stands-at}
+use Rattle.census.proofs.StandLaws.{block-few, stands-at}
 use Rattle.census.proofs.CensusLaws.{old-reached}
 
 module _ (p : List ℕ) (s : Shape) (fits : Fits s (length p)) (q : SoundPool (formOf s) (words p)) (o : List ℕ)

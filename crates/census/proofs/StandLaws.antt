@@ -1,7 +1,7 @@
 -- Laws of entries and tables by the numbers of their blocks: which word is the entry of a block, and which block's
 -- table stands at a place.
 use Prim.Native.Nat.{ℕ, zero, suc, _+_, _*_, _/_, _%_, _≤_, _<_}
-use mathlib.Core.Path.{_≡_, refl, sym, ap, subst, _∙_}
+use mathlib.Core.Path.{_≡_, refl, sym, ap, _∙_}
 use mathlib.Core.Bool.{true}
 use mathlib.Core.List.{List}
 use native.Mathlib.Omega.{arith}
@@ -10,7 +10,7 @@ use Rattle.table.specs.declared.Shape.{Shape}
 use Rattle.table.specs.Map.{leads}
 use Rattle.places.specs.Count.{blocks}
 use Rattle.places.specs.Final.{entryOf, old}
-use Rattle.census.specs.Places.{placeHeight, placeWord}
+use Rattle.census.specs.Places.{placeHeight}
 use Rattle.census.proofs.PlaceLaws.{PlaceAt}
 use Rattle.census.specs.Tally.{none}
 use Rattle.census.specs.Census.{StandsAt}

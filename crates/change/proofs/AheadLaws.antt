@@ -18,7 +18,6 @@ use Rattle.table.specs.Shape.{Fits, size}
 use Rattle.table.specs.Map.{block, leads, zone}
 use Rattle.places.specs.Count.{heights}
 use Rattle.places.proofs.HeightLaws.{each-height}
-use Rattle.targets.specs.declared.Paint.{Paint}
 use Rattle.targets.specs.Targets.{virtualOf}
 use Rattle.targets.specs.Steps.{inside}
 use Rattle.targets.proofs.EntryLaws.{leads-high}

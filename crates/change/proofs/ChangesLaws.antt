@@ -1,4 +1,4 @@
--- What a change answers and leaves is settled by its input.
+-- What a change answers and leaves is settled by its input, and by the rounding of its region.
 use Prim.Native.Nat.{ℕ}
 use mathlib.Core.Path.{_≡_, refl, sym, ap, _∙_}
 use mathlib.Core.List.{List}
@@ -95,3 +95,17 @@ one-change {start = start} {len = len} (in-order g u v) (no-region f h t k e) = 
 one-change {start = start} {len = len} (in-order g u v) (in-order h w z) =
     let e = same-region start len (w .region) (u .region) in
     one-from-6 v (rw e at z)
+
+-- A change looks at start and length through their rounding alone.
+pub rounded-alike : {p : List ℕ} {s : Shape} {d start len start' len' r n : ℕ} {a : Answer} {q : List ℕ}
+    → regionOf start len ≡ regionOf start' len' → Changes p s d start len r n a q → Changes p s d start' len' r n a q
+rounded-alike e (no-shape f) = no-shape f
+rounded-alike e (no-domain f h) = no-domain f h
+rounded-alike e (no-right f h t) = no-right f h t
+rounded-alike e (no-region f h t k z) = no-region f h t k (sym e ∙ z)
+rounded-alike e (in-order g u v) = in-order g (record {
+  fits = u .fits;
+  domain = u .domain;
+  right = u .right;
+  region = sym e ∙ u .region;
+}) v

@@ -1,19 +1,16 @@
 -- A store that is due leaves all that is said of a cut, with one store more.
-use Prim.Native.Nat.{ℕ, zero, suc, _+_, _<_}
-use mathlib.Core.Path.{_≡_, refl, sym, ap, _∙_}
+use Prim.Native.Nat.{ℕ, suc, _+_, _<_}
+use mathlib.Core.Path.{_≡_, sym, ap, _∙_}
 use mathlib.Core.Logic.{_≢_, _⊎_, inl, inr, ⊎-elim}
-use mathlib.Core.Bool.{Bool, true, false, cond, _&&_}
+use mathlib.Core.Bool.{false}
 use mathlib.Core.List.{List}
-use native.Mathlib.Omega.{arith}
 use native.Mathlib.Decide.{ℕ-discrete}
 use native.Mathlib.Numerals.{add-one}
-use lib.Dec.{eqb}
-use lib.ListN.{length, set, length-set}
+use lib.ListN.{set, length-set}
 use lib.Seq.{getD-set-same, getD-set-other}
-use borrow.Author.Tests.{eq-eqb, eqb-true}
-use Rattle.theory.specs.Pool.{words, SoundPool, rightOf}
+use Rattle.theory.specs.Pool.{words, rightOf}
 use Rattle.theory.specs.Finished.{Finished}
-use Rattle.theory.specs.Stores.{Cut, Stage, Next}
+use Rattle.theory.specs.Stores.{Cut, Stage}
 use Rattle.theory.proofs.Logic.{by-cases}
 use Rattle.theory.proofs.StoreLaws.{Store, store-set}
 use Rattle.theory.proofs.BetweenLaws.{Mixed, next-stage, stage-mixed, put-cut}
@@ -26,7 +23,7 @@ use Rattle.table.specs.Map.{addresses, formOf}
 use Rattle.table.proofs.FormLaws.{lawful, exact}
 use Rattle.table.proofs.WantLaws.{wanting}
 use Rattle.plan.specs.Aims.{Aim, aimedAt}
-use Rattle.change.specs.Cuts.{differing, CutAt, Due}
+use Rattle.change.specs.Cuts.{CutAt, Due}
 use Rattle.plan.proofs.AimLaws.{aimed-covered, aimed-other}
 use Rattle.change.proofs.DifferLaws.{differing-set}
 

@@ -1,12 +1,12 @@
 -- Where the tables fit, a change has a finished pool to go to. A tidying aims at the rights that there are, and
 -- always fits.
-use Prim.Native.Nat.{ℕ, _*_, _/_, _<_}
+use Prim.Native.Nat.{ℕ, _/_, _<_}
 use mathlib.Core.Path.{_≡_, refl, ap, fun-ext}
-use mathlib.Core.Bool.{Bool, true, false, _&&_}
+use mathlib.Core.Bool.{Bool, false}
 use mathlib.Core.List.{List}
 use native.Mathlib.Omega.{arith}
 use lib.ListN.{length}
-use lib.Dec.{eqb, leb, ltb}
+use lib.Dec.{eqb, leb}
 use borrow.Author.Tests.{le-ltb}
 use Rattle.theory.specs.Pool.{words, rightOf, SoundPool}
 use Rattle.table.specs.declared.Shape.{Shape}

@@ -1,11 +1,10 @@
 -- Where a run ends: finished, or cut.
-use Prim.Native.Nat.{ℕ, zero, suc, _+_, _-_, _≤_, _<_}
-use mathlib.Core.Path.{_≡_, refl, sym, ap, _∙_, fun-ext}
+use Prim.Native.Nat.{ℕ, _+_, _-_, _<_}
+use mathlib.Core.Path.{_≡_, sym, _∙_, fun-ext}
 use mathlib.Core.Logic.{_≢_, _⊎_, inl, inr, ⊎-elim}
-use mathlib.Core.Bool.{Bool, true, false}
+use mathlib.Core.Bool.{Bool}
 use mathlib.Core.List.{List}
 use native.Mathlib.Omega.{arith}
-use native.Mathlib.Decide.{decLt}
 use lib.ListN.{length}
 use Rattle.theory.specs.Pool.{words}
 use Rattle.theory.specs.Finished.{Finished}
@@ -18,7 +17,7 @@ use Rattle.plan.specs.Aims.{Aim, aimedAt, Goal}
 use Rattle.change.specs.Cuts.{differing, CutAt}
 use Rattle.theory.specs.Phase.{midway}
 use Rattle.change.specs.Runs.{phases, At}
-use Rattle.change.specs.Answers.{OnTheWay, IsCut, IsDone}
+use Rattle.change.specs.Answers.{IsCut, IsDone}
 use Rattle.change.proofs.DifferLaws.{differing-less}
 
 module _ (s : Shape) (A : Aim) (old : List ℕ) where

@@ -2,12 +2,12 @@
 -- leaves one pool.
 use Prim.Native.Nat.{ℕ, _≤_, _<_}
 use mathlib.Core.Path.{_≡_, refl, sym, ap, _∙_, fun-ext}
-use mathlib.Core.Logic.{_≢_, _⊎_, inl, inr, ⊎-elim}
-use mathlib.Core.Bool.{Bool, true, false, cond, _&&_, _||_}
+use mathlib.Core.Logic.{_⊎_, inl, inr, ⊎-elim}
+use mathlib.Core.Bool.{Bool, true, false, cond, _||_}
 use mathlib.Core.List.{List}
 use native.Mathlib.Omega.{arith}
 use native.Mathlib.Decide.{ℕ-discrete, decLt}
-use lib.Dec.{eqb, ltb}
+use lib.Dec.{ltb}
 use lib.ListN.{length}
 use lib.Seq.{ext-getD}
 use borrow.Author.Tests.{eq-eqb, lt-ltb, le-ltb}
@@ -25,7 +25,7 @@ use Rattle.plan.specs.Aims.{Aim, aimedAt}
 use Rattle.change.specs.Cuts.{differing}
 use Rattle.change.specs.Runs.{phases}
 use Rattle.change.specs.Answers.{OnTheWay, IsCut, IsDone}
-use Rattle.change.proofs.DifferLaws.{differing-most, differing-less}
+use Rattle.change.proofs.DifferLaws.{differing-less}
 use Rattle.change.proofs.OutcomeLaws.{one-goal}
 
 -- Every word of `x` that is not as in `old` is as in `y`: the words reached in `x` are among those reached in `y`.

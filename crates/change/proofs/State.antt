@@ -1,21 +1,18 @@
 -- A change between two words: what the next word holds, when its store is due, and how the state goes on.
-use Prim.Native.Nat.{ℕ, zero, suc, _+_, _-_, _≤_, _<_}
+use Prim.Native.Nat.{ℕ, _+_, _-_, _≤_, _<_}
 use mathlib.Core.Path.{_≡_, refl, sym, ap, _∙_, fun-ext}
-use mathlib.Core.Logic.{_≢_, _⊎_, inl, inr, ⊎-elim}
-use mathlib.Core.Bool.{Bool, true, false, cond, _&&_, _||_, not, true≢false, false≢true}
+use mathlib.Core.Logic.{_≢_, _⊎_, ⊎-elim}
+use mathlib.Core.Bool.{Bool, true, false, cond, _&&_, _||_, not}
 use mathlib.Core.List.{List}
 use native.Mathlib.Omega.{arith}
 use native.Mathlib.Decide.{ℕ-discrete, decLt}
-use native.Mathlib.Numerals.{add-one}
-use lib.Dec.{eqb, leb, ltb}
+use lib.Dec.{eqb, ltb}
 use lib.ListN.{length, set}
 use lib.Seq.{getD-set-same, getD-set-other}
-use borrow.Author.Tests.{lt-ltb, le-ltb, ltb-true, ltb-false, eq-eqb, ne-eqb, eqb-true, eqb-false}
-use Rattle.theory.specs.Pool.{words, SoundPool}
-use Rattle.theory.specs.Finished.{Finished}
-use Rattle.theory.specs.Stores.{Next}
-use Rattle.theory.specs.Phase.{phase, midway, Tells}
-use Rattle.theory.proofs.PhaseLaws.{midway-new, midway-old, midway-either, phase-next}
+use borrow.Author.Tests.{lt-ltb, le-ltb, eq-eqb, ne-eqb}
+use Rattle.theory.specs.Pool.{words}
+use Rattle.theory.specs.Phase.{midway}
+use Rattle.theory.proofs.PhaseLaws.{midway-new, midway-old, phase-next}
 use Rattle.theory.proofs.FinishedLaws.{finished-words, one-finished}
 use Rattle.theory.proofs.StayLaws.{next-here}
 use Rattle.table.specs.declared.Shape.{Shape}
@@ -24,8 +21,8 @@ use Rattle.table.proofs.FormLaws.{lawful, exact}
 use Rattle.table.proofs.WantLaws.{wanting}
 use Rattle.plan.specs.declared.Plan.{Plan}
 use Rattle.plan.specs.Plan.{after, phaseOf}
-use Rattle.plan.specs.Aims.{Aim, aimedAt, Goal}
-use Rattle.change.specs.Cuts.{differing, CutAt, Due}
+use Rattle.plan.specs.Aims.{Aim, aimedAt}
+use Rattle.change.specs.Cuts.{Due}
 use Rattle.change.proofs.CutLaws.{put-cuts}
 use Rattle.plan.specs.Goals.{Planned}
 use Rattle.change.specs.Runs.{phases, At}

@@ -1,7 +1,7 @@
 -- Where a change begins, how it goes from phase to phase and over words that stay, and where it ends.
 use Prim.Native.Nat.{ℕ, _+_, _≤_, _<_}
 use mathlib.Core.Path.{_≡_, refl, sym, ap, _∙_}
-use mathlib.Core.Logic.{_≢_, _⊎_, inl, inr, ⊎-elim}
+use mathlib.Core.Logic.{_≢_, _⊎_, inl, ⊎-elim}
 use mathlib.Core.Bool.{Bool, true, false, cond, _&&_, _||_}
 use mathlib.Core.List.{List}
 use native.Mathlib.Omega.{arith}
@@ -10,7 +10,6 @@ use lib.Dec.{eqb, ltb}
 use lib.ListN.{length}
 use borrow.Author.Tests.{lt-ltb, le-ltb, eq-eqb, ne-eqb}
 use Rattle.theory.specs.Pool.{words}
-use Rattle.theory.specs.Phase.{midway}
 use Rattle.theory.proofs.PhaseLaws.{midway-new}
 use Rattle.table.specs.declared.Shape.{Shape}
 use Rattle.table.specs.Map.{leads, zone}

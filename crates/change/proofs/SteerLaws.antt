@@ -1,8 +1,7 @@
 -- The allowance never steers: each request has one list of stores, and whatever the allowance is, the first of them
 -- are made.
-use Prim.Native.Nat.{ℕ, _+_, _-_, _≤_, _<_}
+use Prim.Native.Nat.{ℕ, _-_, _≤_, _<_}
 use mathlib.Core.Path.{_≡_, refl, sym, ap, _∙_, fun-ext}
-use mathlib.Core.Logic.{_⊎_, inl, inr, ⊎-elim}
 use mathlib.Core.Bool.{Bool}
 use mathlib.Core.List.{List, []}
 use native.Mathlib.Omega.{arith}
@@ -20,12 +19,11 @@ use Rattle.table.proofs.FormLaws.{lawful, exact}
 use Rattle.table.proofs.WantLaws.{wanting}
 use Rattle.places.specs.Count.{Room}
 use Rattle.places.proofs.Exists.{finished-fits}
-use Rattle.targets.specs.declared.Paint.{Paint}
 use Rattle.plan.specs.Aims.{Aim, changeAim, noAim, aimedAt, Goal}
 use Rattle.change.specs.declared.Answer.{Answer}
-use Rattle.change.specs.declared.Answer.the-variants.{Done, Cut, Refused}
+use Rattle.change.specs.declared.Answer.the-variants.{Done, Cut}
 use Rattle.change.specs.Cuts.{differing, CutAt}
-use Rattle.change.specs.Runs.{phases, At}
+use Rattle.change.specs.Runs.{At}
 use Rattle.change.specs.Answers.{IsDone, IsCut, Asked, ChangesRegion, Changes, Tidies}
 use Rattle.change.specs.Answers.{no-shape, no-domain, no-right, no-region, in-order, unsound, unsettled}
 use Rattle.change.specs.Answers.{no-room, done, cut}

@@ -1,8 +1,8 @@
 -- The stores of a change as a list: whatever the allowance, the first of them are made, and each leaves what is said
 -- of a cut.
-use Prim.Native.Nat.{ℕ, zero, suc, _+_, _-_, _≤_, _<_}
-use mathlib.Core.Path.{_≡_, refl, sym, ap, _∙_, fun-ext}
-use mathlib.Core.Logic.{_≢_, _⊎_, inl, inr, ⊎-elim}
+use Prim.Native.Nat.{ℕ, zero, suc, _+_, _-_, _<_}
+use mathlib.Core.Path.{_≡_, refl, sym, ap, _∙_}
+use mathlib.Core.Logic.{_≢_, inl, inr}
 use mathlib.Core.Bool.{Bool, true, false, not, cond, _&&_}
 use mathlib.Core.List.{List, [], _∷_, _++_}
 use native.Mathlib.Omega.{arith}
@@ -12,16 +12,15 @@ use lib.ListN.{length, set, take, length-append}
 use lib.Seq.{take-append-le}
 use borrow.Author.Tests.{eqb-true, eqb-false, eq-eqb, not-true, not-false}
 use Rattle.theory.specs.Pool.{words}
-use Rattle.theory.proofs.Logic.{by-cases, and-both}
+use Rattle.theory.proofs.Logic.{and-both}
 use Rattle.table.specs.declared.Shape.{Shape}
 use Rattle.plan.specs.Aims.{Aim}
-use Rattle.change.specs.Cuts.{differing, CutAt}
 use Rattle.change.specs.Runs.{phases, At}
-use Rattle.change.specs.Answers.{IsCut, IsDone}
-use Rattle.change.specs.StoreList.{OneStore, storesIn, storesFrom, storesOf, stored}
+use Rattle.change.specs.Answers.{IsCut}
+use Rattle.change.specs.StoreList.{OneStore, storesIn, storesFrom, stored}
 use Rattle.change.proofs.State.{at-long, here-old, at-skip, at-store}
-use Rattle.change.proofs.StateLaws.{at-begin, at-turn, at-end}
-use Rattle.change.proofs.OutcomeLaws.{outcome-done, outcome-cut}
+use Rattle.change.proofs.StateLaws.{at-turn}
+use Rattle.change.proofs.OutcomeLaws.{outcome-cut}
 
 -- Stores in two parts.
 stored-append : (x : List ℕ) (l m : List OneStore) → stored x (l ++ m) ≡ stored (stored x l) m

@@ -1,6 +1,6 @@
 -- What a tidying answers and leaves is settled by its input; and what it means for the pool.
 use Prim.Native.Nat.{ℕ, _<_}
-use mathlib.Core.Path.{_≡_, refl, ap, _∙_}
+use mathlib.Core.Path.{_≡_, refl, ap}
 use mathlib.Core.List.{List}
 use native.Mathlib.Omega.{arith}
 use lib.ListN.{length}
@@ -12,7 +12,7 @@ use Rattle.table.specs.Shape.{Fits}
 use Rattle.table.specs.Map.{addresses, formOf}
 use Rattle.plan.specs.Aims.{noAim}
 use Rattle.change.specs.declared.Answer.{Answer}
-use Rattle.change.specs.declared.Answer.the-variants.{Done, Cut}
+use Rattle.change.specs.declared.Answer.the-variants.{Done}
 use Rattle.change.specs.Cuts.{differing}
 use Rattle.change.specs.Answers.{IsDone, Tidies, no-shape, unsound, done, cut}
 use Rattle.change.proofs.DifferLaws.{differing-self}

@@ -1,6 +1,6 @@
 -- How a tidying begins, and what its end says.
 use Prim.Native.Nat.{ℕ}
-use mathlib.Core.Path.{_≡_, refl, sym, subst}
+use mathlib.Core.Path.{refl, sym, subst}
 use mathlib.Core.List.{List}
 use lib.ListN.{length}
 use Rattle.theory.specs.Pool.{words, SoundPool}

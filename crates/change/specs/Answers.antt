@@ -4,7 +4,7 @@ use mathlib.Core.Path.{_≡_}
 use mathlib.Core.Bool.{Bool}
 use mathlib.Core.List.{List}
 use lib.ListN.{length}
-use Rattle.theory.specs.Pool.{words, SoundPool, rightOf}
+use Rattle.theory.specs.Pool.{words, SoundPool}
 use Rattle.theory.specs.Settled.{Settled}
 use Rattle.theory.specs.Finished.{Finished}
 use Rattle.theory.specs.Phase.{phase, midway, Tells}

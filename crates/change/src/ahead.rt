@@ -1,6 +1,5 @@
 // Which store a change makes next. A plan changes words of few tables, and between them there is nothing to do.
 ghost use Prim.Native.Nat.{_+_, _<_, _≤_};
-ghost use mathlib.Core.Path.{_≡_};
 ghost use lib.ListN.{length};
 ghost use Rattle.places.specs.Count.{heights, blocks};
 ghost use Rattle.plan.specs.Plan.{PlanFits};

@@ -1,20 +1,17 @@
 -- Demand 3: the rights after any series, and that no outcome of a series is refused 6.
-use Prim.Native.Nat.{ℕ, _/_}
+use Prim.Native.Nat.{ℕ}
 use mathlib.Core.Path.{_≡_, refl, sym, ap, _∙_}
 use mathlib.Core.Logic.{_≢_, _⊎_, inl, inr, ⊎-elim}
-use mathlib.Core.Bool.{true, cond, _&&_}
+use mathlib.Core.Bool.{cond}
 use mathlib.Core.List.{List}
 use native.Mathlib.Omega.{arith}
-use native.Mathlib.Decide.{ℕ-discrete, decLt}
 use Rattle.words.proofs.RegionLaws.{region-number}
-use lib.Dec.{leb, ltb}
 use lib.ListN.{length, length-append, length-replicate}
-use borrow.Author.Tests.{ltb-true}
-use Rattle.theory.proofs.Logic.{by-cases, and-both}
+use Rattle.theory.proofs.Logic.{by-cases}
 use Rattle.theory.specs.Pool.{words, SoundPool}
-use Rattle.words.specs.Region.{regionOf, roundedEnd, covered}
+use Rattle.words.specs.Region.{regionOf, covered}
 use Rattle.words.specs.declared.Region.{Region}
-use Rattle.words.specs.declared.Rounded.the-variants.{Covers, Refused as NoRegion}
+use Rattle.words.specs.declared.Rounded.the-variants.{Covers}
 use Rattle.table.specs.declared.Shape.{Shape}
 use Rattle.table.specs.declared.Made.the-variants.{Done as Made, Refused as NotMade}
 use Rattle.table.specs.Shape.{fitsOf, poolLength}

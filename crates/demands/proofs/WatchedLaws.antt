@@ -2,15 +2,13 @@
 use Prim.Native.Nat.{ℕ, _≤_, _<_}
 use mathlib.Core.Path.{_≡_, refl, sym, ap, _∙_}
 use mathlib.Core.Logic.{_≢_, _⊎_, inl, inr, ⊎-elim}
-use mathlib.Core.Bool.{Bool, true, false, _&&_, false≢true}
+use mathlib.Core.Bool.{Bool, true, false, _&&_}
 use mathlib.Core.List.{List}
 use native.Mathlib.Omega.{arith}
 use native.Mathlib.Decide.{ℕ-discrete}
 use lib.ListN.{length}
-use borrow.Author.Tests.{eq-eqb}
 use Rattle.theory.specs.Pool.{words, SoundPool, rightOf}
-use Rattle.words.specs.Region.{regionOf, covered}
-use Rattle.words.specs.declared.Region.{Region}
+use Rattle.words.specs.Region.{regionOf}
 use Rattle.words.specs.declared.Rounded.{Rounded}
 use Rattle.words.specs.declared.Rounded.the-variants.{Covers, Refused as NoRegion}
 use Rattle.table.specs.declared.Shape.{Shape}
@@ -34,7 +32,7 @@ use Rattle.lookaside.specs.declared.Verdict.the-variants.{Refused}
 use Rattle.lookaside.specs.Slots.{emptyBuffer}
 use Rattle.lookaside.specs.Check.{refusalOf, verdictOf, withoutLoads, checkOf}
 use Rattle.lookaside.specs.Flushes.{flushedBuffer, flushedRounded, pointed}
-use Rattle.lookaside.specs.Agree.{Places, nowhere, within, clears, both, less, rightsOf, SameBut, AgreesBut}
+use Rattle.lookaside.specs.Agree.{Places, nowhere, clears, both, less, rightsOf, SameBut, AgreesBut}
 use Rattle.lookaside.proofs.CheckLaws.{check-pointer, refusal-pointer}
 use Rattle.lookaside.proofs.FlushLaws.{pointed-goes}
 use Rattle.lookaside.proofs.AgreeLaws.{emptied-agrees, change-agrees, tidy-agrees, more-agrees, flush-agrees}

@@ -7,9 +7,8 @@ use mathlib.Core.Path.{_≡_, refl, sym, ap, _∙_}
 use mathlib.Core.Logic.{_≢_}
 use mathlib.Core.List.{List}
 use lib.ListN.{length}
-use borrow.Author.Tests.{ne-eqb}
 use Rattle.theory.specs.Pool.{words, SoundPool, right}
-use Rattle.words.specs.Rights.{rightAt, eightOf}
+use Rattle.words.specs.Rights.{rightAt}
 use Rattle.words.specs.declared.PoolWord.{PoolWord}
 use Rattle.words.proofs.RightsLaws.{eight-right, eight-good, sixteen-right, right-small}
 use Rattle.table.specs.declared.Shape.{Shape}

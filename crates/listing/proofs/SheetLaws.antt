@@ -29,8 +29,8 @@ fed-append m zero f a s = rw add-zero
 fed-append m (suc n) f a s = rw (add-suc, ← fed-append m n f a s, add-assoc)
 
 -- Equal rights are fed alike.
-pub fed-alike : (n : ℕ) (f g : ℕ → ℕ) (a : ℕ) (s : Sheet) → ((j : ℕ) → a ≤ j → j < a + n → f j ≡ g j) → fed n f a s
-    ≡ fed n g a s
+pub fed-alike : (n : ℕ) (f g : ℕ → ℕ) (a : ℕ) (s : Sheet) → ((j : ℕ) → a ≤ j → j < a + n → f j ≡ g j)
+    → fed n f a s ≡ fed n g a s
 unfolding fed
 fed-alike zero f g a s h = refl
 fed-alike (suc n) f g a s h =
@@ -88,7 +88,8 @@ along-start f n u a s k =
     record { high = omega arith; numbers = rw z k; sum = ap (λ m. fed m f a s) (sym (zero-mul u)) }
 
 pub along-next : (f g : ℕ → ℕ) (n u a : ℕ) (s₀ : Sheet) (i : ℕ) (s t : Sheet) → Along f n u a s₀ i s → i < n
-    → ((j : ℕ) → a + i * u ≤ j → j < a + i * u + u → g j ≡ f j) → t ≡ fed u g (a + i * u) s → Along f n u a s₀ (i + 1) t
+    → ((j : ℕ) → a + i * u ≤ j → j < a + i * u + u → g j ≡ f j) → t ≡ fed u g (a + i * u) s
+    → Along f n u a s₀ (i + 1) t
 along-next f g n u a s₀ i s t l h e k =
     let m : (i + 1) * u ≡ i * u + u = rw add-mul (omega arith) in
     let p : a + (i + 1) * u ≡ a + i * u + u = omega arith in

@@ -3,10 +3,9 @@
 use Prim.Native.Nat.{ℕ, zero, suc, _+_, _-_, _≤_, _<_}
 use mathlib.Core.Path.{_≡_, refl, sym, _∙_}
 use mathlib.Core.Logic.{_≢_, _⊎_, inl, inr}
-use mathlib.Core.Bool.{Bool, true, false, cond, _&&_, true≢false}
+use mathlib.Core.Bool.{Bool, true, false, _&&_, true≢false}
 use native.Mathlib.Omega.{arith}
 use native.Mathlib.Decide.{ℕ-discrete, decLt}
-use lib.Dec.{eqb}
 use borrow.Author.Tests.{eq-eqb, ne-eqb, lt-ltb, le-ltb}
 use Rattle.theory.proofs.Logic.{by-cases, and-both}
 use Rattle.places.specs.Count.{count}
@@ -19,8 +18,8 @@ given-at owner p i = rw (eq-eqb p p refl) refl
 given-off : (owner : ℕ → ℕ) (p i q : ℕ) → q ≢ p → givenTo owner p i q ≡ owner q
 given-off owner p i q d = rw (ne-eqb q p d) refl
 
-module _ (n m : ℕ) (want old : ℕ → Bool) (was : ℕ → ℕ) (one : (i j : ℕ) → i < n → j < n → old i ≡ true → old j ≡ true
-    → was i ≡ was j → i ≡ j) where
+module _ (n m : ℕ) (want old : ℕ → Bool) (was : ℕ → ℕ)
+    (one : (i j : ℕ) → i < n → j < n → old i ≡ true → old j ≡ true → was i ≡ was j → i ≡ j) where
   -- The loop of keeping starts with no table at any place.
   pub keep-start : {owner : ℕ → ℕ} → ((p : ℕ) → p < m → n ≤ owner p) → Keeping n m want old was 0 owner
   keep-start {owner} e = record {
@@ -125,8 +124,8 @@ module _ (n m : ℕ) (want old : ℕ → Bool) (was : ℕ → ℕ) (one : (i j :
             absurd (omega arith)
 
   -- Where the tables wanted are no more than the places, they find theirs.
-  pub owners : ((i : ℕ) → i < n → old i ≡ true → was i < m) → count want n ≤ m → (free : ℕ → Bool) × (owner : ℕ → ℕ)
-      × Owned n m want old free was owner
+  pub owners : ((i : ℕ) → i < n → old i ≡ true → was i < m) → count want n ≤ m
+      → (free : ℕ → Bool) × (owner : ℕ → ℕ) × Owned n m want old free was owner
   owners low fits =
       let (first, k) = all-kept low n (omega arith) in
       let (c, o, s) = served (vacant n first) (keep-done low k) fits n (omega arith) in

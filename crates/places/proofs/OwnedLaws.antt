@@ -101,7 +101,8 @@ module _ (n m : ℕ) (want old free : ℕ → Bool) (was : ℕ → ℕ) where
         let (x, y) = seek-is owner (owner p) m p h refl in
         one-place (O .held) (seek owner (owner p) m) p x h (rw y b) y
 
-    pub seek-apart : (i j : ℕ) → i < n → j < n → want i ≡ true → want j ≡ true → seek owner i m ≡ seek owner j m → i ≡ j
+    pub seek-apart : (i j : ℕ) → i < n → j < n → want i ≡ true → want j ≡ true → seek owner i m ≡ seek owner j m
+        → i ≡ j
     seek-apart i j h k v w e = sym (seek-owner i h v .1) ∙ ap owner e ∙ seek-owner j k w .1
 
     -- A kept table stands where it was, at a place that is not free.

@@ -6,8 +6,7 @@ use mathlib.Core.Bool.{true}
 use native.Mathlib.Omega.{arith}
 use Rattle.theory.specs.Pool.{rightOf}
 use Rattle.words.specs.Region.{rounded}
-use Rattle.table.specs.Map.{addresses, formOf}
-use Rattle.table.specs.Wants.{WordRights}
+use Rattle.table.specs.Map.{formOf}
 use Rattle.table.proofs.WantLaws.{divided-wants, none-rights, painted-rights, wanting}
 use Rattle.table.proofs.Witness.{shape, painted, after, two-of-each-finished, MadeAt, two-of-each-made}
 use Rattle.places.specs.Count.{want, Room}

@@ -1,7 +1,7 @@
 -- Laws of marking the places of kept tables, place by place, and that giving out can start once all are marked.
-use Prim.Native.Nat.{ℕ, _+_, _*_, _≤_, _<_}
-use mathlib.Core.Path.{_≡_, refl, sym, ap, _∙_}
-use mathlib.Core.Bool.{Bool, true, false, cond, _&&_, not}
+use Prim.Native.Nat.{ℕ, _+_, _*_, _<_}
+use mathlib.Core.Path.{_≡_, sym, ap, _∙_}
+use mathlib.Core.Bool.{Bool, true, false, cond, not}
 use mathlib.Core.List.{List}
 use native.Mathlib.Omega.{arith}
 use native.Mathlib.Decide.{ℕ-discrete}
@@ -15,7 +15,7 @@ use Rattle.theory.proofs.Logic.{by-cases, and-both}
 use Rattle.table.specs.declared.Shape.{Shape}
 use Rattle.table.specs.Shape.{Fits, places}
 use Rattle.table.specs.Map.{formOf}
-use Rattle.places.specs.Owners.{Handing, vacant, givenTo}
+use Rattle.places.specs.Owners.{Handing, vacant}
 use Rattle.places.proofs.KeepLaws.{keep-done}
 use Rattle.places.proofs.OldLaws.{old-below, old-one}
 use Rattle.places.specs.Count.{blocks, want}

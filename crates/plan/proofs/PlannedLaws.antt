@@ -171,7 +171,8 @@ module _ {s : Shape} {d : ℕ} {paint : Paint} {P : ℕ → ℕ} {owner : ℕ �
 
 pub planned : (s : Shape) (d : ℕ) (paint : Paint) (p : List ℕ) → Fits s (length p) → Settled (formOf s) (words p)
     → ((k : ℕ) → words p k < 4294967296) → d < s .domains → Regular paint
-    → {owner : ℕ → ℕ → ℕ} (free : ℕ → ℕ → Bool) → AllOwned s (aimedAt s (aimOf d paint) (words p)) (words p) free owner
+    → {owner : ℕ → ℕ → ℕ} (free : ℕ → ℕ → Bool)
+    → AllOwned s (aimedAt s (aimOf d paint) (words p)) (words p) free owner
     → (q : Plan) → Edges s d paint (words p) owner q
     → Planned s (aimOf d paint) q p (final s owner (aimedAt s (aimOf d paint) (words p)) (words p)) (keptWord s free)
 planned s d paint p fits st small bd reg {owner} free O q E =

@@ -1,7 +1,6 @@
 -- The lines of a chunk are answered one by one.
 use Prim.Native.Nat.{ℕ, _+_, _*_, _-_, _%_, _<_, _≤_}
 use native.Mathlib.Omega.{arith}
-use native.Mathlib.Nat.{zero-add, add-zero}
 use mathlib.Core.Path.{_≡_, refl, sym, ap, _∙_}
 use mathlib.Core.List.{List, [], _∷_, _++_, append-assoc, append-nil}
 use lib.ListN.{length, take, drop}

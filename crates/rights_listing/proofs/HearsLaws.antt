@@ -1,8 +1,8 @@
 -- An input in chunks is heard as its lines, whatever the chunks.
 use Prim.Native.Nat.{ℕ, _+_, _-_, _<_}
 use native.Mathlib.Omega.{arith}
-use mathlib.Core.Path.{_≡_, refl, sym, ap, _∙_}
-use mathlib.Core.List.{List, [], _∷_, _++_, append-assoc, append-nil, map, flatten}
+use mathlib.Core.Path.{_≡_, refl, _∙_}
+use mathlib.Core.List.{List, [], _∷_, _++_, append-assoc, map, flatten}
 use lib.ListN.{length, length-append}
 use Rattle.lines.specs.declared.Parsed.{Parsed}
 use Rattle.lines.specs.declared.LineSoFar.{LineSoFar}

@@ -1,18 +1,17 @@
 -- What the program answers to a line, and to an input.
 use Prim.Native.Nat.{ℕ, suc, _<_, _≤_}
 use native.Mathlib.Omega.{arith}
-use mathlib.Core.Path.{_≡_, refl, sym, ap, _∙_}
+use mathlib.Core.Path.{_≡_, refl, ap}
 use mathlib.Core.Logic.{⊎-elim}
 use mathlib.Core.Bool.{Bool, true, false, cond}
-use mathlib.Core.List.{List, [], _∷_, _++_}
-use lib.Dec.{eqb, ltb}
+use mathlib.Core.List.{List, [], _∷_}
+use lib.Dec.{eqb}
 use lib.ListN.{length}
 use Rattle.words.proofs.RegionLaws.{region-number}
-use Rattle.table.specs.declared.Shape.{Shape}
 use Rattle.change.specs.declared.Answer.{Answer}
 use Rattle.change.specs.declared.Answer.the-variants.{Done, Cut, Refused}
 use Rattle.change.specs.Cuts.{differing}
-use Rattle.change.specs.Answers.{numbers, ChangesRegion, Changes}
+use Rattle.change.specs.Answers.{numbers, Changes}
 use Rattle.change.specs.Answers as answers
 use Rattle.change.proofs.AnswerLaws.{done-cut, refused-cut, same-number}
 use Rattle.change.proofs.ChangesLaws.{one-change}

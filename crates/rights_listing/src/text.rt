@@ -1,9 +1,9 @@
 // Numbers as text, into lent bytes.
-ghost use Prim.Native.Nat.{_+_, _*_, _≤_};
+ghost use Prim.Native.Nat.{_+_, _≤_};
 ghost use mathlib.Core.Path.{_≡_};
 ghost use mathlib.Core.List.{[], _∷_, _++_};
 ghost use lib.ListN.{length, take};
-ghost use Rattle.rights_listing.specs.Text.{numeral, endOf, text};
+ghost use Rattle.rights_listing.specs.Text.{numeral};
 
 // A number of 32 bits as one of 64.
 fn wide(n: u32) -> u64

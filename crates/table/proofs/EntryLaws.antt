@@ -1,20 +1,19 @@
 -- What a decoded entry tells of the word, in terms of the form.
 use Prim.Native.Nat.{ℕ, zero, suc, _+_, _*_, _-_, _/_, _%_, _≤_, _<_}
-use mathlib.Core.Path.{_≡_, refl, sym, ap, _∙_}
+use mathlib.Core.Path.{_≡_, refl, sym, ap}
 use mathlib.Core.Logic.{_≢_}
-use mathlib.Core.Bool.{Bool, true, false, cond, _&&_, true≢false}
+use mathlib.Core.Bool.{Bool, true, false, cond}
 use native.Mathlib.Omega.{arith}
 use native.Mathlib.Nat.{div-lt-iff-lt-mul}
-use lib.Dec.{leb, ltb, eqb}
+use lib.Dec.{ltb}
 use borrow.Author.Tests.{le-leb, lt-leb, lt-ltb, le-ltb, eq-eqb, ne-eqb, leb-true, ltb-true, eqb-true}
-use Rattle.theory.specs.Form.{Form}
 use Rattle.words.specs.Rights.{goodRights}
 use Rattle.words.specs.declared.PoolWord.{PoolWord}
 use Rattle.table.specs.declared.Shape.{Shape}
 use Rattle.table.specs.declared.Entry.{Entry}
 use Rattle.table.specs.declared.Entry.the-variants.{Rights, Leads, Bad}
 use Rattle.table.specs.Shape.{firstMiddle, firstLeaf, poolLength, size}
-use Rattle.table.specs.Map.{isPlace, block, part, parts, index, leads, good, formOf}
+use Rattle.table.specs.Map.{isPlace, part, parts, index, leads, good, formOf}
 use Rattle.table.specs.Entries.{leadsTo, decodeOf}
 use Rattle.theory.proofs.Logic.{and-both}
 

@@ -15,7 +15,7 @@ use Rattle.words.specs.Rights.{bit31, rightAt, goodRights}
 use Rattle.words.proofs.RightsLaws.{good-low, digits-equal, good-digits-equal}
 use Rattle.table.specs.declared.Shape.{Shape}
 use Rattle.table.specs.Shape.{firstMiddle, firstLeaf, firstPlace, places, size}
-use Rattle.table.specs.Map.{addresses, block, part, parts, index, leads, isPlace, good, zone, formOf}
+use Rattle.table.specs.Map.{addresses, parts, index, leads, isPlace, good, zone, formOf}
 use Rattle.table.specs.Wants.{wordAt, wordsIn}
 use Rattle.table.proofs.BlockLaws.{block-together, first-word, word-below, word-block, word-number, entryAt}
 use Rattle.table.proofs.BlockLaws.{entry-below}

@@ -2,7 +2,7 @@
 -- entry; and that there is one answer.
 use Prim.Native.Nat.{ℕ, zero, suc, _+_, _-_, _≤_, _<_}
 use mathlib.Core.Path.{_≡_, refl, sym, ap, _∙_}
-use mathlib.Core.Bool.{Bool, true, false, cond}
+use mathlib.Core.Bool.{true, false}
 use mathlib.Core.List.{List}
 use native.Mathlib.Omega.{arith}
 use lib.ListN.{length}
@@ -11,7 +11,7 @@ use borrow.Author.Tests.{lt-ltb, le-ltb, ltb-true, ltb-false}
 use Rattle.theory.specs.Form.{Form}
 use Rattle.theory.specs.Pool.{SoundPool, words, entry, rightOf}
 use Rattle.theory.specs.Walk.{End, bad, decides, walk}
-use Rattle.theory.specs.Settled.{Together, Says}
+use Rattle.theory.specs.Settled.{Together}
 use Rattle.theory.proofs.Logic.{by-cases}
 use Rattle.theory.proofs.ReachLaws.{entry-reach}
 use Rattle.theory.proofs.WalkLaws.{walk-down, decides-low, decides-right, decides-says, sound-decides}

@@ -1,11 +1,10 @@
 -- The test of a shape says what it should.
-use Prim.Native.Nat.{ℕ, _+_, _*_, _≤_, _<_}
-use mathlib.Core.Path.{_≡_, refl}
-use mathlib.Core.Bool.{Bool, true, false, _&&_, false≢true}
-use lib.Dec.{eqb, leb}
+use Prim.Native.Nat.{ℕ}
+use mathlib.Core.Path.{_≡_}
+use mathlib.Core.Bool.{true}
 use borrow.Author.Tests.{leb-true, eqb-true, le-leb, eq-eqb}
 use Rattle.table.specs.declared.Shape.{Shape}
-use Rattle.table.specs.Shape.{InRange, Fits, fitsOf}
+use Rattle.table.specs.Shape.{Fits, fitsOf}
 use Rattle.theory.proofs.Logic.{and-both}
 
 pub test-fits : (s : Shape) (n : ℕ) → fitsOf s n ≡ true → Fits s n

@@ -2,8 +2,6 @@
 use Prim.Native.Nat.{ℕ, zero, suc, _+_, _*_, _≤_}
 use mathlib.Core.Path.{_≡_}
 use mathlib.Core.Bool.{Bool, _&&_}
-use mathlib.Core.List.{List}
-use lib.ListN.{length}
 use lib.Dec.{eqb, leb}
 use Rattle.table.specs.declared.Shape.{Shape}
 

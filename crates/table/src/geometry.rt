@@ -2,7 +2,7 @@
 // many memory words it stands for, how many rights it has and how many entries its table; which words lead; and where
 // tables stand in the pool.
 ghost use mathlib.Core.Path.{_≡_};
-ghost use Prim.Native.Nat.{_+_, _*_, _/_, _<_, _≤_};
+ghost use Prim.Native.Nat.{_+_, _*_, _/_, _<_};
 ghost use Rattle.table.specs.Shape.{InRange, firstPlace, places, size};
 ghost use Rattle.table.specs.Map.{parts, leads};
 ghost use Rattle.table.specs.Entries.{blockWords, levelOf, sameOf};

@@ -1,8 +1,6 @@
 // The table: the shape of a pool, what its entries say, making it fresh, and the lookup of one word.
 ghost use mathlib.Core.Path.{_≡_};
-ghost use mathlib.Core.Bool.{Bool, true};
-ghost use Prim.Native.Nat.{ℕ, _+_, _*_, _/_, _%_, _<_, _≤_};
-ghost use mathlib.Core.List.{List};
+ghost use Prim.Native.Nat.{_+_, _*_, _/_, _%_, _<_, _≤_};
 ghost use lib.ListN.{length, replicate};
 ghost use Rattle.theory.specs.Pool.{words};
 ghost use Rattle.theory.specs.Walk.{walk};

@@ -14,7 +14,7 @@ use Rattle.words.proofs.RightsLaws.{right-small, pack-same, sixteen-pack}
 use Rattle.table.specs.Wants.{wordAt, saidOf, WordRights}
 use Rattle.table.proofs.WantLaws.{painted-rights}
 use Rattle.targets.specs.declared.Paint.{Paint}
-use Rattle.targets.specs.declared.Cover.the-variants.{Apart, Partly, Whole}
+use Rattle.targets.specs.declared.Cover.the-variants.{Apart, Whole}
 use Rattle.targets.specs.Paints.{region}
 use Rattle.targets.specs.Targets.{painted, GivesLeaf}
 use Rattle.targets.specs.Steps.{inside, Half, CoverIs, rightAfter, Plain}

@@ -1,6 +1,6 @@
 -- Laws of sub-blocks: where each has one right the target is rights, where one has two it is mixed.
-use Prim.Native.Nat.{ℕ, zero, suc, _+_, _*_, _-_, _/_, _%_, _≤_, _<_}
-use mathlib.Core.Path.{_≡_, refl, sym, ap, _∙_}
+use Prim.Native.Nat.{ℕ, zero, suc, _+_, _*_, _-_, _/_, _%_, _<_}
+use mathlib.Core.Path.{_≡_, sym, ap, _∙_}
 use mathlib.Core.Bool.{Bool, true, false, cond, not, true≢false}
 use native.Mathlib.Omega.{arith}
 use lib.Dec.{eqb}
@@ -8,7 +8,7 @@ use borrow.Author.Tests.{eq-eqb}
 use Rattle.theory.proofs.Logic.{by-cases}
 use Rattle.words.specs.Rights.{rightAt, pack}
 use Rattle.words.proofs.RightsLaws.{pack-digit, pack-same}
-use Rattle.table.specs.Map.{block, part, parts}
+use Rattle.table.specs.Map.{block, parts}
 use Rattle.table.specs.Wants.{any, wordAt, wordsIn, mixed, wantsOf, above, saidOf}
 use Rattle.table.proofs.BlockLaws.{first-word, word-block}
 use Rattle.table.proofs.WantLaws.{any-yes, any-which, any-none, any-same, mixed-none}

@@ -10,11 +10,11 @@ use borrow.Author.Tests.{ltb-true}
 use Rattle.theory.specs.Pool.{Reach, step, SoundPool, Roots, start, right, rightOf, words}
 use Rattle.theory.proofs.Logic.{by-cases}
 use Rattle.theory.proofs.RightLaws.{right-down, right-says}
-use Rattle.words.specs.Rights.{rightAt, goodRights, eightOf}
+use Rattle.words.specs.Rights.{rightAt, eightOf}
 use Rattle.words.proofs.RightsLaws.{right-small, eight-right, eight-good}
 use Rattle.table.specs.declared.Shape.{Shape}
 use Rattle.table.specs.Shape.{Fits, firstPlace, places, size}
-use Rattle.table.specs.Map.{block, part, parts, index, leads, formOf}
+use Rattle.table.specs.Map.{index, leads, formOf}
 use Rattle.table.proofs.FormLaws.{leads-place, good-eight}
 use Rattle.table.proofs.FormLaws as FormLaws
 use Rattle.targets.specs.Targets.{virtualOf, given, Gives, GivesLeaf, Readable}

@@ -35,8 +35,8 @@ mixed-swap F x = record {
 }
 
 -- The right below a word that has its old value is the old one.
-half : (F : Form) → Lawful F → {P Q X : ℕ → ℕ} → Mixed F P Q X → (m j a : ℕ) → Kept F P Q m j → P j ≢ Q j → X j ≡ P j
-    → right F X m j a ≡ right F P m j a
+half : (F : Form) → Lawful F → {P Q X : ℕ → ℕ} → Mixed F P Q X → (m j a : ℕ) → Kept F P Q m j → P j ≢ Q j
+    → X j ≡ P j → right F X m j a ≡ right F P m j a
 half F L {P} {Q} {X} x zero j a c d e = right-last F X j a ∙ ap (λ w. F .says zero w a) e ∙ sym (right-last F P j a)
 half F L {P} {Q} {X} x (suc m) j a c d e = by-cases (F .leads (suc m) (P j))
     (λ l. right-down F X m j a (rw e l)

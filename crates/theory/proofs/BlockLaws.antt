@@ -48,8 +48,8 @@ module _ (F : Form) where
   together-dec h a b le = together-dec-from (suc (F .top) - h) h a b (omega arith)
 
 -- One step down: the same word below comes from the same word above, by the same entry.
-pub step-back : (F : Form) → Lawful F → {P : ℕ → ℕ} {S : ℕ → ℕ → Type 0} → Sound F P S → {m n j k : ℕ} (i o : ℕ) → n ≡ m
-    → Reach F P S (suc m) j → F .leads (suc m) (P j) ≡ true → i < F .size m
+pub step-back : (F : Form) → Lawful F → {P : ℕ → ℕ} {S : ℕ → ℕ → Type 0} → Sound F P S → {m n j k : ℕ} (i o : ℕ)
+    → n ≡ m → Reach F P S (suc m) j → F .leads (suc m) (P j) ≡ true → i < F .size m
     → Reach F P S (suc n) k → F .leads (suc n) (P k) ≡ true → o < F .size n
     → F .target (suc m) (P j) + i ≡ F .target (suc n) (P k) + o → (j ≡ k) × (i ≡ o)
 step-back F L {P} {S} s {m} {n} {j} {k} i o w r l b q p c e = go (rw w at q) (rw w at p) (rw w at c) (rw w at e)

@@ -59,5 +59,6 @@ module _ (F : Form) (want : ℕ → ℕ → ℕ → Bool) where
       pub lowest : (h d a x : ℕ) → d < F .domains → a < F .span → h < F .top → Fresh P h d a → Place F h x
           → x < place h d a
           → (e : ℕ) × (b : ℕ) × (e < F .domains) × (b < F .span) × Gets h e b × (place h e b ≡ x)
-      pub idle : (j : ℕ) → ((h d a : ℕ) → d < F .domains → a < F .span → h ≤ F .top → Gets h d a → j ≡ spot h d a → ⊥)
+      pub idle : (j : ℕ)
+          → ((h d a : ℕ) → d < F .domains → a < F .span → h ≤ F .top → Gets h d a → j ≡ spot h d a → ⊥)
           → Q j ≡ P j

@@ -178,8 +178,8 @@ finished-same F P R S e f = record {
 }
 
 -- Pools that are equal word by word are finished alike.
-pub finished-words : (F : Form) (P : ℕ → ℕ) (R : ℕ → ℕ → ℕ) {Q T : ℕ → ℕ} → ((j : ℕ) → Q j ≡ T j) → Finished F P R Q
-    → Finished F P R T
+pub finished-words : (F : Form) (P : ℕ → ℕ) (R : ℕ → ℕ → ℕ) {Q T : ℕ → ℕ} → ((j : ℕ) → Q j ≡ T j)
+    → Finished F P R Q → Finished F P R T
 finished-words F P R e f = rw (fun-ext e) at f
 
 -- A settled pool is finished already, for its own rights.

@@ -1,7 +1,7 @@
 -- Laws of the right that a walk finds: its clauses, its value along a walk, and in two pools that agree. For any form.
 use Prim.Native.Nat.{ℕ, zero, suc, _+_}
 use mathlib.Core.Path.{_≡_, refl, sym, ap, _∙_}
-use mathlib.Core.Bool.{Bool, true, false, cond}
+use mathlib.Core.Bool.{true, false, cond}
 use Rattle.theory.proofs.Logic.{by-cases}
 use Rattle.theory.specs.Form.{Form}
 use Rattle.theory.specs.Pool.{Reach, Visits, here, next, right}
@@ -46,6 +46,6 @@ module _ (F : Form) (P Q : ℕ → ℕ) (a h k : ℕ) (agree : (m j : ℕ) → V
   right-along = right-from h k here
 
 -- .. and so where they agree on all that is reached.
-pub right-same : (F : Form) → Lawful F → (P Q : ℕ → ℕ) (S : ℕ → ℕ → Type 0) → ((m j : ℕ) → Reach F P S m j → Q j ≡ P j)
-    → (h k a : ℕ) → Reach F P S h k → right F Q h k a ≡ right F P h k a
+pub right-same : (F : Form) → Lawful F → (P Q : ℕ → ℕ) (S : ℕ → ℕ → Type 0)
+    → ((m j : ℕ) → Reach F P S m j → Q j ≡ P j) → (h k a : ℕ) → Reach F P S h k → right F Q h k a ≡ right F P h k a
 right-same F L P Q S agree h k a r = right-along F P Q a h k (λ m j v. agree m j (visits-reach F P a L r v))

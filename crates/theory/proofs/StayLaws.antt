@@ -1,20 +1,20 @@
 -- The finished pool stays the same while the stores are made: what a pool on the way is to become is what the old
 -- pool was to become, and a word that may be stored on the way from the old pool is the first that may be stored from
 -- where we are. For any form.
-use Prim.Native.Nat.{ℕ, zero, suc, _+_, _≤_, _<_}
+use Prim.Native.Nat.{ℕ, suc, _+_, _<_}
 use mathlib.Core.Path.{_≡_, refl, sym, ap, _∙_}
 use mathlib.Core.Logic.{_≢_, _⊎_, inl, inr, ⊎-elim}
-use mathlib.Core.Bool.{true, false, true≢false}
+use mathlib.Core.Bool.{true, true≢false}
 use native.Mathlib.Omega.{arith}
 use native.Mathlib.Decide.{ℕ-discrete}
 use Rattle.theory.specs.Form.{Form}
-use Rattle.theory.specs.Pool.{Reach, start, step, SoundPool, Visits, here, next, Roots, Table, entry, Led}
+use Rattle.theory.specs.Pool.{Reach, start, step, SoundPool, Visits, here, next, Table, entry, Led}
 use Rattle.theory.specs.Lawful.{Lawful, Exact}
-use Rattle.theory.specs.Finished.{Finished, New, Stays, Place, Before}
-use Rattle.theory.specs.Stores.{Kept, top, down, Giving, Filling, Linking, Stage, Next, give, fill, link}
+use Rattle.theory.specs.Finished.{Finished, New, Stays, Place}
+use Rattle.theory.specs.Stores.{Kept, top, down, Filling, Next, give, fill, link}
 use Rattle.theory.proofs.Logic.{by-cases}
 use Rattle.theory.proofs.ReachLaws.{visits-down}
-use Rattle.theory.proofs.BlockLaws.{one-word, one-table}
+use Rattle.theory.proofs.BlockLaws.{one-table}
 use Rattle.theory.proofs.KeptLaws.{kept-swap, kept-zone}
 use Rattle.theory.proofs.BetweenLaws.{Mixed, mixed-swap, agreed, stage-mixed, stage-sound, next-now, giving-old}
 use Rattle.theory.proofs.FinishedLaws.{stable}

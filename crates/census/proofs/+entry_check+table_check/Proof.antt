@@ -16,7 +16,6 @@ use Rattle.words.specs.Rights.{goodRights}
 use Rattle.table.specs.declared.Entry.the-variants.{Leads}
 use Rattle.table.specs.Entries.{decodeOf}
 use Rattle.table.proofs.EntryLaws.{decoded-leads}
-use Rattle.census.specs.Places.{maxPlaces}
 use Rattle.census.proofs.PlaceLaws.{decoded-place}
 use Rattle.census.proofs.TallyLaws.{upper-size}
 use Rattle.census.specs.Tally.{Tally, through, entryTally, tableTally}

@@ -1,5 +1,5 @@
 -- `census::block_in_domain` meets its contract.
-use mathlib.Core.Path.{_≡_, refl}
+use mathlib.Core.Path.{refl}
 use Rattle.census.proofs.TallyLaws.{upper-blocks}
 use Rattle.census.proofs.block_in_domain.Statement.{statement}
 use Rattle.census.proofs.block_in_domain.Tie as tie

@@ -1,5 +1,5 @@
 -- `census::domain_of` meets its contract.
-use mathlib.Core.Path.{_≡_, refl}
+use mathlib.Core.Path.{refl}
 use Rattle.census.proofs.TallyLaws.{upper-blocks}
 use Rattle.census.proofs.domain_of.Statement.{statement}
 use Rattle.census.proofs.domain_of.Tie as tie

@@ -1,5 +1,5 @@
 -- `census::first_number` meets its contract.
-use mathlib.Core.Path.{_≡_, refl}
+use mathlib.Core.Path.{refl}
 use Rattle.census.proofs.TallyLaws.{upper-number}
 use Rattle.census.proofs.first_number.Statement.{statement}
 use Rattle.census.proofs.first_number.Tie as tie

@@ -1,5 +1,5 @@
 -- `census::give_place` meets its contract.
-use mathlib.Core.Path.{_≡_, refl}
+use mathlib.Core.Path.{refl}
 use borrow.Author.Needs.{needs}
 use borrow.Author.Tests.{eq-eqb, ne-eqb}
 use Rattle.census.proofs.give_place.Statement.{statement}

@@ -1,5 +1,5 @@
 -- `census::place_height` meets its contract.
-use mathlib.Core.Path.{_≡_, refl}
+use mathlib.Core.Path.{refl}
 use borrow.Author.Tests.{lt-ltb, le-ltb}
 use Rattle.census.proofs.place_height.Statement.{statement}
 use Rattle.census.proofs.place_height.Tie as tie

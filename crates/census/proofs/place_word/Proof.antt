@@ -1,5 +1,5 @@
 -- `census::place_word` meets its contract.
-use mathlib.Core.Path.{_≡_, refl}
+use mathlib.Core.Path.{refl}
 use borrow.Author.Tests.{lt-ltb, le-ltb}
 use borrow.Author.Needs.{needs}
 use Rattle.census.proofs.place_word.Statement.{statement}

@@ -1,5 +1,5 @@
 -- `change::put` meets its contract.
-use mathlib.Core.Path.{_≡_, refl, sym, ap, _∙_}
+use mathlib.Core.Path.{refl}
 use Rattle.plan.specs.Aims.{aimOf}
 use Rattle.change.proofs.CutLaws.{put-cuts}
 use borrow.Author.Needs.{needs}

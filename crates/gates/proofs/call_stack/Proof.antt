@@ -1,6 +1,6 @@
 -- `gates::call_stack` meets its contract. The invariant: the words are those of a list of frames, of
 -- which the first `i` are zero.
-use Prim.Native.Nat.{ℕ, _+_, _*_, _-_, _≤_, _<_}
+use Prim.Native.Nat.{ℕ, _*_, _-_, _≤_}
 use mathlib.Core.Path.{_≡_, sym, ap, _∙_}
 use mathlib.Core.List.{List}
 use native.Mathlib.Omega.{arith}

@@ -1,6 +1,6 @@
 -- `gates::no_gates` meets its contract. The invariant: the words are those of a list of gates, of which
 -- the first `i` are none.
-use Prim.Native.Nat.{ℕ, _+_, _*_, _-_, _≤_, _<_}
+use Prim.Native.Nat.{ℕ, _*_, _-_, _≤_}
 use mathlib.Core.Path.{_≡_, sym, ap, _∙_}
 use mathlib.Core.List.{List}
 use native.Mathlib.Omega.{arith}

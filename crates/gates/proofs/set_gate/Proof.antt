@@ -4,7 +4,6 @@ use mathlib.Core.Path.{_≡_, sym, ap, _∙_}
 use native.Mathlib.Omega.{arith}
 use borrow.Author.Tests.{ne-eqb}
 use borrow.Author.Needs.{needs}
-use lib.ListN.{getD}
 use Rattle.gates.specs.declared.Gates.{Gates}
 use Rattle.gates.specs.Gates.{placeRefusal, stored, setOf}
 use Rattle.gates.specs.Layout.{gatesOf, gatesWords}

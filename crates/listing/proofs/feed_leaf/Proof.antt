@@ -1,12 +1,11 @@
 -- `listing::feed_leaf` meets its contract. The loop's invariant: the words of the entries passed were fed.
-use Prim.Native.Nat.{ℕ, _+_, _*_, _-_, _<_, _≤_}
-use mathlib.Core.Path.{_≡_, refl, sym, ap, _∙_}
+use Prim.Native.Nat.{_+_, _*_, _-_}
+use mathlib.Core.Path.{_≡_, refl, _∙_}
 use native.Mathlib.Omega.{arith}
 use borrow.Author.Needs.{needs}
 use lib.ListN.{length}
 use Rattle.table.specs.declared.Shape.{Shape}
 use Rattle.table.specs.Entries.{levelOf}
-use Rattle.listing.specs.Runs.{memoryWords}
 use Rattle.listing.specs.Sheets.{sheet}
 use Rattle.listing.specs.Levels.{tableRight, EntryAt, TableAt}
 use Rattle.listing.proofs.SheetLaws.{Along, along-start, along-end}

@@ -1,9 +1,8 @@
 -- `lookaside::decide` meets its contract. Assumes nothing.
-use mathlib.Core.Path.{sym, ap, _∙_}
+use mathlib.Core.Path.{sym, _∙_}
 use borrow.Author.Needs.{needs}
 use Rattle.lookaside.proofs.SlotLaws.{match-is}
 use Rattle.lookaside.proofs.CheckLaws.{decide-refused, decide-answered}
-use Rattle.lookaside.specs.Check.{hitDecided}
 use Rattle.lookaside.proofs.decide.Statement.{statement}
 use Rattle.lookaside.proofs.decide.Tie as tie
 

@@ -1,5 +1,4 @@
 -- `show` meets its contract.
-use mathlib.Core.Path.{refl}
 use Rattle.rights_listing.proofs.PageLaws.{shows-counts}
 use borrow.Author.Needs.{needs}
 use Rattle.rights_listing.proofs.show.Statement.{statement}

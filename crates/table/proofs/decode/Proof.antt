@@ -1,5 +1,5 @@
 -- `table::decode` meets its contract.
-use mathlib.Core.Path.{_≡_, sym, ap, _∙_}
+use mathlib.Core.Path.{sym, ap, _∙_}
 use native.Mathlib.Omega.{arith}
 use mathlib.Core.Bool.{cond}
 use Rattle.table.specs.declared.Entry.the-variants.{Rights, Bad}

@@ -1,15 +1,13 @@
 -- `table::fresh` meets its contract.
-use Prim.Native.Nat.{ℕ, _+_, _*_, _-_, _≤_}
-use mathlib.Core.Path.{_≡_, refl, sym, ap, _∙_}
-use mathlib.Core.Bool.{true, false, cond}
-use mathlib.Core.List.{List, _++_}
+use Prim.Native.Nat.{_+_, _*_, _-_, _≤_}
+use mathlib.Core.Path.{_≡_, sym, ap, _∙_}
+use mathlib.Core.List.{_++_}
 use native.Mathlib.Omega.{arith}
 use borrow.Author.Needs.{needs}
 use borrow.Author.Tests.{not-true, not-false}
 use lib.ListN.{length, take, drop, replicate, length-append, length-take, length-replicate}
 use lib.Seq.{length-take-le}
 use Rattle.table.specs.Shape.{Fits}
-use Rattle.table.specs.Fresh.{freshPool}
 use Rattle.table.proofs.ShapeLaws.{test-fits}
 use Rattle.table.proofs.FreshLaws.{makes-none, makes-fresh, filled}
 use Rattle.table.proofs.fresh.Statement.{statement}

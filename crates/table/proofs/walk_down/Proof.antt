@@ -1,6 +1,6 @@
 -- `table::walk_down` meets its contract. The loop's invariant: what is left of the walk ends as the whole does, the
 -- word that it stands at lies in the pool, and the loads made are the levels passed.
-use Prim.Native.Nat.{ℕ, _+_, _*_, _-_, _≤_, _<_}
+use Prim.Native.Nat.{_+_, _*_, _-_, _≤_, _<_}
 use mathlib.Core.Path.{_≡_, refl, sym, ap, _∙_}
 use native.Mathlib.Omega.{arith}
 use borrow.Author.Needs.{needs}

@@ -1,6 +1,5 @@
 -- `words::pass_by` meets its contract. The loop's invariant: the words passed are eight rights. Assumes nothing.
 use Prim.Native.Nat.{_+_, _-_, _≤_, _<_}
-use mathlib.Core.Path.{_≡_}
 use native.Mathlib.Omega.{arith}
 use borrow.Author.Needs.{needs}
 use borrow.Author.Tests.{not-false}

@@ -21,16 +21,18 @@ returns-2 : tie.Need-returns-2
 returns-2 c =
     let r = c .before in
     let a = r .before .before .before .before .args in
+    let some = r .before .before .before .if1 .left in
     let e = r .words-from .ensures in
-    sym (region-beyond (a .start .0) (a .length) (omega (arith, r .before .before .before .if1 .left)) (omega (arith, e)))
+    sym (region-beyond (a .start .0) (a .length) (omega (arith, some)) (omega (arith, e)))
 
 returns-3 : tie.Need-returns-3
 returns-3 c =
     let r = c .before in
     let a = r .before .before .before .before .args in
+    let some = r .before .before .before .if1 .left in
     let e = r .words-from .ensures in
     ap Covers (region-equal _ (rounded (a .start .0) (a .length)) (omega arith) (omega (arith, e)))
-    ∙ sym (region-covers (a .start .0) (a .length) (omega (arith, r .before .before .before .if1 .left)) (omega (arith, e)))
+    ∙ sym (region-covers (a .start .0) (a .length) (omega (arith, some)) (omega (arith, e)))
 
 pub round-region-spec : {M : Type 1} → statement M
 round-region-spec = tie.close (tie.spec returns words-from-requires add-hi returns-2 returns-3)

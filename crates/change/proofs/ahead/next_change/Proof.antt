@@ -1,6 +1,6 @@
 -- `ahead::next_change` meets its contract. The loop takes every run that stands at the first cursor to the cursor `at`.
 use Prim.Native.Nat.{_+_, _*_, _-_, _≤_}
-use mathlib.Core.Path.{refl, sym, ap}
+use mathlib.Core.Path.{sym, ap}
 use native.Mathlib.Omega.{arith}
 use borrow.Author.Needs.{needs}
 use lib.ListN.{length}

@@ -1,6 +1,6 @@
 -- `ahead::next_in_row` meets its contract. The loop takes every run that stands at the cursor to word `word` of its
 -- row.
-use Prim.Native.Nat.{_+_, _≤_}
+use Prim.Native.Nat.{_+_}
 use mathlib.Core.Path.{_≡_, ap}
 use native.Mathlib.Omega.{arith}
 use borrow.Author.Needs.{needs}

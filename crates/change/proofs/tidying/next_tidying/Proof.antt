@@ -1,6 +1,6 @@
 -- `tidying::next_tidying` meets its contract. The loop takes every tidying that stands at the cursor to word `k`.
 use Prim.Native.Nat.{_+_, _-_, _%_}
-use mathlib.Core.Path.{_≡_, ap, _∙_}
+use mathlib.Core.Path.{_≡_, ap}
 use native.Mathlib.Omega.{arith}
 use borrow.Author.Needs.{needs}
 use Rattle.change.specs.declared.Work.the-variants.{Tidying}

@@ -3,7 +3,7 @@ use mathlib.Core.Path.{_≡_, sym, ap, _∙_}
 use native.Mathlib.Omega.{arith}
 use borrow.Author.Needs.{needs}
 use Prim.Native.Nat.{ℕ}
-use lib.ListN.{length, getD}
+use lib.ListN.{getD}
 use Rattle.gates.specs.declared.GateAt.{GateAt}
 use Rattle.gates.specs.declared.Here.the-variants.{Stands}
 use Rattle.gates.specs.Gates.{noGate, placeOf}

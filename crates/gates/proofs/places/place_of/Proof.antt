@@ -3,7 +3,7 @@ use Prim.Native.Nat.{_≤_, _-_}
 use mathlib.Core.Path.{_≡_, sym, ap, _∙_}
 use native.Mathlib.Omega.{arith}
 use borrow.Author.Needs.{needs}
-use lib.ListN.{length, getD}
+use lib.ListN.{getD}
 use Rattle.gates.specs.Gates.{noGate, standsAt}
 use Rattle.gates.specs.Layout.{gatesOf}
 use Rattle.gates.proofs.ListLaws.{Passed, passed-more, passed-hit, passed-all}

@@ -2,7 +2,6 @@
 use mathlib.Core.Path.{_≡_, refl, sym, ap, _∙_}
 use native.Mathlib.Omega.{arith}
 use borrow.Author.Tests.{eq-eqb, ne-eqb}
-use lib.ListN.{getD}
 use Rattle.gates.specs.declared.Frame.{Frame}
 use Rattle.gates.specs.Steps.{top, givenBack}
 use Rattle.gates.specs.Layout.{stackOf}

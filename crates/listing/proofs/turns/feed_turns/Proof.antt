@@ -1,6 +1,6 @@
 -- `listing::turns::feed_turns` meets its contract. The loop's invariant: the turns passed were fed.
 use Prim.Native.Nat.{_+_, _-_, _<_, _≤_}
-use mathlib.Core.Path.{_≡_, refl, sym, ap, _∙_}
+use mathlib.Core.Path.{_≡_, refl, ap, _∙_}
 use native.Mathlib.Omega.{arith}
 use borrow.Author.Needs.{needs}
 use lib.ListN.{length, getD}

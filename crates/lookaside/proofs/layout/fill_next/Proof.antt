@@ -1,8 +1,7 @@
 -- `lookaside::layout::fill_next` meets its contract. Assumes nothing.
-use mathlib.Core.Path.{sym, ap, _∙_}
+use mathlib.Core.Path.{sym}
 use native.Mathlib.Omega.{arith}
 use borrow.Author.Needs.{needs}
-use lib.ListN.{set}
 use Rattle.lookaside.proofs.LayoutLaws.{fill-words}
 use Rattle.lookaside.proofs.LayoutLaws.{buffer-words}
 use Rattle.lookaside.proofs.layout.fill_next.Statement.{statement}

@@ -6,7 +6,7 @@ use mathlib.Core.Logic.{⊎-elim}
 use mathlib.Core.Bool.{false}
 use native.Mathlib.Omega.{arith}
 use borrow.Author.Needs.{needs}
-use lib.ListN.{length, drop, getD}
+use lib.ListN.{drop, getD}
 use Rattle.rows.proofs.RowLaws.{said-at}
 use Rattle.lookaside.specs.declared.Slot.{Slot}
 use Rattle.lookaside.specs.declared.Hit.the-variants.{At}

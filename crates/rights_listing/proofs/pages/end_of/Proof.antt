@@ -1,5 +1,4 @@
 -- `pages::end_of` meets its contract.
-use mathlib.Core.Path.{_≡_}
 use borrow.Author.Tests.{eq-eqb, ne-eqb}
 use Rattle.rights_listing.specs.Text.{endOf}
 use Rattle.rights_listing.proofs.pages.end_of.Statement.{statement}

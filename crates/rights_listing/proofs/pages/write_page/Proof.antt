@@ -1,7 +1,6 @@
 -- `pages::write_page` meets its contract.
 use Prim.Native.Nat.{ℕ, _-_}
 use native.Mathlib.Omega.{arith}
-use mathlib.Core.Path.{_≡_, refl, sym, ap, _∙_}
 use lib.ListN.{length-replicate}
 use borrow.Author.Needs.{needs}
 use Rattle.rights_listing.proofs.PageLaws.{page-refused, page-past, page-some}

@@ -1,5 +1,5 @@
 -- `serving::reply` meets its contract.
-use mathlib.Core.Path.{_≡_, ap}
+use mathlib.Core.Path.{ap}
 use borrow.Author.Needs.{needs}
 use Rattle.change.specs.Answers.{numbers}
 use Rattle.rights_listing.proofs.ServesLaws.{serves-none, serves-request}

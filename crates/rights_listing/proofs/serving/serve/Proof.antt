@@ -1,7 +1,6 @@
 -- `serving::serve` meets its contract.
 use Prim.Native.Nat.{_-_}
 use native.Mathlib.Omega.{arith}
-use mathlib.Core.Path.{_≡_, refl, sym, ap, _∙_}
 use lib.ListN.{length}
 use borrow.Author.Needs.{needs}
 use Rattle.rights_listing.proofs.ChunkLaws.{Going, going-begins, going-ends, going-moves, going-on}

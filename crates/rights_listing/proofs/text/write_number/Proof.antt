@@ -1,11 +1,8 @@
 -- `text::write_number` meets its contract.
-use Prim.Native.Nat.{ℕ, _+_, _≤_, _<_}
+use Prim.Native.Nat.{_+_, _≤_, _<_}
 use native.Mathlib.Omega.{arith}
-use native.Mathlib.Numerals.{add-one}
-use mathlib.Core.Path.{_≡_, sym, ap, _∙_}
-use mathlib.Core.List.{List, [], _∷_, _++_, append-assoc}
-use lib.ListN.{length, take, set}
-use lib.Seq.{take-suc-set}
+use mathlib.Core.Path.{_≡_, _∙_}
+use lib.ListN.{length, take}
 use borrow.Author.Needs.{needs}
 use Rattle.io.specs.Digits.{Fewest}
 use Rattle.rights_listing.specs.Text.{numeral}

@@ -1,5 +1,5 @@
 -- `table::geometry::first_place` meets its contract.
-use mathlib.Core.Path.{_≡_, refl, _∙_}
+use mathlib.Core.Path.{refl, _∙_}
 use borrow.Author.Needs.{needs}
 use Rattle.table.proofs.HeightLaws.{above-leaf}
 use Rattle.table.proofs.geometry.first_place.Statement.{statement}

@@ -1,5 +1,5 @@
 -- `table::geometry::level_of` meets its contract.
-use mathlib.Core.Path.{_≡_, refl}
+use mathlib.Core.Path.{refl}
 use borrow.Author.Needs.{needs}
 use Rattle.table.proofs.geometry.level_of.Statement.{statement}
 use Rattle.table.proofs.geometry.level_of.Tie as tie

@@ -1,5 +1,5 @@
 -- `table::geometry::part_entries` meets its contract.
-use mathlib.Core.Path.{_≡_, refl}
+use mathlib.Core.Path.{refl}
 use Rattle.table.proofs.HeightLaws.{above-leaf}
 use Rattle.table.proofs.geometry.part_entries.Statement.{statement}
 use Rattle.table.proofs.geometry.part_entries.Tie as tie

@@ -1,5 +1,5 @@
 -- `table::geometry::root_word` meets its contract.
-use mathlib.Core.Path.{_≡_, refl, ap}
+use mathlib.Core.Path.{refl, ap}
 use native.Mathlib.Omega.{arith}
 use borrow.Author.Needs.{needs}
 use Rattle.table.proofs.geometry.root_word.Statement.{statement}

@@ -1,5 +1,5 @@
 -- `table::geometry::same_entry` meets its contract.
-use mathlib.Core.Path.{_≡_, refl, _∙_}
+use mathlib.Core.Path.{refl, _∙_}
 use borrow.Author.Needs.{needs}
 use Rattle.table.proofs.HeightLaws.{above-leaf}
 use Rattle.table.proofs.geometry.same_entry.Statement.{statement}

@@ -1,7 +1,5 @@
 -- `targets::leaves::even_entries` meets its contract.
-use Prim.Native.Nat.{_<_}
 use mathlib.Core.Path.{_≡_, sym, ap, _∙_}
-use native.Mathlib.Omega.{arith}
 use borrow.Author.Needs.{needs}
 use Rattle.theory.specs.Pool.{words}
 use Rattle.words.specs.Rights.{rightAt, sixteenOf}

@@ -1,11 +1,10 @@
 -- `targets::leaves::leaf_mixed` meets its contract.
-use Prim.Native.Nat.{_+_, _*_, _-_, _≤_}
-use mathlib.Core.Path.{_≡_, sym, ap, _∙_}
+use Prim.Native.Nat.{_-_, _≤_}
+use mathlib.Core.Path.{sym, ap, _∙_}
 use mathlib.Core.Bool.{true≢false, false≢true}
 use native.Mathlib.Omega.{arith}
 use borrow.Author.Needs.{needs}
 use borrow.Author.Tests.{not-true}
-use Rattle.targets.specs.Steps.{EvenEntries}
 use Rattle.targets.proofs.LeafLaws.{uneven-mixed}
 use Rattle.targets.proofs.leaves.leaf_mixed.Statement.{statement}
 use Rattle.targets.proofs.leaves.leaf_mixed.Tie as tie

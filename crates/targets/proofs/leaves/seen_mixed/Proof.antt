@@ -1,11 +1,9 @@
 -- `targets::leaves::seen_mixed` meets its contract.
-use Prim.Native.Nat.{_+_, _≤_}
-use mathlib.Core.Path.{_≡_, ap}
+use mathlib.Core.Path.{ap}
 use mathlib.Core.Bool.{false≢true}
 use native.Mathlib.Omega.{arith}
 use borrow.Author.Needs.{needs}
 use borrow.Author.Tests.{lt-ltb}
-use lib.ListN.{length}
 use Rattle.targets.specs.Targets.{Readable}
 use Rattle.targets.proofs.leaves.seen_mixed.Statement.{statement}
 use Rattle.targets.proofs.leaves.seen_mixed.Tie as tie

@@ -1,5 +1,5 @@
 -- `targets::wanted::settled` meets its contract. The loop's invariant: the tables at the places from `n` on are wanted.
-use Prim.Native.Nat.{ℕ, _-_, _<_, _≤_}
+use Prim.Native.Nat.{_-_, _<_, _≤_}
 use mathlib.Core.Path.{_≡_, refl, sym, ap, _∙_}
 use mathlib.Core.Logic.{⊎-elim}
 use mathlib.Core.Bool.{true, not, true≢false, false≢true}
