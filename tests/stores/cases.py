@@ -4,6 +4,7 @@ import re
 CHANGE, TIDYING, AHEAD = (f"crates/change/src/{name}.rt" for name in ("lib", "tidying", "ahead"))
 FACE, TABLE, CENSUS = (f"crates/{name}/src/lib.rt" for name in ("goleuthan", "table", "census"))
 BUFFER, STEPS = "crates/lookaside/src/lib.rt", "crates/gates/src/steps.rt"
+OWNERS, REGIONS = (f"crates/owners/src/{name}.rt" for name in ("lib", "calls"))
 MAIN, SERVING = (f"crates/rights_listing/src/{name}.rt" for name in ("main", "serving"))
 
 ASKED = "let request = plan_request("
@@ -14,6 +15,8 @@ CHANGED = "make_stores(pool, shape, &owners, to, paint, work, allowance)"
 TIDIED = "make_stores(pool, shape, &owners, 0, UNPAINTED, Work::Tidying, allowance)"
 FRESH = "table::fresh(&mut pool, serving::shape());"
 LOAD = "let got = load(pool, at, loads);"
+BY = "change::change(pool, shape, domain, start, length, right, allowance)"
+MET = "let met = list::place_of(ws, asking, region);"
 
 
 def before(path, place, what):
@@ -92,6 +95,7 @@ HARMLESS = [
     ("has a store in a comment", [before(CHANGE, ASKED, "// pool[0] = allowance; put(pool) loop\n   ")]),
     ("breaks its lines elsewhere", [(CHANGE, PUT, PUT.replace(", ", ",\n            "))]),
     ("calls the pointer of a buffer by another name", [(BUFFER, "next", "pointer")]),
+    ("calls the words of a list by another name", [(REGIONS, "ws", "regions")]),
     ("has one more function that reads",
      [before(CHANGE, "\nfn put(", "\nfn first(pool: &[u32]) -> u32 { pool[0] }\n")]),
 ]
@@ -107,6 +111,14 @@ WRONG += [
      [before(STEPS, "    if back != asked {", "stack[DEPTH] = depth;")]),
     ("holds a stack to write in where nothing is stored", "states",
      [(STEPS, "fn frames_below(ws: &[u32]", "fn frames_below(ws: &mut [u32]")]),
+    ("makes the change of a caller twice", "above", [before(OWNERS, BY, BY + ";")]),
+    ("stores in the pool before the list is asked", "above",
+     [before(OWNERS, "let allowed = rules::allowed(", "pool[0] = 7;")]),
+    ("knows the allowance of a caller by another name", "the allowance", [before(OWNERS, BY, "let n = allowance;")]),
+    ("writes a word of a list and writes it back before a region is made", "states",
+     [before(REGIONS, MET, "let was = ws[0]; ws[0] = 7; ws[0] = was;")]),
+    ("stores the count of a list twice", "states",
+     [before(REGIONS, "ws[COUNT] = count + 1;", "ws[COUNT] = count;")]),
 ]
 
 

@@ -13,7 +13,9 @@ HOLDERS = {
         "gol_fresh": ["to table::fresh"],
         "gol_change": ["to change::change"],
         "gol_tidy": ["to change::tidy"],
+        "gol_change_by": ["to owners::change_by"],
     },
+    "owners": {"change_by": ["length", "to change::change"]},
     "rights_listing": {
         "reply": ["to change::change"],
         "serve": ["to reply"],
@@ -34,6 +36,8 @@ TOLD = {
     ("change", "tidy"): ["to make_stores"],
     ("goleuthan", "gol_change"): ["to change::change"],
     ("goleuthan", "gol_tidy"): ["to change::tidy"],
+    ("owners", "change_by"): ["to change::change"],
+    ("goleuthan", "gol_change_by"): ["to owners::change_by"],
 }
 
 # The crates below `change`; in the census the owners of places are lent to write in.
@@ -55,7 +59,14 @@ EXPORTED = {
     "gol_set_return_gate": ["gates"],
     "gol_remove_gate": ["gates"],
     "gol_step": ["stack", "out"],
+    "gol_make_region": ["regions"],
+    "gol_pass_region": ["regions"],
+    "gol_give_export": ["regions"],
+    "gol_change_by": ["pool", "out"],
 }
+
+# Who makes changes, tidyings and fresh pools.
+CALLERS = ["change_by", "gol_change", "gol_change_by", "gol_fresh", "gol_tidy", "main", "reply"]
 
 # Who holds the words of a lent state to write in, and all that each does with them, in this order.
 STATES = {
@@ -85,6 +96,17 @@ STATES = {
         "return_step": ["read", "to give_back"],
         "fetch_step": ["to steps::step_refusal", "read"]
         + [f"to steps::{step}" for step in ("plain_step", "switch_step", "return_step")],
+    },
+    "owners": {
+        "put_region": ["store"] * 5,
+        "make": ["read", "to list::place_of", "to list::put_region", "store"],
+        "pass": ["to list::place_of", "to list::owned_at", "to list::put_region"],
+        "give": ["to list::place_of", "to list::owned_at", "to list::region_at", "to list::put_region"],
+        "make_region": ["to calls::ask", "to calls::make"],
+        "pass_region": ["to calls::ask", "to calls::pass"],
+        "give_export": ["to calls::ask", "to calls::give"],
+        # It holds the pool, and only reads the list.
+        "change_by": HOLDERS["owners"]["change_by"],
     },
 }
 

@@ -1,7 +1,7 @@
 """The rules of one loop of stores: each gives what is wrong with a source."""
 import re
 
-from lists import BELOW, EXPORTED, HOLDERS, LOOP, MAIN, OWNERS, READERS, STATES, TOLD
+from lists import BELOW, CALLERS, EXPORTED, HOLDERS, LOOP, MAIN, OWNERS, READERS, STATES, TOLD
 from source import assigned, use, uses
 
 
@@ -101,8 +101,8 @@ def below(house):
 
 
 def above(house):
-    """The C face and the program only hand the pool on."""
-    wrong = handed_on(house, "goleuthan") + handed_on(house, "rights_listing")
+    """Changes by callers, the C face and the program only hand the pool on."""
+    wrong = handed_on(house, "owners") + handed_on(house, "goleuthan") + handed_on(house, "rights_listing")
     exported = {f.name: f.lent() for f in house.functions["goleuthan"] if f.exported}
     if exported != EXPORTED:
         wrong.append(f"goleuthan: the functions for C may write {exported}")
@@ -122,9 +122,10 @@ def nobody_else(house):
         for f in functions:
             if "pool" in f.lent() and f.name not in HOLDERS.get(crate, {}):
                 wrong.append(f"{crate}: {f.name} holds the pool to write in")
-            calls = re.findall(r"change :: change \(|change :: tidy \(|table :: fresh \(", " ".join(f.body))
+            writers = r"change :: change \(|owners :: change_by \(|change :: tidy \(|table :: fresh \("
+            calls = re.findall(writers, " ".join(f.body))
             callers += [f.name] * len(calls)
-    if sorted(callers) != ["gol_change", "gol_fresh", "gol_tidy", "main", "reply"]:
+    if sorted(callers) != CALLERS:
         wrong.append(f"changes, tidyings and fresh pools are made by {callers}")
     return wrong
 

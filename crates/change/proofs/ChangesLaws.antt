@@ -1,4 +1,5 @@
--- What a change answers and leaves is settled by its input, and by the rounding of its region.
+-- What a change answers and leaves is settled by its input, and by the rounding of its region; and a refusal leaves the
+-- pool as it came.
 use Prim.Native.Nat.{ℕ}
 use mathlib.Core.Path.{_≡_, refl, sym, ap, _∙_}
 use mathlib.Core.List.{List}
@@ -14,6 +15,7 @@ use Rattle.change.specs.declared.Answer.the-variants.{Done, Refused}
 use Rattle.change.specs.Cuts.{differing}
 use Rattle.change.specs.Answers.{ChangesRegion, Changes, no-shape, no-domain, no-right, no-region, in-order}
 use Rattle.change.specs.Answers.{unsound, unsettled, no-room, done, cut}
+use Rattle.change.proofs.AnswerLaws.{done-refused, cut-refused}
 use Rattle.change.proofs.DoneLaws.{one-done, done-not-cut}
 use Rattle.change.proofs.ReachedLaws.{one-cut}
 use Rattle.change.proofs.TidiesLaws.{Agree}
@@ -109,3 +111,20 @@ rounded-alike e (in-order g u v) = in-order g (record {
   right = u .right;
   region = sym e ∙ u .region;
 }) v
+
+-- A change that is refused leaves the pool as it came.
+region-refused-kept : {p q : List ℕ} {s : Shape} {A : Aim} {n k : ℕ} {c : Answer} → ChangesRegion p s A n c q
+    → c ≡ Refused k → q ≡ p
+region-refused-kept (unsound x) e = refl
+region-refused-kept (unsettled x y) e = refl
+region-refused-kept (no-room x y) e = refl
+region-refused-kept (done x q y) e = absurd (done-refused e)
+region-refused-kept (cut x q y) e = absurd (cut-refused e)
+
+pub change-refused-kept : {p q : List ℕ} {s : Shape} {d start len r n k : ℕ} {c : Answer}
+    → Changes p s d start len r n c q → c ≡ Refused k → q ≡ p
+change-refused-kept (no-shape x) e = refl
+change-refused-kept (no-domain x y) e = refl
+change-refused-kept (no-right x y z) e = refl
+change-refused-kept (no-region x y z k w) e = refl
+change-refused-kept (in-order g a x) e = region-refused-kept x e

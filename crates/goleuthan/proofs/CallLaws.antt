@@ -14,7 +14,8 @@ use Rattle.gates.specs.declared.GatesSet.{GatesSet}
 use Rattle.gates.specs.declared.Stepped.{Stepped}
 use Rattle.gates.specs.Steps.{stepOf, numbers as stepNumbers}
 use Rattle.gates.specs.Layout.{gatesLong, gatesOf, stackLong, stackOf, SetAs, SteppedAs}
-use Rattle.goleuthan.specs.Out.{outWith, wrongLength}
+use Rattle.rows.specs.Lent.{wrongLength}
+use Rattle.goleuthan.specs.Out.{outWith}
 use Rattle.goleuthan.specs.Calls.{shapeLong, shapeIn}
 use Rattle.goleuthan.specs.StateCalls.{stateAfter, back, verdictResults, checkCall, flushCall, gatesCall}
 use Rattle.goleuthan.specs.StateCalls.{stepResults, stepCall}

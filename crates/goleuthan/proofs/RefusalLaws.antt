@@ -5,7 +5,6 @@ use mathlib.Core.Logic.{_≢_}
 use mathlib.Core.Bool.{Bool, true, false, cond}
 use mathlib.Core.List.{List, [], _∷_}
 use lib.ListN.{length}
-use Rattle.plan.specs.Aims.{Aim}
 use Rattle.table.specs.declared.Shape.{Shape}
 use Rattle.table.specs.declared.Made.the-variants.{Done as Fresh, Refused as NotFresh}
 use Rattle.table.specs.declared.Found.{Found}
@@ -14,14 +13,17 @@ use Rattle.table.specs.Shape.{fitsOf}
 use Rattle.table.specs.Fresh.{freshPool, madeNumber}
 use Rattle.table.specs.Lookup.{numbers as foundNumbers}
 use Rattle.change.specs.declared.Answer.{Answer}
-use Rattle.change.specs.Answers.{ChangesRegion, Changes, Tidies, unsound, unsettled, no-room, done, cut, no-shape}
-use Rattle.change.specs.Answers.{no-domain, no-right, no-region, in-order}
+use Rattle.change.specs.declared.Answer.the-variants.{Done, Cut, Refused}
+use Rattle.change.specs.Answers.{Changes, Tidies, no-shape, unsound, done, cut}
+use Rattle.change.proofs.ChangesLaws.{change-refused-kept}
+use Rattle.owners.specs.Changes.{ChangesBy}
+use Rattle.owners.proofs.ByLaws.{by-refused-kept}
 use Rattle.listing.specs.declared.Listed.{Listed}
 use Rattle.listing.specs.Listing.{Lists, numbers as listedNumbers, no-shape as list-no-shape}
 use Rattle.listing.specs.Listing.{unsound as list-unsound, listed}
 use Rattle.goleuthan.specs.Out.{outWith, wasCut}
 use Rattle.goleuthan.specs.Calls.{shapeIn, answerNumber, foundResults, answerResults, listedResults, FreshCall}
-use Rattle.goleuthan.specs.Calls.{LookupCall, ChangeCall, TidyCall, ListCall, wrong-length, shaped}
+use Rattle.goleuthan.specs.Calls.{LookupCall, ChangeCall, ChangeByCall, TidyCall, ListCall, wrong-length, shaped}
 
 -- Making fresh.
 pub fresh-refused : {p sh : List ℕ} {n : ℕ} {q : List ℕ} → FreshCall p sh n q → n ≢ 0 → q ≡ p
@@ -46,21 +48,17 @@ lookup-refused {out = out} (shaped l f x) h = ap (λ r. outWith r out) (found-ze
 abbrev Untouched : List ℕ → Answer → List ℕ → Type 0
 Untouched p a q = answerNumber a ≢ 0 → answerNumber a ≢ wasCut → (q ≡ p) × (answerResults a ≡ 0 ∷ [])
 
-region-untouched : {p : List ℕ} {s : Shape} {A : Aim} {n : ℕ} {a : Answer} {q : List ℕ}
-    → ChangesRegion p s A n a q → Untouched p a q
-region-untouched (unsound f) h k = (refl, refl)
-region-untouched (unsettled o f) h k = (refl, refl)
-region-untouched (no-room o f) h k = (refl, refl)
-region-untouched (done o q e) h k = absurd (h refl)
-region-untouched (cut o q e) h k = absurd (k refl)
-
-change-untouched : {p : List ℕ} {s : Shape} {d start len r n : ℕ} {a : Answer} {q : List ℕ}
+change-untouched : {p : List ℕ} {s : Shape} {d start len r n : ℕ} (a : Answer) {q : List ℕ}
     → Changes p s d start len r n a q → Untouched p a q
-change-untouched (no-shape f) h k = (refl, refl)
-change-untouched (no-domain f g) h k = (refl, refl)
-change-untouched (no-right f g i) h k = (refl, refl)
-change-untouched (no-region f g i j e) h k = (refl, refl)
-change-untouched (in-order g u v) h k = region-untouched v h k
+change-untouched (Done m) x h k = absurd (h refl)
+change-untouched Cut x h k = absurd (k refl)
+change-untouched (Refused m) x h k = (change-refused-kept x refl, refl)
+
+by-untouched : {p : List ℕ} {s : Shape} {list : List ℕ} {caller d start len r n : ℕ} (a : Answer) {q : List ℕ}
+    → ChangesBy p s list caller d start len r n a q → Untouched p a q
+by-untouched (Done m) x h k = absurd (h refl)
+by-untouched Cut x h k = absurd (k refl)
+by-untouched (Refused m) x h k = (by-refused-kept x, refl)
 
 tidy-untouched : {p : List ℕ} {s : Shape} {n : ℕ} {a : Answer} {q : List ℕ} → Tidies p s n a q → Untouched p a q
 tidy-untouched (no-shape f) h k = (refl, refl)
@@ -77,7 +75,13 @@ pub change-refused : {p sh : List ℕ} {d start len right allowance n : ℕ} {ou
     → ChangeCall p sh d start len right allowance out n q res → n ≢ 0 → n ≢ wasCut → (q ≡ p)
     × (res ≡ outWith (0 ∷ []) out)
 change-refused (wrong-length f) h k = (refl, refl)
-change-refused {out = out} (shaped l a q x) h k = untouched out a (change-untouched x) h k
+change-refused {out = out} (shaped l a q x) h k = untouched out a (change-untouched a x) h k
+
+pub change-by-refused : {p sh list : List ℕ} {caller d start len right allowance n : ℕ} {out q res : List ℕ}
+    → ChangeByCall p sh list caller d start len right allowance out n q res → n ≢ 0 → n ≢ wasCut → (q ≡ p)
+    × (res ≡ outWith (0 ∷ []) out)
+change-by-refused (wrong-length f) h k = (refl, refl)
+change-by-refused {out = out} (shaped l a q x) h k = untouched out a (by-untouched a x) h k
 
 pub tidy-refused : {p sh : List ℕ} {allowance n : ℕ} {out q res : List ℕ}
     → TidyCall p sh allowance out n q res → n ≢ 0 → n ≢ wasCut

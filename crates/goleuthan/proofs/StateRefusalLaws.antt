@@ -36,7 +36,8 @@ use Rattle.gates.specs.Steps.{stepOf, numbers as stepNumbers}
 use Rattle.theory.proofs.Logic.{and-both}
 use Rattle.gates.proofs.SetLaws.{set-refusal-keeps, remove-refusal-keeps}
 use Rattle.gates.proofs.StepLaws.{step-moves, moves-unless-pass}
-use Rattle.goleuthan.specs.Out.{outWith, wrongLength}
+use Rattle.rows.specs.Lent.{wrongLength}
+use Rattle.goleuthan.specs.Out.{outWith}
 use Rattle.goleuthan.specs.Calls.{shapeLong, shapeIn}
 use Rattle.goleuthan.specs.StateCalls.{stateAfter, Back, back, verdictResults, checkedBack, checkCall}
 use Rattle.goleuthan.specs.StateCalls.{flushedKept, flushCall, gatesKept, gatesCall, stepResults, steppedBack}

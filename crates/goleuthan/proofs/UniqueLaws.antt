@@ -10,12 +10,14 @@ use Rattle.table.proofs.LookupLaws.{one-lookup}
 use Rattle.change.specs.declared.Answer.{Answer}
 use Rattle.change.proofs.ChangesLaws.{one-change}
 use Rattle.change.proofs.TidiesLaws.{one-tidy}
+use Rattle.owners.specs.Calls.{Outcome, outcome}
+use Rattle.owners.proofs.ByLaws.{one-change-by}
 use Rattle.listing.specs.declared.Listed.{Listed}
 use Rattle.listing.specs.Listing.{numbers as listedNumbers}
 use Rattle.listing.proofs.ListingLaws.{one-listing}
 use Rattle.goleuthan.specs.Out.{outWith}
 use Rattle.goleuthan.specs.Calls.{shapeIn, answerNumber, foundResults, answerResults, listedResults, FreshCall}
-use Rattle.goleuthan.specs.Calls.{LookupCall, ChangeCall, TidyCall, ListCall, wrong-length, shaped}
+use Rattle.goleuthan.specs.Calls.{LookupCall, ChangeCall, ChangeByCall, TidyCall, ListCall, wrong-length, shaped}
 use Rattle.goleuthan.specs.StateCalls.{Back, StateAfter, back, stateAfter}
 
 -- One answer and one pool are one number, one pool and one result.
@@ -50,6 +52,14 @@ module _ {p sh : List ℕ} where
   one-change-call (shaped h k q x) (wrong-length f) = absurd (f h)
   one-change-call {out = out} (shaped h k q x) (shaped i l r y) = answered out (one-change x y)
 
+  pub one-change-by-call : {list : List ℕ} {caller d start len right allowance m n : ℕ} {out q r t u : List ℕ}
+      → ChangeByCall p sh list caller d start len right allowance out m q t
+      → ChangeByCall p sh list caller d start len right allowance out n r u → (m ≡ n) × (q ≡ r) × (t ≡ u)
+  one-change-by-call (wrong-length f) (wrong-length g) = (refl, refl, refl)
+  one-change-by-call (wrong-length f) (shaped h k q x) = absurd (f h)
+  one-change-by-call (shaped h k q x) (wrong-length f) = absurd (f h)
+  one-change-by-call {out = out} (shaped h k q x) (shaped i l r y) = answered out (one-change-by x y)
+
   pub one-tidy-call : {allowance m n : ℕ} {out q r t u : List ℕ} → TidyCall p sh allowance out m q t
       → TidyCall p sh allowance out n r u
       → (m ≡ n) × (q ≡ r) × (t ≡ u)
@@ -78,3 +88,7 @@ one-back x y = let e = x ∙ sym y in (ap (λ b. b .number) e, ap (λ b. b .stat
 -- A flush, or the setting or removing of a gate.
 pub one-kept : {c : StateAfter} {m n : ℕ} {q r : List ℕ} → stateAfter m q ≡ c → stateAfter n r ≡ c → (m ≡ n) × (q ≡ r)
 one-kept x y = let e = x ∙ sym y in (ap (λ b. b .number) e, ap (λ b. b .state) e)
+
+-- A call on a list of owned regions.
+pub one-outcome : {c : Outcome} {m n : ℕ} {q r : List ℕ} → outcome m q ≡ c → outcome n r ≡ c → (m ≡ n) × (q ≡ r)
+one-outcome x y = let e = x ∙ sym y in (ap (λ b. b .refusal) e, ap (λ b. b .list) e)

@@ -16,7 +16,9 @@ use Rattle.change.specs.declared.Answer.{Answer}
 use Rattle.change.specs.Answers.{Changes, Tidies, numbers as answerNumbers}
 use Rattle.listing.specs.declared.Listed.{Listed}
 use Rattle.listing.specs.Listing.{Lists, numbers as listedNumbers}
-use Rattle.goleuthan.specs.Out.{outWith, wasCut, wrongLength, inOneWord}
+use Rattle.owners.specs.Changes.{ChangesBy}
+use Rattle.rows.specs.Lent.{wrongLength}
+use Rattle.goleuthan.specs.Out.{outWith, wasCut, inOneWord}
 
 -- The words of a lent shape: form, D, M, L, V.
 abbrev pub shapeLong : ℕ
@@ -75,6 +77,15 @@ pub data ChangeCall (p sh : List ℕ) (d start len r allowance : ℕ) (out : Lis
   wrong-length : NotLong sh → ChangeCall p sh d start len r allowance out wrongLength p (outWith (0 ∷ []) out)
   shaped : length sh ≡ shapeLong → (a : Answer) (q : List ℕ) → Changes p (shapeIn sh) d start len r allowance a q
       → ChangeCall p sh d start len r allowance out (answerNumber a) q (outWith (answerResults a) out)
+
+-- gol_change_by: the same, by a caller, beside the words of a list of owned regions, of any length.
+pub data ChangeByCall (p sh list : List ℕ) (caller d start len r allowance : ℕ) (out : List ℕ)
+    : ℕ → List ℕ → List ℕ → Type 0 where
+  wrong-length : NotLong sh → ChangeByCall p sh list caller d start len r allowance out wrongLength p
+      (outWith (0 ∷ []) out)
+  shaped : length sh ≡ shapeLong → (a : Answer) (q : List ℕ)
+      → ChangesBy p (shapeIn sh) list caller d start len r allowance a q
+      → ChangeByCall p sh list caller d start len r allowance out (answerNumber a) q (outWith (answerResults a) out)
 
 -- gol_tidy: the same.
 pub data TidyCall (p sh : List ℕ) (allowance : ℕ) (out : List ℕ) : ℕ → List ℕ → List ℕ → Type 0 where

@@ -14,10 +14,6 @@ outWith (r ∷ rs) (w ∷ out) = r ∷ outWith rs out
 abbrev pub wasCut : ℕ
 wasCut = 100
 
--- A lent shape or state is of the wrong length.
-abbrev pub wrongLength : ℕ
-wrongLength = 101
-
 -- The greatest number of one word.
 abbrev pub greatest : ℕ
 greatest = 0xFFFFFFFF

@@ -20,7 +20,8 @@ use Rattle.gates.specs.declared.Stepped.{Stepped}
 use Rattle.gates.specs.Gates.{setOf, removeOf}
 use Rattle.gates.specs.Steps.{stepOf, numbers as stepNumbers}
 use Rattle.gates.specs.Layout.{gatesLong, gatesOf, gatesWords, stackLong, stackOf, stackWords}
-use Rattle.goleuthan.specs.Out.{outWith, wrongLength}
+use Rattle.rows.specs.Lent.{wrongLength}
+use Rattle.goleuthan.specs.Out.{outWith}
 use Rattle.goleuthan.specs.Calls.{shapeLong, shapeIn}
 
 -- What a call on a state leaves: the number, and the words of the state.

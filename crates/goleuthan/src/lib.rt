@@ -1,7 +1,8 @@
 // The C face: the library's calls on numbers and slices, under plain names. A slice is a pointer and a length in
 // words. Results go into the lent words `out`, as many as fit; include/goleuthan.h says what a caller owes and gets.
-mod results;
-mod shapes;
+mod regions; // regions.rt: the calls on owned regions, and the change by a caller
+mod results; // results.rt: the result words of an answer
+mod shapes; // shapes.rt: the lent shape
 
 ghost use mathlib.Core.Path.{_≡_};
 ghost use Rattle.goleuthan.specs.StateCalls.{back, stateAfter, checkCall, flushAllCall, flushDomainCall};
@@ -10,16 +11,13 @@ ghost use Rattle.goleuthan.specs.StateCalls.{stepCall};
 ghost use Rattle.goleuthan.specs.Calls.{FreshCall, LookupCall, ChangeCall, TidyCall, ListCall};
 use gates::Gate;
 
-// A lent shape or state is of the wrong length.
-const WRONG_LENGTH: u32 = 101;
-
 // Makes a pool fresh.
 #[no_mangle]
 pub extern "C" fn gol_fresh(pool: &mut [u32], shape: &[u32]) -> u32
     ensures { λ r. ⌜ FreshCall (now (pool .entry)) (now (shape .entry)) r (now (pool .exit)) ⌝ }
 {
     if shape.len() != shapes::SHAPE_WORDS {
-        return WRONG_LENGTH;
+        return rows::WRONG_LENGTH;
     }
     let by = shapes::read_shape(shape);
     let made = table::fresh(pool, by);
@@ -40,7 +38,7 @@ pub extern "C" fn gol_lookup(
 {
     if shape.len() != shapes::SHAPE_WORDS {
         results::three(out, 0, 0, 0);
-        return WRONG_LENGTH;
+        return rows::WRONG_LENGTH;
     }
     let by = shapes::read_shape(shape);
     let at = words::byte_addr(address);
@@ -65,7 +63,7 @@ pub extern "C" fn gol_change(
 {
     if shape.len() != shapes::SHAPE_WORDS {
         results::one(out, 0);
-        return WRONG_LENGTH;
+        return rows::WRONG_LENGTH;
     }
     let by = shapes::read_shape(shape);
     let first = words::byte_addr(start);
@@ -81,7 +79,7 @@ pub extern "C" fn gol_tidy(pool: &mut [u32], shape: &[u32], allowance: u32, out:
 {
     if shape.len() != shapes::SHAPE_WORDS {
         results::one(out, 0);
-        return WRONG_LENGTH;
+        return rows::WRONG_LENGTH;
     }
     let by = shapes::read_shape(shape);
     let answer = change::tidy(pool, by, allowance);
@@ -102,7 +100,7 @@ pub extern "C" fn gol_list(
 {
     if shape.len() != shapes::SHAPE_WORDS {
         results::one(out, 0);
-        return WRONG_LENGTH;
+        return rows::WRONG_LENGTH;
     }
     let by = shapes::read_shape(shape);
     let first = from as usize;
@@ -128,11 +126,11 @@ pub extern "C" fn gol_check(
 {
     if shape.len() != shapes::SHAPE_WORDS {
         results::two(out, 0, 0);
-        return WRONG_LENGTH;
+        return rows::WRONG_LENGTH;
     }
     if buffer.len() != lookaside::BUFFER_WORDS {
         results::two(out, 0, 0);
-        return WRONG_LENGTH;
+        return rows::WRONG_LENGTH;
     }
     let by = shapes::read_shape(shape);
     let at = words::byte_addr(address);
@@ -146,7 +144,7 @@ pub extern "C" fn gol_flush_all(buffer: &mut [u32]) -> u32
     ensures { λ r. ⌜ stateAfter r (now (buffer .exit)) ≡ flushAllCall (now (buffer .entry)) ⌝ }
 {
     if buffer.len() != lookaside::BUFFER_WORDS {
-        return WRONG_LENGTH;
+        return rows::WRONG_LENGTH;
     }
     lookaside::flush_all(buffer)
 }
@@ -157,7 +155,7 @@ pub extern "C" fn gol_flush_domain(buffer: &mut [u32], domain: u32) -> u32
     ensures { λ r. ⌜ stateAfter r (now (buffer .exit)) ≡ flushDomainCall (now (buffer .entry)) domain ⌝ }
 {
     if buffer.len() != lookaside::BUFFER_WORDS {
-        return WRONG_LENGTH;
+        return rows::WRONG_LENGTH;
     }
     lookaside::flush_domain(buffer, domain)
 }
@@ -168,7 +166,7 @@ pub extern "C" fn gol_flush_region(buffer: &mut [u32], domain: u32, start: u32, 
     ensures { λ r. ⌜ stateAfter r (now (buffer .exit)) ≡ flushRegionCall (now (buffer .entry)) domain start length ⌝ }
 {
     if buffer.len() != lookaside::BUFFER_WORDS {
-        return WRONG_LENGTH;
+        return rows::WRONG_LENGTH;
     }
     let first = words::byte_addr(start);
     lookaside::flush_region(buffer, domain, first, length)
@@ -187,7 +185,7 @@ pub extern "C" fn gol_set_switch_gate(
         destination ⌝ }
 {
     if gates.len() != gates::GATES_WORDS {
-        return WRONG_LENGTH;
+        return rows::WRONG_LENGTH;
     }
     let at = words::byte_addr(address);
     let gate = Gate::Switch(destination);
@@ -200,7 +198,7 @@ pub extern "C" fn gol_set_return_gate(d: u32, gates: &mut [u32], domain: u32, ad
     ensures { λ r. ⌜ stateAfter r (now (gates .exit)) ≡ setReturnCall d (now (gates .entry)) domain address ⌝ }
 {
     if gates.len() != gates::GATES_WORDS {
-        return WRONG_LENGTH;
+        return rows::WRONG_LENGTH;
     }
     let at = words::byte_addr(address);
     let gate = Gate::Return;
@@ -213,7 +211,7 @@ pub extern "C" fn gol_remove_gate(d: u32, gates: &mut [u32], domain: u32, addres
     ensures { λ r. ⌜ stateAfter r (now (gates .exit)) ≡ removeCall d (now (gates .entry)) domain address ⌝ }
 {
     if gates.len() != gates::GATES_WORDS {
-        return WRONG_LENGTH;
+        return rows::WRONG_LENGTH;
     }
     let at = words::byte_addr(address);
     gates::remove_gate(d, gates, domain, at)
@@ -235,15 +233,15 @@ pub extern "C" fn gol_step(
 {
     if shape.len() != shapes::SHAPE_WORDS {
         results::one(out, 0);
-        return WRONG_LENGTH;
+        return rows::WRONG_LENGTH;
     }
     if gates.len() != gates::GATES_WORDS {
         results::one(out, 0);
-        return WRONG_LENGTH;
+        return rows::WRONG_LENGTH;
     }
     if stack.len() != gates::STACK_WORDS {
         results::one(out, 0);
-        return WRONG_LENGTH;
+        return rows::WRONG_LENGTH;
     }
     let by = shapes::read_shape(shape);
     let at = words::byte_addr(address);

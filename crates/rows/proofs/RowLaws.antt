@@ -22,6 +22,9 @@ add-two j = omega arith
 pub add-three : (j : ℕ) → j + 3 ≡ suc (suc (suc j))
 add-three j = omega arith
 
+pub add-four : (j : ℕ) → j + 4 ≡ suc (suc (suc (suc j)))
+add-four j = omega arith
+
 -- Rows by their numbers.
 module _ {A : Type 0} where
   pub length-rows : (n : ℕ) (f : ℕ → A) → length (rowsOf n f) ≡ n

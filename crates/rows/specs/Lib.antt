@@ -1,2 +1,3 @@
--- What rows in words are.
+-- What rows in words are, and what lent words of a wrong length answer.
 pub mod Rows
+pub mod Lent
