@@ -31,9 +31,10 @@ use Rattle.change.specs.Cuts.{differing}
 use Rattle.change.specs.Answers.{IsCut, Changes, Tidies, in-order, unsettled, cut}
 use Rattle.change.proofs.DifferLaws.{differing-less}
 use Rattle.change.proofs.OutcomeLaws.{one-goal}
-use Rattle.demands.specs.Series.{made, changed, Series, fresh, change, tidy}
+use Rattle.demands.specs.Series.{made, after as then, setting, change, tidy, Series, fresh, call}
 use Rattle.benchmarks.specs.Rows.{shape}
 use Rattle.benchmarks.specs.Witnesses.{SomeCut, SomeSeries}
+use Rattle.benchmarks.specs.CallerWitnesses.{noRegions}
 use Rattle.benchmarks.proofs.RowLaws.{fresh-fits, in-range, aims-fresh, listed, listed-long}
 use Rattle.benchmarks.proofs.FlatLaws.{first-part}
 use Rattle.benchmarks.proofs.PageLaws.{after}
@@ -224,8 +225,9 @@ made-fresh =
     (fits-test one-middle (length (freshPool one-middle)) fits) refl
 
 -- The series up to the cut.
-pub cut-series : Series one-middle cut-pool (changed (changed made 0 0x1000 512 2 (Done 1025)) 0 0 528384 1 Cut)
-cut-series = change (change (fresh made-fresh) (middle-set 1025 (omega arith))) begun
+pub cut-series : (list : List ℕ) → Series one-middle cut-pool list
+    (then (then made (setting 0 0x1000 512 2 (Done 1025))) (setting 0 0 528384 1 Cut))
+cut-series list = call (call (fresh made-fresh list) (change (middle-set 1025 (omega arith)))) (change begun)
 
 pub some-series : SomeSeries
 some-series = record {
@@ -234,5 +236,6 @@ some-series = record {
   made-stores = 1025;
   tidied-stores = 1;
   some = omega arith;
-  series = tidy (change cut-series refused-7) tidies-cut;
+  list = noRegions;
+  series = call (call (cut-series noRegions) (change refused-7)) (tidy tidies-cut);
 }

@@ -19,4 +19,5 @@ pub mod StaleWitness
 pub mod DueWitness
 pub mod TidyWitness
 pub mod TwoDomains
+pub mod CallerWitness
 pub mod Witnesses

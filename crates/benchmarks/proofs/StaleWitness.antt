@@ -19,6 +19,7 @@ use Rattle.lookaside.specs.Agree.{Places, nowhere, both, less}
 use Rattle.demands.specs.Series.{aimIn}
 use Rattle.demands.specs.Watched.{placesOf, altered, Watched, emptied, checked, changed, tidied, flushed-region}
 use Rattle.benchmarks.specs.Witnesses.{SomeStale, SomeTidied}
+use Rattle.benchmarks.specs.CallerWitnesses.{noRegions}
 use Rattle.benchmarks.proofs.RowLaws.{listed}
 use Rattle.benchmarks.proofs.PageLaws.{after}
 use Rattle.benchmarks.proofs.PageRows.{middle-pool}
@@ -75,7 +76,8 @@ some-stale = record {
   pool = cut-pool;
   made-stores = 1025;
   stores = 128;
-  series = cut-series;
+  list = noRegions;
+  series = cut-series noRegions;
   filled-buffer = used;
   missed = missed;
   cut = begun;

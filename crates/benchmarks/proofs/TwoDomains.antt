@@ -31,10 +31,10 @@ use Rattle.benchmarks.specs.Witnesses.{SomeSettled}
 use Rattle.benchmarks.proofs.RowLaws.{fresh-fits}
 use Rattle.benchmarks.proofs.AllowanceLaws.{enough-done}
 
-abbrev here : Region
+abbrev pub here : Region
 here = rounded 0x1000 64
 
-abbrev two : Shape
+abbrev pub two : Shape
 two = record { domains = 2; middles = 2; leaves = 2 }
 
 abbrev F : Form
@@ -84,7 +84,7 @@ module _ (R : ℕ → ℕ → ℕ) (none : (d b : ℕ) → d < 2 → b < address
       two-of-each (suc h) hi = refl
 
 -- The change of a domain.
-abbrev aim : ℕ → Aim
+abbrev pub aim : ℕ → Aim
 aim d = changeAim d here 2
 
 -- A pool whose rights are none elsewhere; the same of the pool after the change of a domain.
@@ -97,7 +97,8 @@ aims-none : (p : List ℕ) → Begun p → (d e b : ℕ) → e < 2 → b < addre
     → aimedAt two (aim d) (words p) e b ≡ 0
 aims-none p o d e b be bb n = aimed-other two (aim d) (words p) e b (change-misses d here 2 e b n) ∙ o .none e b be bb n
 
-next : (p : List ℕ) → Begun p → (d : ℕ) → (q : List ℕ) × IsDone two (aim d) p (length p) q
+-- That change finishes.
+pub next : (p : List ℕ) → Begun p → (d : ℕ) → (q : List ℕ) × IsDone two (aim d) p (length p) q
 next p o d =
     let (Q, kept, g) = fits-goal two (aim d) p (change-sets two d here 2 p (omega arith)) (o .fits) (o .settled .sound)
     (fits-two (aimedAt two (aim d) (words p)) (aims-none p o d)) in
@@ -110,7 +111,7 @@ begun p o d q f = record {
   none = λ e b be bb n. f .finished .rights e b be bb ∙ aims-none p o d e b be bb n;
 }
 
-fresh-begun : Begun (freshPool two)
+pub fresh-begun : Begun (freshPool two)
 fresh-begun = record {
   fits = fresh-fits two (record {
     some-domain = omega arith;

@@ -20,6 +20,8 @@ use Rattle.benchmarks.proofs.DueWitness.{some-give, some-fill, some-lin
 use Rattle.benchmarks.proofs.StaleWitness.{some-stale, some-tidied}
 use Rattle.benchmarks.proofs.TidyWitness.{some-tidy-cut}
 use Rattle.benchmarks.proofs.TwoDomains.{some-settled}
+use Rattle.benchmarks.proofs.CallerWitness.{some-owner, some-export, some-not-allowed, some-set-in, some-nobody}
+use Rattle.benchmarks.proofs.CallerWitness.{some-disjoint}
 
 some-sound : SomeSound
 some-sound = record {
@@ -62,4 +64,10 @@ all-met = record {
   some-stale = some-stale;
   some-tidied = some-tidied;
   some-series = some-series;
+  some-owner = some-owner;
+  some-export = some-export;
+  some-not-allowed = some-not-allowed;
+  some-set-in = some-set-in;
+  some-nobody = some-nobody;
+  some-disjoint = some-disjoint;
 }

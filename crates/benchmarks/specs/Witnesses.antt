@@ -27,8 +27,10 @@ use Rattle.lookaside.specs.Slots.{emptyBuffer, firstMatch}
 use Rattle.lookaside.specs.Check.{checkOf}
 use Rattle.lookaside.specs.Flushes.{flushedRegion}
 use Rattle.lookaside.specs.Agree.{Places, nowhere, Agrees}
-use Rattle.demands.specs.Series.{made, changed, tidied, Series}
+use Rattle.demands.specs.Series.{made, after, tidied, setting, Series}
 use Rattle.demands.specs.Watched.{Watched}
+use Rattle.benchmarks.specs.CallerWitnesses.{SomeOwner, SomeExport, SomeNotAllowed, SomeSetIn, SomeNobody}
+use Rattle.benchmarks.specs.CallerWitnesses.{SomeDisjoint}
 
 -- A sound pool, and it is not settled.
 pub record SomeSound : Type 0 where
@@ -105,9 +107,11 @@ pub record SomeSeries : Type 0 where
   pub made-stores : ℕ
   pub tidied-stores : ℕ
   pub some : 0 < tidied-stores
-  pub series : Series shape pool (tidied
-      (changed (changed (changed made 0 0x1000 512 2 (Done made-stores)) 0 0 528384 1 Cut) 0 0 4 0 (Refused 7))
-      (Done tidied-stores))
+  pub list : List ℕ
+  pub series : Series shape pool list (after
+      (after (after (after made (setting 0 0x1000 512 2 (Done made-stores))) (setting 0 0 528384 1 Cut))
+      (setting 0 0 4 0 (Refused 7)))
+      (tidied (Done tidied-stores)))
 
 -- A slot that is stale: a check missed and filled it, and then a change that covers it was cut. Its verdict is not the
 -- walk's. Flushed of the change's region, the buffer is nowhere stale, and gives the walk's verdict again.
@@ -117,7 +121,9 @@ pub record SomeStale : Type 0 where
   pub pool : List ℕ
   pub made-stores : ℕ
   pub stores : ℕ
-  pub series : Series shape pool (changed (changed made 0 0x1000 512 2 (Done made-stores)) 0 0 528384 1 Cut)
+  pub list : List ℕ
+  pub series : Series shape pool list
+      (after (after made (setting 0 0x1000 512 2 (Done made-stores))) (setting 0 0 528384 1 Cut))
   pub filled-buffer : Buffer
   pub missed : checkOf old shape emptyBuffer 0 store 4 0x1000 ≡ record { verdict = Pass 2; buffer = filled-buffer }
   pub cut : Changes old shape 0 0 528384 1 stores Cut pool
@@ -173,3 +179,9 @@ pub record Met : Type 0 where
   pub some-stale : SomeStale
   pub some-tidied : SomeTidied
   pub some-series : SomeSeries
+  pub some-owner : SomeOwner
+  pub some-export : SomeExport
+  pub some-not-allowed : SomeNotAllowed
+  pub some-set-in : SomeSetIn
+  pub some-nobody : SomeNobody
+  pub some-disjoint : SomeDisjoint

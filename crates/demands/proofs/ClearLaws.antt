@@ -2,7 +2,7 @@
 -- tidyings keep it.
 use Prim.Native.Nat.{ℕ, zero, suc, _/_, _<_}
 use mathlib.Core.Path.{_≡_, refl, sym, ap, _∙_}
-use mathlib.Core.Logic.{_≢_}
+use mathlib.Core.Logic.{_≢_, ⊎-elim}
 use mathlib.Core.Bool.{Bool, true, false, cond, false≢true}
 use mathlib.Core.List.{List, [], _∷_, map}
 use native.Mathlib.Omega.{arith}
@@ -38,6 +38,8 @@ use Rattle.lookaside.proofs.SlotLaws.{match-is}
 use Rattle.lookaside.proofs.BufferLaws.{first-matches}
 use Rattle.lookaside.proofs.CheckLaws.{allowed, check-refused, check-answered}
 use Rattle.lookaside.proofs.AgreeLaws.{block-together}
+use Rattle.owners.specs.Changes.{ChangesBy}
+use Rattle.owners.proofs.ByLaws.{by-changes}
 
 -- Wherever the slot matches, the walk is not refused 6.
 abbrev pub Clear : List ℕ → Shape → Slot → Type 0
@@ -163,6 +165,11 @@ module _ (p : List ℕ) (s : Shape) (b : Buffer) (g : AllClear p s b) where
   change-clear (no-right x y w) = g
   change-clear (no-region x y w k v) = g
   change-clear (in-order k asked x) = region-clear (asked .fits) x
+
+  -- So does a change by a caller, which is a change or leaves the pool.
+  pub change-by-clear : {q list : List ℕ} {caller d start len r n : ℕ} {c : Answer}
+      → ChangesBy p s list caller d start len r n c q → AllClear q s b
+  change-by-clear x = ⊎-elim change-clear (λ (k, e, f). rw f g) (by-changes x)
 
   pub tidy-clear : {q : List ℕ} {n : ℕ} {c : Answer} → Tidies p s n c q → AllClear q s b
   tidy-clear (no-shape x) = g

@@ -16,6 +16,9 @@ use Rattle.change.specs.declared.Answer.the-variants.{Done, Cut, Refused}
 use Rattle.plan.specs.Aims.{Aim, changeAim}
 use Rattle.change.specs.Answers.{Asked, ChangesRegion, Changes, Tidies, no-shape, no-domain, no-right}
 use Rattle.change.specs.Answers.{no-region, in-order, unsound, unsettled, no-room, done, cut}
+use Rattle.owners.specs.Rules.{Allowed}
+use Rattle.owners.specs.Changes.{askedBy, ChangesBy}
+use Rattle.owners.proofs.ByLaws.{by-asked, allowed-changes}
 use Rattle.demands.specs.Series.{History, Series, RoomFor, ByRoom, full, finishes, is-cut}
 use Rattle.change.proofs.AnswerLaws.{done-refused, cut-refused, done-cut, same-number}
 use Rattle.demands.proofs.SeriesLaws.{one-region, series-tidy-ends}
@@ -96,9 +99,17 @@ settled-exactly-8 t a x = by-room-8 (settled-by-room t a x)
 
 -- In a series, after a tidying that was not cut: a change in order is refused 8 exactly where there is no room for the
 -- finished rights, and is otherwise done or cut.
-pub room-exactly : {s : Shape} {p q x : List ℕ} {h : History} {n m : ℕ} {b c : Answer} {d start len r : ℕ} {g : Region}
-    → Series s p h → Tidies p s n b q → b ≢ Cut → Asked q s d start len r g → Changes q s d start len r m c x
-    → ByRoom s q (changeAim d g r) c
+pub room-exactly : {s : Shape} {p list q x : List ℕ} {h : History} {n m : ℕ} {b c : Answer} {d start len r : ℕ}
+    {g : Region} → Series s p list h → Tidies p s n b q → b ≢ Cut → Asked q s d start len r g
+    → Changes q s d start len r m c x → ByRoom s q (changeAim d g r) c
 room-exactly y t whole a z =
     let settled = ⊎-elim (λ (k, e). tidied-settled t e) (λ e. absurd (whole e)) (series-tidy-ends y t) in
     settled-by-room settled a z
+
+-- The same of a change by a caller whom the list allows it.
+pub by-room-exactly : {s : Shape} {p list q x : List ℕ} {h : History} {n m : ℕ} {b c : Answer}
+    {caller d start len r : ℕ} {g : Region} → Series s p list h → Tidies p s n b q → b ≢ Cut
+    → askedBy q s list caller d start len r ≡ Covers g → Allowed list caller d r g
+    → ChangesBy q s list caller d start len r m c x → ByRoom s q (changeAim d g r) c
+by-room-exactly {s} {list = list} {q} {caller = caller} {d} {start} {len} {r} y t whole e o z =
+    room-exactly y t whole (by-asked q s list caller d start len r e) (allowed-changes e o z)

@@ -38,12 +38,15 @@ use Rattle.lookaside.proofs.FlushLaws.{pointed-goes}
 use Rattle.lookaside.proofs.AgreeLaws.{emptied-agrees, change-agrees, tidy-agrees, more-agrees, flush-agrees}
 use Rattle.lookaside.proofs.AgreeLaws.{check-agrees}
 use Rattle.lookaside.proofs.VerdictLaws.{check-right, check-as-emptied}
-use Rattle.demands.specs.Series.{History, aimIn, Series, fresh, change, tidy}
-use Rattle.demands.specs.Watched.{placesOf, altered, Watched, emptied, checked, changed, tidied, flushed-all}
-use Rattle.demands.specs.Watched.{flushed-domain, flushed-region, unflushed}
+use Rattle.owners.specs.Changes.{ChangesBy}
+use Rattle.owners.proofs.ByLaws.{by-changes}
+use Rattle.demands.specs.Series.{Deed, History, after, aimIn, Call, change, change-by, tidy, make, pass, give}
+use Rattle.demands.specs.Series.{Series, fresh, call}
+use Rattle.demands.specs.Watched.{placesOf, altered, Watched, emptied, checked, changed, changed-by, tidied}
+use Rattle.demands.specs.Watched.{flushed-all, flushed-domain, flushed-region, unflushed}
 use Rattle.demands.proofs.SeriesLaws.{series-holds}
 use Rattle.demands.proofs.ClearLaws.{AllClear, not-six, orSix, emptied-clear, flushed-clear, check-clear}
-use Rattle.demands.proofs.ClearLaws.{change-clear, tidy-clear, check-six}
+use Rattle.demands.proofs.ClearLaws.{change-clear, change-by-clear, tidy-clear, check-six}
 
 -- A lookup in a sound pool finds exactly the right that the table holds, in one to three loads.
 pub lookup-exact : (p : List ℕ) (s : Shape) (d a : ℕ) → SoundPool (formOf s) (words p) → Fits s (length p)
@@ -74,6 +77,12 @@ change-same (no-right x y w) e a be ba z = refl
 change-same (no-region x y w k v) e a be ba z = refl
 change-same {d = d} {r = r} {c = c} (in-order g asked x) e a be ba z =
     region-same x e a be ba (ap (λ t. altered c (aimIn t d r) e a) (sym (asked .region)) ∙ z)
+
+-- The same of a change by a caller.
+pub change-by-same : {p q list : List ℕ} {s : Shape} {caller d start len r n : ℕ} {c : Answer}
+    → ChangesBy p s list caller d start len r n c q
+    → SameBut (s .domains) (altered c (aimIn (regionOf start len) d r)) (rightsOf s p) (rightsOf s q)
+change-by-same x = ⊎-elim change-same (λ (k, e, f). rw (e, f) (λ e a be ba z. refl)) (by-changes x)
 
 -- A tidying, finished or cut, leaves all rights: it needs no flush.
 pub tidy-same : {p q : List ℕ} {s : Shape} {n : ℕ} {c : Answer} → Tidies p s n c q
@@ -118,6 +127,15 @@ module _ {s : Shape} {p : List ℕ} {b : Buffer} {x : Places} (o : Sees s p b x)
     pointer = o .pointer;
   }
 
+  change-by-sees : {q list : List ℕ} {caller d start len r n : ℕ} {c : Answer}
+      → ChangesBy p s list caller d start len r n c q
+      → Sees s q b (both x (altered c (aimIn (regionOf start len) d r)))
+  change-by-sees {q} y = record {
+    agrees = change-agrees (s .domains) (rightsOf s p) (rightsOf s q) b x _ (change-by-same y) (o .agrees);
+    clear = change-by-clear p s b (o .clear) y;
+    pointer = o .pointer;
+  }
+
   tidy-sees : {q : List ℕ} {n : ℕ} {c : Answer} → Tidies p s n c q → Sees s q b x
   tidy-sees {q} y = record {
     agrees = tidy-agrees (s .domains) (rightsOf s p) (rightsOf s q) b x (tidy-same y) (o .agrees);
@@ -153,6 +171,7 @@ pub watched-sees : {s : Shape} {p : List ℕ} {b : Buffer} {x : Places} → Watc
 watched-sees {s} (emptied p) = emptied-sees s p
 watched-sees (checked w d kind size a) = check-sees (watched-sees w) d kind size a
 watched-sees (changed w y) = change-sees (watched-sees w) y
+watched-sees (changed-by w y) = change-by-sees (watched-sees w) y
 watched-sees (tidied w y) = tidy-sees (watched-sees w) y
 watched-sees (flushed-all w) = let o = watched-sees w in pointed-sees o _ (flush-sees o Whole)
 watched-sees (flushed-domain w d) = let o = watched-sees w in pointed-sees o _ (flush-sees o (OfDomain d))
@@ -181,13 +200,23 @@ same-verdict {s} {p} {b} {x} w d kind size a h z =
     (six-or-not (lookupOf p s d a))
 
 -- `Watched` leaves out no call of a series: beside every series there may be a buffer, emptied as the pool was made.
-pub series-watched : {s : Shape} {p : List ℕ} {h : History} → Series s p h → Watched s p emptyBuffer (unflushed h)
-series-watched (fresh {p} {q} m) = emptied q
-series-watched (change x c) = changed (series-watched x) c
-series-watched (tidy x c) = tidied (series-watched x) c
+pub series-watched : {s : Shape} {p list : List ℕ} {h : History} → Series s p list h
+    → Watched s p emptyBuffer (unflushed h)
+series-watched (fresh {p} {q} m list) = emptied q
+series-watched (call {h = h} x y) = called h (series-watched x) y
+  where
+    called : {s : Shape} {p list q m : List ℕ} (h : History) {e : Deed} → Watched s p emptyBuffer (unflushed h)
+        → Call s p list e q m → Watched s q emptyBuffer (unflushed (after h e))
+    called h w (change y) = changed w y
+    called h w (change-by y) = changed-by w y
+    called h w (tidy y) = tidied w y
+    called h w (make D caller owner start len) = w
+    called h w (pass D caller owner start len) = w
+    called h w (give D caller receiver right start len) = w
 
 -- In a pool of any series it passes exactly where the table's right lets it, in at most three loads.
-pub series-verdict : {s : Shape} {p : List ℕ} {b : Buffer} {x : Places} {h : History} → Series s p h → Watched s p b x
+pub series-verdict : {s : Shape} {p list : List ℕ} {b : Buffer} {x : Places} {h : History} → Series s p list h
+    → Watched s p b x
     → (d kind size a : ℕ) → d < s .domains → a < addresses → x d a ≡ false
     → refusalOf s (length p) (b .next) d kind size a ≡ 0
     → (n : ℕ) × (n ≤ 3) × (checkOf p s b d kind size a .verdict ≡ verdictOf kind (rightOf (formOf s) (words p) d a) n)

@@ -16,7 +16,8 @@ use Rattle.lookaside.specs.Slots.{emptyBuffer}
 use Rattle.lookaside.specs.Check.{checkOf}
 use Rattle.lookaside.specs.Flushes.{flushedWhole, flushedDomain, flushedRegion}
 use Rattle.lookaside.specs.Agree.{Places, nowhere, within, clears, both, less}
-use Rattle.demands.specs.Series.{History, made as freshly, aimed as set, tidied as after-tidying, aimIn}
+use Rattle.owners.specs.Changes.{ChangesBy}
+use Rattle.demands.specs.Series.{History, made as freshly, after, aimed as set, tidied as tidying, listed, aimIn}
 
 -- The places of domain `d` in a region, as it was rounded; none where it was refused.
 abbrev pub placesOf : Rounded → ℕ → Places
@@ -37,6 +38,9 @@ pub data Watched (s : Shape) : List ℕ → Buffer → Places → Type 0 where
       → (d kind size a : ℕ) → Watched s p (checkOf p s b d kind size a .buffer) x
   changed : {p q : List ℕ} {b : Buffer} {x : Places} {d start len r n : ℕ} {c : Answer} → Watched s p b x
       → Changes p s d start len r n c q → Watched s q b (both x (altered c (aimIn (regionOf start len) d r)))
+  changed-by : {p q list : List ℕ} {b : Buffer} {x : Places} {caller d start len r n : ℕ} {c : Answer}
+      → Watched s p b x → ChangesBy p s list caller d start len r n c q
+      → Watched s q b (both x (altered c (aimIn (regionOf start len) d r)))
   tidied : {p q : List ℕ} {b : Buffer} {x : Places} {n : ℕ} {c : Answer}
       → Watched s p b x → Tidies p s n c q → Watched s q b x
   flushed-all : {p : List ℕ} {b : Buffer} {x : Places} → Watched s p b x
@@ -49,5 +53,6 @@ pub data Watched (s : Shape) : List ℕ → Buffer → Places → Type 0 where
 -- What is stale in a buffer that was last emptied as the pool was made, and not flushed since.
 abbrev pub unflushed : History → Places
 unflushed freshly = nowhere
-unflushed (set h A c) = both (unflushed h) (altered c A)
-unflushed (after-tidying h c) = unflushed h
+unflushed (after h (set A c)) = both (unflushed h) (altered c A)
+unflushed (after h (tidying c)) = unflushed h
+unflushed (after h listed) = unflushed h
