@@ -10,11 +10,20 @@ enum { D = 2, M = 1, L = 1, POOL = GOL_POOL_WORDS(D, M, L), SHAPE = GOL_SHAPE_WO
 
 static const uint32_t shape[SHAPE] = {GOL_EIGHTS, D, M, L, 0};
 static uint32_t pool[POOL], buffer[GOL_BUFFER_WORDS], gates[GOL_GATES_WORDS], stack[GOL_STACK_WORDS];
+static uint32_t regions[GOL_REGIONS_WORDS];
+
+/* A change that domain 0 asks for, with no room for results. */
+static uint32_t change_by(uint32_t *words, size_t length, const uint32_t *said, size_t said_len, const uint32_t *list,
+                          size_t list_len) {
+    return gol_change_by(words, length, said, said_len, list, list_len, 0, 0, 0x1000, 64, GOL_EXECUTE, 0xFFFFFFFF,
+                         NULL, 0);
+}
 
 /* Lends all that a call needs to be done, and no room for results. */
 static void without_results(void) {
     gol_fresh(pool, POOL, shape, SHAPE);
     printf("change %u\n", gol_change(pool, POOL, shape, SHAPE, 0, 0x1000, 64, GOL_EXECUTE, 0xFFFFFFFF, NULL, 0));
+    printf("change by %u\n", change_by(pool, POOL, shape, SHAPE, regions, GOL_REGIONS_WORDS));
     printf("tidy %u\n", gol_tidy(pool, POOL, shape, SHAPE, 0xFFFFFFFF, NULL, 0));
     printf("lookup %u\n", gol_lookup(pool, POOL, shape, SHAPE, 0, 0x1000, NULL, 0));
     printf("check %u\n",
@@ -31,6 +40,7 @@ static void without_results(void) {
 static void without_pool(void) {
     printf("fresh %u\n", gol_fresh(NULL, 0, shape, SHAPE));
     printf("change %u\n", gol_change(NULL, 0, shape, SHAPE, 0, 0x1000, 64, GOL_READ, 1, NULL, 0));
+    printf("change by %u\n", change_by(NULL, 0, shape, SHAPE, regions, GOL_REGIONS_WORDS));
     printf("tidy %u\n", gol_tidy(NULL, 0, shape, SHAPE, 1, NULL, 0));
     printf("lookup %u\n", gol_lookup(NULL, 0, shape, SHAPE, 0, 0, NULL, 0));
     printf("list %u\n", gol_list(NULL, 0, shape, SHAPE, 0, NULL, 0, NULL, 0));
@@ -42,6 +52,7 @@ static void without_pool(void) {
 static void without_shape(void) {
     printf("fresh %u\n", gol_fresh(pool, POOL, NULL, 0));
     printf("change %u\n", gol_change(pool, POOL, NULL, 0, 0, 0x1000, 64, GOL_READ, 1, NULL, 0));
+    printf("change by %u\n", change_by(pool, POOL, NULL, 0, regions, GOL_REGIONS_WORDS));
     printf("tidy %u\n", gol_tidy(pool, POOL, NULL, 0, 1, NULL, 0));
     printf("lookup %u\n", gol_lookup(NULL, 0, NULL, 0, 0, 0, NULL, 0));
     printf("list %u\n", gol_list(NULL, 0, NULL, 0, 0, NULL, 0, NULL, 0));
@@ -60,6 +71,10 @@ static void without_states(void) {
     printf("remove gate %u\n", gol_remove_gate(D, NULL, 0, 0, 0));
     printf("step %u\n", gol_step(pool, POOL, shape, SHAPE, NULL, 0, stack, GOL_STACK_WORDS, 0, 0, NULL, 0));
     printf("step %u\n", gol_step(pool, POOL, shape, SHAPE, gates, GOL_GATES_WORDS, NULL, 0, 0, 0, NULL, 0));
+    printf("make region %u\n", gol_make_region(D, NULL, 0, 0, 1, 0, 4));
+    printf("pass region %u\n", gol_pass_region(D, NULL, 0, 0, 1, 0, 4));
+    printf("give export %u\n", gol_give_export(D, NULL, 0, 0, 1, GOL_READ, 0, 4));
+    printf("change by %u\n", change_by(pool, POOL, shape, SHAPE, NULL, 0));
 }
 
 int main(void) {

@@ -32,7 +32,7 @@
  * 100, the pool and all lent states are as they came, and the result words of `out` are 0, as many of them as fit.
  *
  *   1   a form or a V other than 0, D, M or L out of range, or a pool of another length
- *   2   a domain is D or more                                   10  address or target not a multiple of the access size
+ *   2   a domain is D or more, the caller's or an owner's too   10  address or target not a multiple of the access size
  *   3   right above 3                                           11  gate address not a multiple of 4
  *   4   length 0                                                12  a new gate and 64 present
  *   5   rounded start plus rounded length above 2^32            13  no gate there to remove
@@ -40,12 +40,14 @@
  *   7   pool sound, not settled: tidy it first                  15  switch gate, stack full
  *   8   not enough middle or leaf places for these rights       16  return gate, stack empty
  *   9   no such access kind or size                             17  return gate, target differs
- *   18  gate count above 64, depth above 16, next above 63
+ *   18  gate count or region count above 64, depth above 16, next above 63
+ *   19  the caller may not: on the list, as the call says; of a change, a word of it does not allow it
+ *   20  a new region and 64 present
  *   100 the allowance of stores ran out before the end: a cut (see RECOVERY)
  *   101 a lent shape or state of the wrong length; the lengths of all of them are looked at before all else
  *
- * STATES. A lookaside buffer, a gate set and a call stack are words of the caller too, of these lengths and layouts.
- * Words of any value may come in; what they mean is decided by the rules below and by the numbers above.
+ * STATES. A lookaside buffer, a gate set, a call stack and a region list are words of the caller too, of these lengths
+ * and layouts. Words of any value may come in; what they mean is decided by the rules below and by the numbers above.
  *
  *   Buffer, 257 words. Slot i, 0 to 63, is the four words from 4*i on: domain, level (1 root, 2 middle, 3 leaf), first
  *   byte of the block, entry. Word 256 is next, the slot that the next miss fills. All words 0 is an empty buffer. A
@@ -62,18 +64,39 @@
  *   the depth, word 33 the current domain. Frames from the depth on are idle and keep their words. All words 0 but the
  *   current domain is an empty stack.
  *
+ *   Region list, 321 words. Region i, 0 to 63, is the five words from 5*i on: owner, lo, hi, given, rights. It holds
+ *   the memory words lo <= w < hi (a memory word is a byte address / 4); where hi is not above lo it holds nothing. Bit
+ *   k of given set: domain k, 0 to 15, has an export here, of the right in bits 2k+1 and 2k of rights. Bit k clear: it
+ *   has none, whatever rights says; and a domain above 15 has none. Word 320 is the count: regions from that number on
+ *   are idle, hold nothing and keep their words. All words 0 is an empty list.
+ *
+ * WHO MAY SET RIGHTS. gol_change is the supervisor's own and always allowed. gol_change_by asks the region list:
+ *   - the earliest region that holds a word decides for it. A word that no region holds belongs to domain 0;
+ *   - its owner may set any right for any domain, itself too;
+ *   - a domain with an export there may set, for any domain but itself, a right no greater than the export: none is
+ *     below all, read is below the other two, and these two do not compare. An export of none is an export: with it
+ *     none may be set. A domain that was given no export sets nothing;
+ *   - a change is allowed where every word that it covers allows it, by one of these rules or several. Else it is
+ *     refused 19, and no word is written.
+ * Regions that gol_make_region makes do not overlap. In a list that came from elsewhere they may: the earlier counts,
+ * and so it does of two regions with the same lo and hi. Which domain calls is the supervisor's to know: `caller` is
+ * believed. The list and the pool are two things: making or passing a region, or giving an export, gives nobody a right
+ * and takes none away, so it needs no flush; and a right once set stays until another change.
+ *
  * BUFFERS AND THEIR POOL. A slot that matches answers without a look at the pool. So that it says what the pool says:
  *   - a buffer serves one pool of one shape: the same pool and shape at every check. To serve another, empty it;
  *   - gol_fresh makes every buffer of the pool stale, and so does a reset: empty them all;
- *   - gol_change, done or cut, may make each slot of its domain stale whose block meets its region: flush that region
- *     (gol_flush_region) in every buffer of the pool before the next check. A refusal and gol_tidy need no flush;
+ *   - gol_change and gol_change_by, done or cut, may make each slot of `domain` stale whose block meets the region:
+ *     flush that region for that domain (gol_flush_region) in every buffer of the pool before the next check. A refusal
+ *     and gol_tidy need no flush;
  *   - whatever but these calls writes the pool's memory, or the buffer's, makes the buffer stale: empty it.
  * A stale slot gives verdicts by rights that the pool no longer gives. gol_flush_all empties a buffer; zeros do too.
  *
- * STORES. gol_change and gol_tidy write each word of the pool by a single aligned 32-bit store, one after the other in
- * program order, and what RECOVERY says holds after each of them. gol_fresh writes in any order and width. The box must
- * see to it that the stores of a change or a tidying reach the memory that keeps the pool without power: each whole,
- * one by one, in this order.
+ * STORES. gol_change, gol_change_by and gol_tidy write each word of the pool by a single aligned 32-bit store, one
+ * after the other in program order, and what RECOVERY says holds after each of them. gol_fresh writes in any order and
+ * width, and so do the calls that write a buffer, a gate set, a call stack or a region list. The box must see to it
+ * that the stores of a change or a tidying reach the memory that keeps the pool without power: each whole, one by one,
+ * in this order.
  *   - On a microcontroller without a cache or write buffer before that memory nothing is needed, but that the write of
  *     a word is all or nothing when the power goes. A bus or memory that takes a word in halves does not give that.
  *   - With a cache or a write buffer before it, map the pool uncached, or write-through where no write joins or
@@ -84,14 +107,16 @@
  * The proof is about the program's stores. That the compiled library leaves them single and in order is tested, not
  * proved: rust/stepping watches it instruction by instruction. A library compiled for another machine wants the same.
  *
- * RECOVERY after a brown-out. A change or a tidying may stop after any of its stores, by its allowance or by a loss of
- * power. The pool is then sound: each word has its old right or, where the change covers it, its new one, and nothing
- * else. After a reset, in this order:
+ * RECOVERY after a brown-out. A change, the supervisor's or a caller's, or a tidying may stop after any of its stores,
+ * by its allowance or by a loss of power. The pool is then sound: each word has its old right or, where the change
+ * covers it, its new one, and nothing else. After a reset, in this order:
  *   1. empty each lookaside buffer (all words 0): it may hold entries that the pool no longer has;
  *   2. call gol_tidy with an allowance that suffices (0xFFFFFFFF always does): it gives no word another right, and
  *      after it the pool is settled, so that no change is refused 7;
- *   3. make the interrupted change again, if it is still wanted;
- *   4. rebuild gate sets and call stacks, or begin with empty ones: one may have been written in part.
+ *   3. make the interrupted change again, if it is still wanted: the supervisor's at once, a caller's after 4;
+ *   4. rebuild gate sets, call stacks and region lists, or begin with empty ones: one may have been written in part. A
+ *      region written in part (five words, and the count) may let someone set what nobody gave. A list that stands in
+ *      memory which keeps its words may be taken up as it is only where no call was writing it when the power went.
  * A cut without a reset asks for the same, but for 4: instead of 1, flushing what the change covers is enough.
  * A pool that was being made fresh when the power went must be made fresh again.
  */
@@ -132,6 +157,7 @@ extern "C" {
 #define GOL_BUFFER_WORDS 257u
 #define GOL_GATES_WORDS 193u
 #define GOL_STACK_WORDS 34u
+#define GOL_REGIONS_WORDS 321u
 #define GOL_RETURN_GATE 0xFFFFFFFFu
 
 /*
@@ -142,6 +168,7 @@ extern "C" {
 uint32_t gol_fresh(uint32_t *pool, size_t words, const uint32_t *shape, size_t shape_len);
 
 /*
+ * The supervisor's own change, always allowed; gol_change_by makes a caller's.
  * Gives `domain` the right `right` on every word that has one of the `length` bytes from `start` on. The start is
  * rounded down to a multiple of 4; its low two bits are added to the length, which is then rounded up to a multiple of
  * 4. So 4 bytes at 0x1002 are the words at 0x1000 and 0x1004. Refusal 4 is on the length as given; 5 is given where one
@@ -254,6 +281,42 @@ uint32_t gol_remove_gate(uint32_t d, uint32_t *gates, size_t gates_len, uint32_t
 uint32_t gol_step(const uint32_t *pool, size_t words, const uint32_t *shape, size_t shape_len, const uint32_t *gates,
                   size_t gates_len, uint32_t *stack, size_t stack_len, uint32_t address, uint32_t target, uint32_t *out,
                   size_t out_len);
+
+/*
+ * Makes a region for `owner`, after the last, with no export given. It is rounded and refused as gol_change does it.
+ * There is no pool; `d` is the number of domains.
+ * Returns 0, 101, 1, 18, 2 (caller or owner), 4, 5, 19 (the caller is not 0, or the region shares a memory word with
+ * one held), or 20.
+ */
+uint32_t gol_make_region(uint32_t d, uint32_t *regions, size_t regions_len, uint32_t caller, uint32_t owner,
+                         uint32_t start, uint32_t length);
+
+/*
+ * Passes the region of exactly these words, the earlier of two, from the caller to `owner`. Its exports end: given and
+ * rights become 0, also where the owner stays the same.
+ * Returns 0, 101, 1, 18, 2 (caller or owner), 4, 5, or 19 (no region held has exactly these words, or it is not the
+ * caller's).
+ */
+uint32_t gol_pass_region(uint32_t d, uint32_t *regions, size_t regions_len, uint32_t caller, uint32_t owner,
+                         uint32_t start, uint32_t length);
+
+/*
+ * Gives `receiver` an export of `right` in the caller's region of exactly these words, the earlier of two: in the place
+ * of the one that it had there, if it had one. Other exports stay.
+ * Returns 0, 101, 1, 18, 2 (caller or receiver), 3, 4, 5, or 19 (as gol_pass_region; or the receiver is the caller).
+ */
+uint32_t gol_give_export(uint32_t d, uint32_t *regions, size_t regions_len, uint32_t caller, uint32_t receiver,
+                         uint32_t right, uint32_t start, uint32_t length);
+
+/*
+ * The change that gol_change makes, where `caller` may: every word that it covers allows it, by WHO MAY SET RIGHTS. It
+ * makes the same stores in the same order, and asks for the same flush, for `domain`. The list is only read.
+ * out[0]: the number of words written; 0 where it was cut or refused.
+ * Returns 0, 101, 1, 18, 2 (caller or domain), 3, 4, 5, 19, 6, 7, 8, or 100 as gol_change does.
+ */
+uint32_t gol_change_by(uint32_t *pool, size_t words, const uint32_t *shape, size_t shape_len, const uint32_t *regions,
+                       size_t regions_len, uint32_t caller, uint32_t domain, uint32_t start, uint32_t length,
+                       uint32_t right, uint32_t allowance, uint32_t *out, size_t out_len);
 
 #ifdef __cplusplus
 }

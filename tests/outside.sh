@@ -75,6 +75,7 @@ example first_steps
 example brown_out
 example day_of_a_module
 example no_results
+example suppliers_buffer
 workspace
 
 echo "outside: $passed passed, $failed failed"

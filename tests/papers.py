@@ -23,12 +23,16 @@ CALLS = {
     "change/src/tidying.rt": ["tidy"],
     "lookaside/src/lib.rt": ["check", "emptied", "flush_all", "flush_domain", "flush_region"],
     "gates/src/lib.rt": ["set_gate", "remove_gate", "no_gates", "call_stack", "fetch_step"],
+    "owners/src/lib.rt": ["make_region", "pass_region", "give_export", "change_by"],
     "listing/src/lib.rt": ["list_runs"],
     "lines/src/lib.rt": ["parse", "blank_line", "feed", "last_line"],
     "rights_listing/src/serving.rt": ["serve", "serve_last"],
     "rights_listing/src/pages.rt": ["write_page"],
     "rights_listing/src/main.rt": ["hear_all", "show_all"],
-    "goleuthan/src/lib.rt": re.findall(r"fn (gol_\w+)", open("crates/goleuthan/src/lib.rt").read()),
+    **{
+        f"goleuthan/src/{name}.rt": re.findall(r"fn (gol_\w+)", open(f"crates/goleuthan/src/{name}.rt").read())
+        for name in ("lib", "regions")
+    },
 }
 
 # The only thing that such a call may require: that lent words are as many as a state has. The C face answers 101

@@ -4,8 +4,8 @@
  *
  * A call is a head (the function, ten numbers, which of five lent memories are mutable, which are sent, their five
  * lengths) and the words of the memories that are sent; one that is not sent holds what it held. The answer is the
- * number, and the words of the mutable memories. The memories are 0 the pool, 1 buffer, gates or runs, 2 the call stack,
- * 3 the results, 4 the shape.
+ * number, and the words of the mutable memories. The memories are 0 the pool, 1 buffer, gates, regions or runs, 2 the
+ * call stack, 3 the results, 4 the shape.
  */
 #include "goleuthan.h"
 
@@ -63,6 +63,15 @@ static uint32_t call(const struct head *h) {
         return gol_set_return_gate(n[0], state, state_len, n[1], n[2]);
     case 12:
         return gol_remove_gate(n[0], state, state_len, n[1], n[2]);
+    case 13:
+        return gol_make_region(n[0], state, state_len, n[1], n[2], n[3], n[4]);
+    case 14:
+        return gol_pass_region(n[0], state, state_len, n[1], n[2], n[3], n[4]);
+    case 15:
+        return gol_give_export(n[0], state, state_len, n[1], n[2], n[3], n[4], n[5]);
+    case 16:
+        return gol_change_by(pool, words, shape, shape_len, state, state_len, n[0], n[1], n[2], n[3], n[4], n[5], out,
+                             out_len);
     default:
         must(0, "no such function");
         return 0;

@@ -1,5 +1,6 @@
 //! The cases: each makes its pool once and gives a body that runs it a number of times.
 
+use crate::callers::{by_all, by_owner, by_refused};
 use crate::direct::Direct;
 use comparison::given::pools;
 use comparison::rng::Rng;
@@ -40,6 +41,9 @@ pub const CASES: &[Case] = &[
     case!(change_edges, "change that makes two middle tables and two leaves, and its undoing"),
     case!(change_full, "change that makes the last free leaf of an almost full pool, and its undoing"),
     case!(change_refused, "change refused 8 on a full pool"),
+    case!(by_owner, "change of one word by its owner, the last of 64 regions, pool D 4, M 8, L 64"),
+    case!(by_all, "change by a caller over 64 regions and the words between them, 127 stretches"),
+    case!(by_refused, "change by a caller refused 19 for the last of 127 stretches"),
     case!(tidy_after_cut, "tidying after a cut, pool D 4, M 8, L 64"),
     case!(sound_full, "tidying of a settled full pool (soundness, and each table looked at; no store)"),
     case!(list_count, "listing of a full pool of about 37,000 runs, counted alone"),
@@ -50,7 +54,7 @@ const SMALL: Shape = Shape::new(1, 1, 1);
 pub const FULL: Shape = Shape::new(4, 8, 64);
 const SMALL_WORDS: &[u32] = &SMALL.words();
 pub const FULL_WORDS: &[u32] = &FULL.words();
-const ENOUGH: u32 = u32::MAX;
+pub const ENOUGH: u32 = u32::MAX;
 
 fn set(subject: &impl Subject, pool: &mut [u32], shape: Shape, request: Request) {
     let number = subject.change(pool, &shape.words(), request, ENOUGH, &mut []);

@@ -5,6 +5,7 @@
 //! nothing, so that an instruction counter can look at it; `bench cases` prints the names.
 #![deny(unsafe_code)]
 
+mod callers;
 mod cases;
 mod direct;
 mod measure;

@@ -1,12 +1,15 @@
 //! Wrong programs, each with one error that a tired programmer makes. A comparison that cannot tell them from the right
 //! one would be worth nothing.
 
+mod callers;
 mod programs;
 
-use crate::subject::{Step, Subject, Twin};
+use crate::subject::{By, Step, Subject, Twin};
+use callers::*;
 use model::buffer::Access;
 use model::change::Request;
 use model::face::shape_of;
+use model::regions::Asked;
 use model::shape::Shape;
 use programs::*;
 
@@ -31,6 +34,10 @@ pub struct Wrong {
     flush_region: fn(&mut [u32], u32, u32, u32) -> u32,
     set_return_gate: fn(u32, &mut [u32], u32, u32) -> u32,
     remove_gate: fn(u32, &mut [u32], u32, u32) -> u32,
+    make_region: fn(&mut [u32], Asked, u32) -> u32,
+    pass_region: fn(&mut [u32], Asked, u32) -> u32,
+    give_export: fn(&mut [u32], Asked, u32, u32) -> u32,
+    change_by: fn(&mut [u32], Shape, By, &mut [u32]) -> u32,
 }
 
 const RIGHT: Wrong = Wrong {
@@ -49,6 +56,10 @@ const RIGHT: Wrong = Wrong {
     flush_region: |buffer, domain, start, length| Twin.flush_region(buffer, domain, start, length),
     set_return_gate: |d, gates, domain, address| Twin.set_return_gate(d, gates, domain, address),
     remove_gate: |d, gates, domain, address| Twin.remove_gate(d, gates, domain, address),
+    make_region: |list, asked, owner| Twin.make_region(list, asked, owner),
+    pass_region: |list, asked, owner| Twin.pass_region(list, asked, owner),
+    give_export: |list, asked, receiver, right| Twin.give_export(list, asked, receiver, right),
+    change_by: |pool, shape, by, out| Twin.change_by(pool, &shape.words(), by, out),
 };
 
 /// A call by the shape that was read; the twin's own answer where none was.
@@ -115,6 +126,24 @@ impl Subject for Wrong {
     fn remove_gate(&self, d: u32, gates: &mut [u32], domain: u32, address: u32) -> u32 {
         (self.remove_gate)(d, gates, domain, address)
     }
+
+    fn make_region(&self, regions: &mut [u32], asked: Asked, owner: u32) -> u32 {
+        (self.make_region)(regions, asked, owner)
+    }
+
+    fn pass_region(&self, regions: &mut [u32], asked: Asked, owner: u32) -> u32 {
+        (self.pass_region)(regions, asked, owner)
+    }
+
+    fn give_export(&self, regions: &mut [u32], asked: Asked, receiver: u32, right: u32) -> u32 {
+        (self.give_export)(regions, asked, receiver, right)
+    }
+
+    fn change_by(&self, pool: &mut [u32], shape: &[u32], by: By, out: &mut [u32]) -> u32 {
+        let (start, length) = (self.rounds)(by.request.start, by.request.length);
+        let request = Request { start, length, ..by.request };
+        by_shape!(self, change_by, pool, shape, By { request, ..by }, out)
+    }
 }
 
 /// A wrong program: what it does, the comparison that must see it, and the program.
@@ -169,4 +198,34 @@ pub const ALL: &[Fault] = &[
     ("looks at no form", "lent shapes", Wrong { reads: form_unseen, ..RIGHT }),
     ("looks at no V", "lent shapes", Wrong { reads: v_unseen, ..RIGHT }),
     ("takes the first five words of more", "lent shapes", Wrong { reads: first_five, ..RIGHT }),
+    ("lets the last region count", "changes by callers", Wrong { change_by: later_region, ..RIGHT }),
+    ("reads no export as one of none", "changes by callers", Wrong { change_by: ungiven_is_none, ..RIGHT }),
+    ("looks at no bit of what was given", "changes by callers", Wrong { change_by: given_unseen, ..RIGHT }),
+    ("lets an exporter set its own right", "changes by callers", Wrong { change_by: exporter_sets_own, ..RIGHT }),
+    ("takes write for less than execute", "changes by callers", Wrong { change_by: write_below_execute, ..RIGHT }),
+    ("asks the ends of the change alone", "changes by callers", Wrong { change_by: ends_alone, ..RIGHT }),
+    ("asks the first word alone", "changes by callers", Wrong { change_by: first_word_alone, ..RIGHT }),
+    ("wants one region for the whole change", "changes by callers", Wrong { change_by: one_region, ..RIGHT }),
+    ("lets idle regions count", "changes by callers", Wrong { change_by: idle_counts, ..RIGHT }),
+    ("looks at the pool before the caller", "changes by callers", Wrong { change_by: pool_first, ..RIGHT }),
+    ("stores by word number for a caller", "changes by callers", Wrong { change_by: own_order, ..RIGHT }),
+    ("stores a word before it refuses", "changes by callers", Wrong { change_by: stores_first, ..RIGHT }),
+    ("knows callers of D or more", "changes by callers", Wrong { change_by: caller_unseen, ..RIGHT }),
+    ("refuses 18 before 1", "changes by callers", Wrong { change_by: count_before_shape, ..RIGHT }),
+    ("asks by a region rounded by itself", "changes by callers", Wrong { change_by: asks_by_itself, ..RIGHT }),
+    ("makes a region that shares a word", "regions", Wrong { make_region: one_word_shared, ..RIGHT }),
+    ("makes none around a region of no words", "regions", Wrong { make_region: empty_meets, ..RIGHT }),
+    ("makes none over an idle region", "regions", Wrong { make_region: idle_meets, ..RIGHT }),
+    ("refuses 19 before 5", "regions", Wrong { make_region: caller_before_end, ..RIGHT }),
+    ("refuses 20 before 19", "regions", Wrong { make_region: full_before_meeting, ..RIGHT }),
+    ("refuses 18 before 1", "regions", Wrong { make_region: count_before_d, ..RIGHT }),
+    ("makes a region rounded by itself", "regions", Wrong { make_region: made_by_itself, ..RIGHT }),
+    ("makes a region rounded by itself", "lengths", Wrong { make_region: made_by_itself, ..RIGHT }),
+    ("keeps the exports of a region passed", "regions", Wrong { pass_region: keeps_exports, ..RIGHT }),
+    ("passes a region of another", "regions", Wrong { pass_region: owner_unseen, ..RIGHT }),
+    ("finds a region by its first word", "regions", Wrong { pass_region: by_first_word, ..RIGHT }),
+    ("gives the caller an export", "regions", Wrong { give_export: receives_own, ..RIGHT }),
+    ("keeps an export that was given", "regions", Wrong { give_export: keeps_first_export, ..RIGHT }),
+    ("joins an export with the one before", "regions", Wrong { give_export: joins_rights, ..RIGHT }),
+    ("gives an export to a domain that there is not", "regions", Wrong { give_export: sets_past_d, ..RIGHT }),
 ];

@@ -2,6 +2,7 @@
 
 use model::buffer::Access;
 use model::change::Request;
+use model::regions::Asked;
 
 /// A change or a tidying was cut.
 pub const CUT: u32 = 100;
@@ -22,6 +23,10 @@ pub trait Subject {
     fn set_switch_gate(&self, d: u32, gates: &mut [u32], domain: u32, address: u32, destination: u32) -> u32;
     fn set_return_gate(&self, d: u32, gates: &mut [u32], domain: u32, address: u32) -> u32;
     fn remove_gate(&self, d: u32, gates: &mut [u32], domain: u32, address: u32) -> u32;
+    fn make_region(&self, regions: &mut [u32], asked: Asked, owner: u32) -> u32;
+    fn pass_region(&self, regions: &mut [u32], asked: Asked, owner: u32) -> u32;
+    fn give_export(&self, regions: &mut [u32], asked: Asked, receiver: u32, right: u32) -> u32;
+    fn change_by(&self, pool: &mut [u32], shape: &[u32], by: By, out: &mut [u32]) -> u32;
 }
 
 /// What a fetch step is given beside the pool.
@@ -30,6 +35,15 @@ pub struct Step<'a> {
     pub stack: &'a mut [u32],
     pub address: u32,
     pub target: u32,
+}
+
+/// What a change by a caller is given beside the pool.
+#[derive(Clone, Copy)]
+pub struct By<'a> {
+    pub regions: &'a [u32],
+    pub caller: u32,
+    pub request: Request,
+    pub allowance: u32,
 }
 
 /// Makes a subject of a crate that has all functions with the C interface's parameters.
@@ -86,6 +100,24 @@ macro_rules! subject {
 
             fn remove_gate(&self, d: u32, gates: &mut [u32], domain: u32, address: u32) -> u32 {
                 $($functions)*::remove_gate(d, gates, domain, address)
+            }
+
+            fn make_region(&self, regions: &mut [u32], a: Asked, owner: u32) -> u32 {
+                $($functions)*::make_region(a.d, regions, a.caller, owner, a.start, a.length)
+            }
+
+            fn pass_region(&self, regions: &mut [u32], a: Asked, owner: u32) -> u32 {
+                $($functions)*::pass_region(a.d, regions, a.caller, owner, a.start, a.length)
+            }
+
+            fn give_export(&self, regions: &mut [u32], a: Asked, receiver: u32, right: u32) -> u32 {
+                $($functions)*::give_export(a.d, regions, a.caller, receiver, right, a.start, a.length)
+            }
+
+            fn change_by(&self, pool: &mut [u32], shape: &[u32], by: By, out: &mut [u32]) -> u32 {
+                let By { regions, caller, request, allowance } = by;
+                let Request { domain, start, length, right } = request;
+                $($functions)*::change_by(pool, shape, regions, caller, domain, start, length, right, allowance, out)
             }
         }
     };

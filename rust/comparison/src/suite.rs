@@ -1,6 +1,6 @@
 //! The comparisons with their seeds, their sizes and the kinds of cases that each must meet.
 
-use crate::compare::{cuts, gates, lengths, lent, life, listings, pools, rows, series, slots, Run};
+use crate::compare::{callers, cuts, gates, lengths, lent, life, listings, pools, regions, rows, series, slots, Run};
 use crate::given::shapes;
 use crate::subject::Subject;
 use crate::tally::{answers, remainders, Tally};
@@ -146,6 +146,77 @@ const SLOT_KINDS: &[&str] = &[
 const STEP_KINDS: &[&str] =
     &["step is refused", "step is denied", "step switches", "step returns", "step passes without a gate"];
 
+const REGION_KINDS: &[&str] = &[
+    "a list of more than 64 regions",
+    "a list of no region",
+    "a list of 64 regions",
+    "a list of regions that do not meet",
+    "a list of regions that overlap",
+    "a list with two regions of the same words",
+    "a list with a region of no words",
+    "a list with a region past the memory",
+    "a list of owners that there are not",
+    "a list with bits for domains above 15",
+    "making: next to a region",
+    "making: away from all regions",
+    "making: refused for one word that is held",
+    "making: refused for words that are held",
+    "making: refused for a caller other than 0",
+    "passing a region: there is none of these words",
+    "passing a region: it is another's",
+    "passing a region: the earlier of two decides",
+    "passing a region: exports end",
+    "passing a region: there was no export",
+    "giving an export: there is none of these words",
+    "giving an export: it is another's",
+    "giving an export: the earlier of two decides",
+    "giving an export: the receiver is the caller",
+    "giving an export: in the place of an export",
+    "giving an export: the first to a domain",
+];
+
+const CALLER_KINDS: &[&str] = &[
+    "allowed to domain 0 outside all regions",
+    "allowed to the owner",
+    "allowed by an export of none",
+    "allowed by an export of read",
+    "allowed by an export of read and write",
+    "allowed by an export of execute and read",
+    "allowed on several stretches",
+    "allowed on exactly the words of a region",
+    "refused for its first word alone",
+    "refused for its last word alone",
+    "refused between its ends",
+    "refused outside all regions",
+    "refused none without an export",
+    "refused without an export",
+    "refused for the exporter",
+    "refused right 1 by an export of 0",
+    "refused right 2 by an export of 0",
+    "refused right 3 by an export of 0",
+    "refused right 2 by an export of 1",
+    "refused right 3 by an export of 1",
+    "refused right 3 by an export of 2",
+    "refused right 2 by an export of 3",
+    "refused 19 before 0",
+    "refused 19 before 6",
+    "refused 19 before 7",
+    "refused 19 before 8",
+    "refused 19 before 100",
+    "the earlier of two allows",
+    "the earlier of two refuses",
+    "an idle region would say otherwise",
+    "every cut of a change by a caller",
+    "a list of regions that do not meet",
+    "a list of regions that overlap",
+    "a list with a region of no words",
+    "a list with a region past the memory",
+    "a list of owners that there are not",
+    "making: next to a region",
+    "passing a region: exports end",
+    "giving an export: in the place of an export",
+];
+
 const LENT_KINDS: &[&str] = &[
     "lent shape of 0 words",
     "lent shape of 1 words",
@@ -286,10 +357,11 @@ pub const ALL: &[Comparison] = &[
     Comparison {
         name: "lent shapes",
         seed: 14,
-        body: |run| lent::shapes(run, 400),
+        body: |run| lent::shapes(run, 600),
         answers: &[
             ("fresh by a lent shape", &[0, 1, 101]),
             ("change by a lent shape", &[0, 1, 2, 3, 4, 5, 6, 7, 8, 100, 101]),
+            ("change by a caller by a lent shape", &[0, 1, 2, 3, 4, 5, 6, 7, 8, 18, 19, 100, 101]),
             ("tidying by a lent shape", &[0, 1, 6, 100, 101]),
             ("lookup by a lent shape", &[0, 1, 2, 6, 101]),
             ("listing by a lent shape", &[0, 1, 6, 101]),
@@ -303,7 +375,7 @@ pub const ALL: &[Comparison] = &[
         name: "lengths",
         seed: 15,
         body: lengths::lengths,
-        answers: &[("change", &[0, 4, 5]), ("flush of a region", &[0, 4, 5])],
+        answers: &[("change", &[0, 4, 5]), ("flush of a region", &[0, 4, 5]), ("making a region", &[0, 4, 5])],
         regions: &[
             "change",
             "change of the last word",
@@ -313,8 +385,36 @@ pub const ALL: &[Comparison] = &[
             "flush of a region",
             "flush of a region of the last word",
             "flush of a region past the end",
+            "making a region",
+            "making a region of the last word",
+            "making a region past the end",
         ],
         kinds: &[],
+    },
+    Comparison {
+        name: "regions",
+        seed: 16,
+        body: |run| regions::lists(run, 1500),
+        answers: &[
+            ("making a region", &[0, 1, 2, 4, 5, 18, 19, 20, 101]),
+            ("passing a region", &[0, 1, 2, 4, 5, 18, 19, 101]),
+            ("giving an export", &[0, 1, 2, 3, 4, 5, 18, 19, 101]),
+        ],
+        regions: &["making a region", "passing a region", "giving an export"],
+        kinds: REGION_KINDS,
+    },
+    Comparison {
+        name: "changes by callers",
+        seed: 17,
+        body: |run| callers::callers(run, 320, 60),
+        answers: &[
+            ("change by a caller", &[0, 1, 2, 3, 4, 5, 6, 7, 8, 18, 19, 100, 101]),
+            ("making a region", &[0, 19]),
+            ("passing a region", &[0, 19]),
+            ("giving an export", &[0, 19]),
+        ],
+        regions: &["change by a caller"],
+        kinds: CALLER_KINDS,
     },
 ];
 

@@ -40,6 +40,8 @@ library! {
     steps: "steps",
     lent_shapes: "lent shapes",
     lengths: "lengths",
+    regions: "regions",
+    changes_by_callers: "changes by callers",
 }
 
 /// All comparisons on the cases of other seeds, by hand: `SEEDS=20 cargo test --release -- --ignored soak`.

@@ -102,3 +102,46 @@ pub fn set_return_gate(d: u32, gates: &mut [u32], domain: u32, address: u32) -> 
 pub fn remove_gate(d: u32, gates: &mut [u32], domain: u32, address: u32) -> u32 {
     call(12, &[d, domain, address], [Lent::NONE, Lent::Out(gates), Lent::NONE, Lent::NONE, Lent::NONE])
 }
+
+/// Makes a region for an owner.
+pub fn make_region(d: u32, regions: &mut [u32], caller: u32, owner: u32, start: u32, length: u32) -> u32 {
+    let numbers = [d, caller, owner, start, length];
+    call(13, &numbers, [Lent::NONE, Lent::Out(regions), Lent::NONE, Lent::NONE, Lent::NONE])
+}
+
+/// Passes a region to another owner.
+pub fn pass_region(d: u32, regions: &mut [u32], caller: u32, owner: u32, start: u32, length: u32) -> u32 {
+    let numbers = [d, caller, owner, start, length];
+    call(14, &numbers, [Lent::NONE, Lent::Out(regions), Lent::NONE, Lent::NONE, Lent::NONE])
+}
+
+/// Gives a receiver an export of a region.
+pub fn give_export(
+    d: u32,
+    regions: &mut [u32],
+    caller: u32,
+    receiver: u32,
+    right: u32,
+    start: u32,
+    length: u32,
+) -> u32 {
+    let numbers = [d, caller, receiver, right, start, length];
+    call(15, &numbers, [Lent::NONE, Lent::Out(regions), Lent::NONE, Lent::NONE, Lent::NONE])
+}
+
+/// Gives a domain a right on a region, where the caller may. Result: the number of words written.
+pub fn change_by(
+    pool: &mut [u32],
+    shape: &[u32],
+    regions: &[u32],
+    caller: u32,
+    domain: u32,
+    start: u32,
+    length: u32,
+    right: u32,
+    allowance: u32,
+    out: &mut [u32],
+) -> u32 {
+    let numbers = [caller, domain, start, length, right, allowance];
+    call(16, &numbers, [Lent::Out(pool), Lent::In(regions), Lent::NONE, Lent::Out(out), Lent::In(shape)])
+}

@@ -2,7 +2,8 @@
 //!
 //! The pool is the caller's memory, borrowed as a slice of words for as long as a [`Table`] lives. Nothing is kept
 //! elsewhere, and only [`Table::runs`] allocates. What the memory must do for the table to outlive a loss of power is
-//! told in `include/goleuthan.h`, and what a buffer's user owes at [`LookasideBuffer`].
+//! told in `include/goleuthan.h`, what a buffer's user owes at [`LookasideBuffer`], and who may set rights at
+//! [`Regions`].
 //!
 //! ```
 //! use goleuthan::{Answer, Request, Right, Shape, Table};
@@ -21,6 +22,7 @@
 mod buffer;
 mod gates;
 mod refusal;
+mod regions;
 mod runs;
 mod stack;
 mod table;
@@ -38,6 +40,7 @@ pub const LINKED: bool = cfg!(linked);
 pub use buffer::{Level, LookasideBuffer, Slot};
 pub use gates::{Gate, GateKind, Gates};
 pub use refusal::Refusal;
+pub use regions::{Exports, OwnedRegion, Regions};
 pub use runs::Run;
 pub use stack::{CallStack, Frame};
 pub use table::{Access, Answer, Found, Request, Right, Shape, Table, Verdict};

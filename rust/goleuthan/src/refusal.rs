@@ -7,7 +7,7 @@ use std::fmt;
 pub struct Refusal(u32);
 
 impl Refusal {
-    /// The number, from 1 to 18.
+    /// The number, from 1 to 20.
     pub fn number(self) -> u32 {
         self.0
     }
@@ -23,7 +23,7 @@ impl Refusal {
     fn says(self) -> &'static str {
         match self.0 {
             1 => "the form or V is not 0, D, M or L is beyond its range, or the pool has another length",
-            2 => "a domain is D or more",
+            2 => "a domain is D or more: one that is named, or the caller",
             3 => "the right is above 3",
             4 => "the length is 0",
             5 => "the region ends above 2^32",
@@ -39,7 +39,9 @@ impl Refusal {
             15 => "switch gate: the stack is full",
             16 => "return gate: the stack is empty",
             17 => "return gate: the target differs",
-            18 => "a gate count is above 64, a depth above 16 or a next-pointer above 63",
+            18 => "a count of gates or regions is above 64, a depth above 16 or a next-pointer above 63",
+            19 => "the caller may not: a region, or a word of the change, does not allow it",
+            20 => "the region is new and 64 are present",
             _ => "unknown",
         }
     }

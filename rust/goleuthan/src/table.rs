@@ -1,6 +1,6 @@
 //! The table: a borrowed pool with its shape, and the calls on it.
 
-use crate::{runs, words, CallStack, Gates, LookasideBuffer, Refusal, Run};
+use crate::{runs, words, CallStack, Gates, LookasideBuffer, Refusal, Regions, Run};
 
 /// The shape of a pool: how many domains, middle places and leaf places it has. It is the words that the library knows.
 /// The pool does not hold them: give each call those that it was made fresh with.
@@ -196,12 +196,30 @@ impl<'a> Table<'a> {
     }
 
     /// Gives a domain a right on a region, in at most `allowance` single-word stores. Flush the region afterwards,
-    /// done or cut, for the domain in every buffer of this pool.
+    /// done or cut, for the domain in every buffer of this pool. It is the supervisor's own change and always allowed;
+    /// [`change_by`](Table::change_by) asks who may.
     pub fn change(&mut self, request: Request, allowance: u32) -> Result<Answer, Refusal> {
         let Request { domain, start, length, right } = request;
         let mut out = [0];
         let number =
             words::change(self.pool, self.shape.words(), domain, start, length, right as u32, allowance, &mut out);
+        answer(number, out[0])
+    }
+
+    /// The same change, asked for by a domain: refused 19 unless [the regions](Regions#who-may-set-rights) let the
+    /// caller set this right for this domain on every word of it. It too asks for a flush afterwards, done or cut.
+    pub fn change_by(
+        &mut self,
+        regions: &Regions,
+        caller: u32,
+        request: Request,
+        allowance: u32,
+    ) -> Result<Answer, Refusal> {
+        let Request { domain, start, length, right } = request;
+        let (pool, shape, regions) = (&mut *self.pool, self.shape.words(), &regions.words);
+        let right = right as u32;
+        let mut out = [0];
+        let number = words::change_by(pool, shape, regions, caller, domain, start, length, right, allowance, &mut out);
         answer(number, out[0])
     }
 

@@ -93,6 +93,50 @@ mod c {
         ) -> u32;
         pub fn gol_set_return_gate(d: u32, gates: *mut u32, gates_len: usize, domain: u32, address: u32) -> u32;
         pub fn gol_remove_gate(d: u32, gates: *mut u32, gates_len: usize, domain: u32, address: u32) -> u32;
+        pub fn gol_make_region(
+            d: u32,
+            regions: *mut u32,
+            regions_len: usize,
+            caller: u32,
+            owner: u32,
+            start: u32,
+            length: u32,
+        ) -> u32;
+        pub fn gol_pass_region(
+            d: u32,
+            regions: *mut u32,
+            regions_len: usize,
+            caller: u32,
+            owner: u32,
+            start: u32,
+            length: u32,
+        ) -> u32;
+        pub fn gol_give_export(
+            d: u32,
+            regions: *mut u32,
+            regions_len: usize,
+            caller: u32,
+            receiver: u32,
+            right: u32,
+            start: u32,
+            length: u32,
+        ) -> u32;
+        pub fn gol_change_by(
+            pool: *mut u32,
+            words: usize,
+            shape: *const u32,
+            shape_len: usize,
+            regions: *const u32,
+            regions_len: usize,
+            caller: u32,
+            domain: u32,
+            start: u32,
+            length: u32,
+            right: u32,
+            allowance: u32,
+            out: *mut u32,
+            out_len: usize,
+        ) -> u32;
     }
 }
 
@@ -205,4 +249,61 @@ pub fn set_return_gate(d: u32, gates: &mut [u32], domain: u32, address: u32) -> 
 /// Removes a gate.
 pub fn remove_gate(d: u32, gates: &mut [u32], domain: u32, address: u32) -> u32 {
     unsafe { c::gol_remove_gate(d, gates.as_mut_ptr(), gates.len(), domain, address) }
+}
+
+/// Makes a region for an owner.
+pub fn make_region(d: u32, regions: &mut [u32], caller: u32, owner: u32, start: u32, length: u32) -> u32 {
+    unsafe { c::gol_make_region(d, regions.as_mut_ptr(), regions.len(), caller, owner, start, length) }
+}
+
+/// Passes a region to another owner.
+pub fn pass_region(d: u32, regions: &mut [u32], caller: u32, owner: u32, start: u32, length: u32) -> u32 {
+    unsafe { c::gol_pass_region(d, regions.as_mut_ptr(), regions.len(), caller, owner, start, length) }
+}
+
+/// Gives a receiver an export of a region.
+pub fn give_export(
+    d: u32,
+    regions: &mut [u32],
+    caller: u32,
+    receiver: u32,
+    right: u32,
+    start: u32,
+    length: u32,
+) -> u32 {
+    unsafe { c::gol_give_export(d, regions.as_mut_ptr(), regions.len(), caller, receiver, right, start, length) }
+}
+
+/// Gives a domain a right on a region, where the caller may. Result: the number of words written.
+pub fn change_by(
+    pool: &mut [u32],
+    shape: &[u32],
+    regions: &[u32],
+    caller: u32,
+    domain: u32,
+    start: u32,
+    length: u32,
+    right: u32,
+    allowance: u32,
+    out: &mut [u32],
+) -> u32 {
+    let (words, out_len) = (pool.len(), out.len());
+    unsafe {
+        c::gol_change_by(
+            pool.as_mut_ptr(),
+            words,
+            shape.as_ptr(),
+            shape.len(),
+            regions.as_ptr(),
+            regions.len(),
+            caller,
+            domain,
+            start,
+            length,
+            right,
+            allowance,
+            out.as_mut_ptr(),
+            out_len,
+        )
+    }
 }

@@ -1,7 +1,7 @@
 //! The safe face: each type's calls, once each way. What the library answers is compared elsewhere.
 
 use goleuthan::{Access, Answer, CallStack, Found, Frame, Gate, GateKind, Gates, Level, LookasideBuffer};
-use goleuthan::{Request, Right, Run, Shape, Slot, Table, Verdict};
+use goleuthan::{Regions, Request, Right, Run, Shape, Slot, Table, Verdict};
 
 const SHAPE: Shape = Shape::new(2, 1, 1);
 
@@ -257,4 +257,78 @@ fn a_buffer_is_stale_until_it_is_flushed() {
     assert_eq!(table.check(&mut buffer, 0, Access::Load(4), 1 << 22), Ok((Verdict::Pass, 0)));
     buffer.flush_all().unwrap();
     assert_eq!(table.check(&mut buffer, 0, Access::Load(4), 1 << 22), Ok((Verdict::Deny, 1)));
+}
+
+#[test]
+fn regions_are_values() {
+    let mut regions = Regions::none();
+    assert_eq!((regions.count(), regions.held().next(), regions.at(0)), (0, None, None));
+    regions.make(4, 0, 1, 0x1002, 4).unwrap();
+    regions.make(4, 0, 2, 0x2000, 64).unwrap();
+    assert_eq!(number(regions.make(4, 0, 1, 0x1007, 8)), 19);
+    assert_eq!(number(regions.make(4, 1, 1, 0x3000, 8)), 19);
+    regions.give(4, 1, 3, Right::None, 0x1000, 8).unwrap();
+    regions.give(4, 1, 0, Right::ExecuteRead, 0x1000, 8).unwrap();
+    assert_eq!(number(regions.give(4, 1, 1, Right::Read, 0x1000, 8)), 19);
+    assert_eq!(number(regions.give(4, 2, 1, Right::Read, 0x1000, 8)), 19);
+    let first = regions.at(0x1007).unwrap();
+    assert_eq!((first.owner, first.first_word, first.end_word), (1, 0x400, 0x402));
+    assert!(first.exports.given().eq([(0, Right::ExecuteRead), (3, Right::None)]));
+    assert_eq!([0, 1, 2, 3, 16].map(|domain| first.exports.of(domain)), {
+        [Some(Right::ExecuteRead), None, None, Some(Right::None), None]
+    });
+    assert!(first.holds(0x1000) && !first.holds(0xFFF) && !first.holds(0x1008));
+    assert!(regions.held().map(|region| region.owner).eq([1, 2]));
+    regions.pass(4, 1, 3, 0x1000, 8).unwrap();
+    let passed = regions.at(0x1000).unwrap();
+    assert_eq!((passed.owner, passed.exports.given().count()), (3, 0));
+    assert_eq!(number(regions.pass(4, 1, 2, 0x1000, 8)), 19);
+    assert_eq!(number(regions.pass(4, 4, 2, 0x1000, 8)), 2);
+}
+
+/// A list handed in may hold regions that overlap, of which the earlier counts, ones that hold nothing, bits that say
+/// nothing, or a count that no list has.
+#[test]
+fn regions_handed_in() {
+    let mut words = [0; 321];
+    words[..15].copy_from_slice(&[1, 9, 4, 0, 0, 2, 4, 8, 0xFFFF_0002, u32::MAX, 3, 0, 9, 0, 0]);
+    words[320] = 3;
+    let mut regions = Regions::from_words(words);
+    assert_eq!([0, 16, 31, 32, 36].map(|address| regions.at(address).map(|region| region.owner)), {
+        [Some(3), Some(2), Some(2), Some(3), None]
+    });
+    let exports = regions.at(16).unwrap().exports;
+    assert!(exports.given().eq([(1, Right::ExecuteRead)]));
+    assert_eq!(number(regions.make(4, 0, 1, 0, 4)), 19);
+    assert_eq!(regions.make(4, 0, 1, 36, 4), Ok(()));
+    assert_eq!(regions.words()[15..20], [1, 9, 10, 0, 0]);
+    words[320] = 64;
+    assert_eq!(number(Regions::from_words(words).make(4, 0, 1, 36, 4)), 20);
+    words[320] = 65;
+    let mut regions = Regions::from_words(words);
+    assert_eq!((regions.count(), regions.held().len()), (65, 64));
+    let refused = regions.pass(4, 1, 1, 0, 4).unwrap_err();
+    let says = "a count of gates or regions is above 64, a depth above 16 or a next-pointer above 63";
+    assert_eq!(refused.to_string(), format!("refused 18: {says}"));
+}
+
+#[test]
+fn changes_by_callers() {
+    let mut pool = vec![0; SHAPE.pool_words()];
+    let mut table = Table::fresh(&mut pool, SHAPE).unwrap();
+    let mut regions = Regions::none();
+    regions.make(2, 0, 1, 0x1000, 64).unwrap();
+    let whole = request(0, 0x1000, 64, Right::ReadWrite);
+    let refused = table.change_by(&regions, 0, whole, u32::MAX).unwrap_err();
+    assert_eq!((refused.number(), table.runs()), (19, Ok(Vec::new())));
+    let says = "the caller may not: a region, or a word of the change, does not allow it";
+    assert_eq!(refused.to_string(), format!("refused 19: {says}"));
+    assert_eq!(number(table.change_by(&regions, 2, whole, u32::MAX)), 2);
+    assert_eq!(table.change_by(&regions, 1, whole, 9), Ok(Answer::Cut));
+    assert_eq!(table.tidy(u32::MAX), Ok(Answer::Done { stores: 0 }));
+    assert!(matches!(table.change_by(&regions, 1, whole, u32::MAX), Ok(Answer::Done { .. })));
+    let run = Run { domain: 0, first_byte: 0x1000, last_byte: 0x103F, right: Right::ReadWrite };
+    assert_eq!(table.runs(), Ok(vec![run]));
+    assert_eq!(number(table.change_by(&regions, 1, request(0, 0x1000, 65, Right::None), u32::MAX)), 19);
+    assert_eq!(table.change_by(&regions, 0, request(0, 0x1040, 64, Right::Read), 2), Ok(Answer::Done { stores: 1 }));
 }

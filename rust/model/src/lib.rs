@@ -14,6 +14,7 @@ pub mod gates;
 pub mod listing;
 pub mod program;
 pub mod region;
+pub mod regions;
 pub mod rights;
 pub mod shape;
 pub mod state;

@@ -1,9 +1,11 @@
 //! A call that is watched, and what it must do: its stores one by one, and its answer.
 
-use comparison::subject::{Library, Subject, CUT};
+use comparison::subject::{By, Library, Subject, CUT};
 use comparison::{hold, Difference};
 use model::change::Request;
+use model::regions::REGIONS_WORDS;
 use model::shape::Shape;
+use std::fmt;
 
 /// A change or a tidying of a pool of a shape.
 #[derive(Clone, Copy, Debug)]
@@ -16,7 +18,23 @@ pub struct Call {
 #[derive(Clone, Copy, Debug)]
 pub enum Work {
     Change(Request),
+    ChangeBy(Asked),
     Tidying,
+}
+
+/// A change that a caller asks for, and the list that says what it may.
+#[derive(Clone, Copy)]
+pub struct Asked {
+    pub caller: u32,
+    pub request: Request,
+    pub regions: &'static [u32; REGIONS_WORDS],
+}
+
+/// Without the list, which is long and one of few.
+impl fmt::Debug for Asked {
+    fn fmt(&self, f: &mut fmt::Formatter) -> fmt::Result {
+        write!(f, "{:x?} by {}", self.request, self.caller)
+    }
 }
 
 impl Call {
@@ -24,6 +42,10 @@ impl Call {
     pub fn make(&self, pool: &mut [u32], out: &mut [u32]) -> u32 {
         match self.work {
             Work::Change(request) => Library.change(pool, &self.shape.words(), request, self.allowance, out),
+            Work::ChangeBy(Asked { caller, request, regions }) => {
+                let by = By { regions, caller, request, allowance: self.allowance };
+                Library.change_by(pool, &self.shape.words(), by, out)
+            }
             Work::Tidying => Library.tidy(pool, &self.shape.words(), self.allowance, out),
         }
     }

@@ -1,11 +1,12 @@
-//! The calls that are watched: changes and tidyings of small and full pools, and refusals.
+//! The calls that are watched: changes and tidyings of small and full pools, changes by callers, and refusals.
 
-use crate::call::Work;
+use crate::call::{Asked, Work};
 use crate::run::Run;
 use comparison::given::{pools, requests};
 use comparison::rng::Rng;
 use comparison::Difference;
 use model::change::Request;
+use model::regions::REGIONS_WORDS;
 use model::shape::{Shape, LEAF};
 use model::walk::read;
 
@@ -159,4 +160,70 @@ fn unsettled(shape: Shape) -> Vec<u32> {
     pool[shape.middle(0)..shape.middle(1)].fill(0x8000_0000);
     pool[0] = shape.middle(0) as u32;
     pool
+}
+
+/// A buffer of domain 1, from byte 0x1000 on, in two regions: domain 2 has an export of read in the first of them. Then
+/// a region of domain 2.
+static REGIONS: [u32; REGIONS_WORDS] =
+    list([[1, 0x400, 0x410, 0b100, 0b01_0000], [1, 0x410, 0x420, 0, 0], [2, 0x500, 0x520, 0, 0]], 3);
+/// A list that holds more regions than there are.
+static TOO_MANY: [u32; REGIONS_WORDS] = list([], 65);
+
+const fn list<const N: usize>(held: [[u32; 5]; N], count: u32) -> [u32; REGIONS_WORDS] {
+    let mut words = [0; REGIONS_WORDS];
+    let mut at = 0;
+    while at < 5 * N {
+        words[at] = held[at / 5][at % 5];
+        at += 1;
+    }
+    words[REGIONS_WORDS - 1] = count;
+    words
+}
+
+fn by(caller: u32, domain: u32, start: u32, length: u32, right: u32) -> Work {
+    Work::ChangeBy(Asked { caller, request: Request { domain, start, length, right }, regions: &REGIONS })
+}
+
+/// Changes that the regions let a caller make, one after the other, and after each of them ones that they do not.
+pub fn callers(run: &mut Run, _: usize) -> Result<(), Difference> {
+    let shape = Shape::new(3, 2, 2);
+    let allowed = [
+        by(1, 0, 0x1000, 0x80, 2),
+        by(2, 0, 0x1000, 0x40, 1),
+        by(0, 0, 0x1080, 0x40, 1),
+        by(1, 0, 0x103F, 2, 3),
+        by(1, 0, 0x1000, 0x80, 0),
+        by(0, 0, 0x1080, 0x380, 0),
+    ];
+    let mut pool = shape.fresh();
+    for work in allowed {
+        run.make(&mut pool, shape, work)?;
+        // Beyond the last word, before the first, between the ends; more than the export, and for the exporter itself.
+        let refused = [
+            by(1, 0, 0x1000, 0x81, 1),
+            by(1, 2, 0xFFF, 0x81, 1),
+            by(0, 1, 0xF00, 0x200, 3),
+            by(2, 1, 0x1000, 4, 2),
+            by(2, 2, 0x1000, 4, 1),
+        ];
+        refused.iter().try_for_each(|work| run.watch(&pool, shape, *work))?;
+    }
+    refused_callers(run, shape)
+}
+
+/// The other refusals of a change by a caller.
+fn refused_callers(run: &mut Run, shape: Shape) -> Result<(), Difference> {
+    let fresh = shape.fresh();
+    let fine = by(1, 2, 0x1000, 0x40, 2);
+    run.watch(&fresh, Shape::new(3, 2, 3), fine)?;
+    let request = Request { domain: 0, start: 0, length: 4, right: 1 };
+    run.watch(&fresh, shape, Work::ChangeBy(Asked { caller: 0, request, regions: &TOO_MANY }))?;
+    let requests =
+        [by(3, 0, 0, 4, 1), by(0, 3, 0, 4, 1), by(0, 0, 0, 4, 4), by(0, 0, 0, 0, 1), by(0, 0, 2, u32::MAX, 1)];
+    requests.iter().try_for_each(|work| run.watch(&fresh, shape, *work))?;
+    let pool = unsound(&mut run.rng, shape);
+    run.watch(&pool, shape, fine)?;
+    run.watch(&unsettled(shape), shape, fine)?;
+    let alone = Shape::new(3, 0, 0);
+    run.watch(&alone.fresh(), alone, fine)
 }

@@ -1,7 +1,8 @@
 //! Kinds of calls, by what they do to the tables. The model tells, so that a kind says what the paper means by it.
 
-use crate::call::{Call, Work};
+use crate::call::{Asked, Call, Work};
 use model::change;
+use model::regions::{change_by, Regions};
 use model::shape::Shape;
 use model::state::{Owners, State};
 
@@ -14,6 +15,9 @@ const LEAVES: [&str; 3] = ["a leaf is made", "a leaf is given up", "a leaf takes
 pub fn effect(call: &Call, pool: &[u32]) -> Vec<&'static str> {
     let states = match call.work {
         Work::Change(request) => change::change(pool, call.shape, request),
+        Work::ChangeBy(Asked { caller, request, regions }) => {
+            change_by(pool, call.shape, &Regions::from_words(regions), caller, request)
+        }
         Work::Tidying => change::tidy(pool, call.shape),
     };
     let Ok((before, after)) = states else {

@@ -72,6 +72,7 @@ impl Run {
     fn note(&mut self, call: &Call, script: &Script, allowance: &str) {
         let name = match call.work {
             Work::Change(_) => "change",
+            Work::ChangeBy(_) => "change by a caller",
             Work::Tidying => "tidying",
         };
         self.tally.answered(name, script.number);

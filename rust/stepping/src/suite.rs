@@ -147,4 +147,23 @@ pub const ALL: &[Group] = &[
         answers: &[("change", &[1, 2, 3, 4, 5, 6, 7, 8]), ("tidying", &[1, 6])],
         kinds: &[],
     },
+    Group {
+        name: "changes by callers",
+        seed: 6,
+        turns: [1, 1],
+        body: cases::callers,
+        answers: &[("change by a caller", &[0, 1, 2, 3, 4, 5, 6, 7, 8, 18, 19, 100])],
+        kinds: &[
+            "a middle table is made",
+            "a middle table is given up",
+            "a leaf is made",
+            "a leaf is given up",
+            "change by a caller with an allowance of none",
+            "change by a caller with an allowance of one",
+            "change by a caller with an allowance of half",
+            "change by a caller with an allowance of all but one",
+            "change by a caller with an allowance of all",
+            "change by a caller with an allowance of more than all",
+        ],
+    },
 ];

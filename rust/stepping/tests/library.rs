@@ -35,6 +35,7 @@ groups! {
     full_pools: "full pools",
     tidyings: "tidyings",
     refusals: "refusals",
+    changes_by_callers: "changes by callers",
 }
 
 /// Calls of other seeds, by hand: `SEEDS=3 cargo test --release -p stepping -- --ignored long_run --show-output`.

@@ -3,6 +3,7 @@
 
 use crate::entries::{eight, leads, right_at, sixteen, Paint, Region};
 use crate::plan::{Edge, Plan};
+use crate::regions::{self, allows};
 use crate::shape::Shape;
 use crate::sound::used_places;
 use crate::target::is_settled;
@@ -56,13 +57,52 @@ impl Stores<'_> {
 
 /// Refusals 2 to 8, or cut; the shape fits. Gives the number of stores.
 pub fn change(pool: &mut [u32], shape: Shape, request: Request, allowance: u32, order: [Phase; 3]) -> Result<u32, u32> {
+    let region = region(shape, request)?;
+    changed(pool, shape, request, region, allowance, order)
+}
+
+/// Refusals 18, 2 to 5, 19, 6 to 8, or cut; the shape fits. Gives the number of stores.
+pub fn change_by(
+    pool: &mut [u32],
+    shape: Shape,
+    regions: &[u32; 321],
+    caller: u32,
+    request: Request,
+    allowance: u32,
+) -> Result<u32, u32> {
+    if regions[regions::COUNT] > 64 {
+        return Err(18);
+    }
+    if caller >= shape.d {
+        return Err(2);
+    }
+    let region = region(shape, request)?;
+    if !allows(regions, caller, &request, region) {
+        return Err(19);
+    }
+    changed(pool, shape, request, region, allowance, SAFE_ORDER)
+}
+
+/// Refusals 2 to 5; else the rounded region.
+fn region(shape: Shape, request: Request) -> Result<Region, u32> {
     if request.domain >= shape.d {
         return Err(2);
     }
     if request.right > 3 {
         return Err(3);
     }
-    let region = Region::rounded(request.start, request.length)?;
+    Region::rounded(request.start, request.length)
+}
+
+/// Refusals 6 to 8, or cut.
+fn changed(
+    pool: &mut [u32],
+    shape: Shape,
+    request: Request,
+    region: Region,
+    allowance: u32,
+    order: [Phase; 3],
+) -> Result<u32, u32> {
     let paint = Paint { region, right: request.right };
     let used = used_places(pool, shape)?;
     if !is_settled(pool, shape) {

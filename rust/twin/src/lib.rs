@@ -12,6 +12,7 @@ mod gates;
 mod listing;
 mod lookup;
 mod plan;
+mod regions;
 mod shape;
 mod sound;
 mod step;
@@ -21,6 +22,7 @@ mod tidy;
 pub use change::{Phase, SAFE_ORDER};
 
 use change::Request;
+use regions::Asked;
 use shape::Shape;
 
 /// A change or tidying was cut.
@@ -34,6 +36,11 @@ fn deliver<const N: usize>(out: &mut [u32], answer: Result<[u32; N], u32>) -> u3
     for (word, result) in out.iter_mut().zip(results) {
         *word = result;
     }
+    answer.err().unwrap_or(0)
+}
+
+/// The number of an answer without results.
+fn number(answer: Result<(), u32>) -> u32 {
     answer.err().unwrap_or(0)
 }
 
@@ -85,6 +92,30 @@ pub fn change_ordered(
         .and_then(|shape| change::change(pool, shape, request, allowance, order))
         .map(|stores| [stores]);
     deliver(out, answer)
+}
+
+/// A change by a caller, of whom the regions say what it may.
+#[inline(never)]
+#[allow(clippy::too_many_arguments)]
+pub fn change_by(
+    pool: &mut [u32],
+    shape: &[u32],
+    regions: &[u32],
+    caller: u32,
+    domain: u32,
+    start: u32,
+    length: u32,
+    right: u32,
+    allowance: u32,
+    out: &mut [u32],
+) -> u32 {
+    let request = Request { domain, start, length, right };
+    let answer = match regions.try_into() {
+        Ok(regions) => Shape::fitting(pool, shape)
+            .and_then(|shape| change::change_by(pool, shape, regions, caller, request, allowance)),
+        Err(_) => Err(LENGTH),
+    };
+    deliver(out, answer.map(|stores| [stores]))
 }
 
 #[inline(never)]
@@ -173,4 +204,30 @@ pub fn set_return_gate(d: u32, gates: &mut [u32], domain: u32, address: u32) -> 
 #[inline(never)]
 pub fn remove_gate(d: u32, gates: &mut [u32], domain: u32, address: u32) -> u32 {
     gates.try_into().map_or(LENGTH, |gates| gates::remove(d, gates, domain, address))
+}
+
+#[inline(never)]
+pub fn make_region(d: u32, regions: &mut [u32], caller: u32, owner: u32, start: u32, length: u32) -> u32 {
+    let asked = Asked { caller, start, length };
+    number(regions.try_into().map_or(Err(LENGTH), |regions| regions::make(d, regions, asked, owner)))
+}
+
+#[inline(never)]
+pub fn pass_region(d: u32, regions: &mut [u32], caller: u32, owner: u32, start: u32, length: u32) -> u32 {
+    let asked = Asked { caller, start, length };
+    number(regions.try_into().map_or(Err(LENGTH), |regions| regions::pass(d, regions, asked, owner)))
+}
+
+#[inline(never)]
+pub fn give_export(
+    d: u32,
+    regions: &mut [u32],
+    caller: u32,
+    receiver: u32,
+    right: u32,
+    start: u32,
+    length: u32,
+) -> u32 {
+    let asked = Asked { caller, start, length };
+    number(regions.try_into().map_or(Err(LENGTH), |regions| regions::give(d, regions, asked, receiver, right)))
 }

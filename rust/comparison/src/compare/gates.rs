@@ -65,7 +65,7 @@ fn one_removal(run: &mut Run, d: u32, gates: &mut [u32]) -> Result<(), Differenc
     same_words(&what, gates, &must.to_words())
 }
 
-fn held_number(what: &str, number: u32, answer: Result<(), u32>) -> Result<(), Difference> {
+pub(super) fn held_number(what: &str, number: u32, answer: Result<(), u32>) -> Result<(), Difference> {
     let must = answer.err().unwrap_or(0);
     hold!(number == must, "{what}: answers {number}, must be {must}");
     Ok(())

@@ -1,12 +1,14 @@
-//! Starts and lengths of every remainder by 4: changes and region flushes at edges of words, entries, pages and blocks
-//! and at both ends of memory. Each is held against the model and against the bytes asked for, with no rounding at all:
-//! a word is covered exactly where one of its bytes is asked for, and 5 is given exactly where one lies past the end.
+//! Starts and lengths of every remainder by 4: changes, region flushes and new regions at edges of words, entries,
+//! pages and blocks and at both ends of memory. Each is held against the model and against the bytes asked for, with no
+//! rounding at all: a word is covered exactly where one of its bytes is asked for, and 5 is given exactly where one
+//! lies past the end.
 
 use super::cuts::every_cut;
 use super::{same_words, Expected, Run, MARK};
 use crate::{hold, Difference};
 use model::buffer::{Buffer, BUFFER_WORDS, SLOTS};
 use model::change::{differing, Request};
+use model::regions::{Asked, REGIONS_WORDS};
 use model::shape::Shape;
 use model::state::State;
 use std::ops::Range;
@@ -44,7 +46,8 @@ fn one_length(run: &mut Run, start: u32, length: u32) -> Result<(), Difference> 
         _ => 0,
     };
     one_change(run, start, length, must, &asked)?;
-    one_flush(run, start, length, must, &asked)
+    one_flush(run, start, length, must, &asked)?;
+    one_region(run, start, length, must, &asked)
 }
 
 /// Tells the tally what was done with the region, and where it ends: before the last word, with it, or past it.
@@ -126,6 +129,22 @@ fn one_flush(run: &mut Run, start: u32, length: u32, must: u32, asked: &Range<u6
     run.tally.answered("flush of a region", number);
     note(run, "flush of a region", "", start, length);
     Ok(())
+}
+
+/// A region in an empty list: it holds the words of which a byte is asked for.
+fn one_region(run: &mut Run, start: u32, length: u32, must: u32, asked: &Range<u64>) -> Result<(), Difference> {
+    let mut list = [0; REGIONS_WORDS];
+    let number = run.subject.make_region(&mut list, Asked { d: 2, caller: 0, start, length }, 1);
+    let what = format!("making a region, start {start:#x}, length {length:#x}");
+    hold!(number == must, "{what}: answers {number}, must be {must} by its bytes");
+    let mut made = [0; REGIONS_WORDS];
+    if number == 0 {
+        made[..3].copy_from_slice(&[1, (asked.start / 4) as u32, asked.end.div_ceil(4) as u32]);
+        made[REGIONS_WORDS - 1] = 1;
+    }
+    run.tally.answered("making a region", number);
+    note(run, "making a region", "", start, length);
+    same_words(&what, &list, &made)
 }
 
 const BITS: [u32; 3] = [22, 12, 6];

@@ -4,16 +4,22 @@
 use super::listings::part;
 use super::pools::held_stores;
 use super::{same_words, Expected, Run, MARK};
-use crate::given::{pools, requests, shapes, states};
-use crate::subject::Step;
+use crate::given::{pools, regions, requests, shapes, states};
+use crate::subject::{By, Step};
 use crate::Difference;
 use model::buffer::{Access, Buffer, BUFFER_WORDS};
 use model::change::{change, tidy};
 use model::face::{shape_of, EIGHTS, SHAPE_WORDS};
 use model::gates::{Gates, GATES_WORDS};
 use model::listing::list;
+use model::regions::{change_by, Regions, REGIONS_WORDS};
 use model::step::{CallStack, STACK_WORDS};
 use model::walk::lookup;
+
+type Call = fn(&mut Run, &[u32], &[u32]) -> Result<(), Difference>;
+
+const CALLS: [Call; 8] =
+    [one_fresh, one_change, one_change_by, one_tidying, one_lookup, one_listing, one_check, one_step];
 
 /// `count` pools, each with a few lent shapes in calls of every kind.
 pub fn shapes(run: &mut Run, count: usize) -> Result<(), Difference> {
@@ -26,7 +32,7 @@ pub fn shapes(run: &mut Run, count: usize) -> Result<(), Difference> {
         for _ in 0..6 {
             let shape = shapes::lent(&mut run.rng, made);
             note(run, &shape);
-            for call in [one_fresh, one_change, one_tidying, one_lookup, one_listing, one_check, one_step] {
+            for call in CALLS {
                 call(run, &pool, &shape)?;
             }
         }
@@ -64,6 +70,23 @@ fn one_change(run: &mut Run, pool: &[u32], shape: &[u32]) -> Result<(), Differen
     run.tally.answered("change by a lent shape", number);
     let answer = shape_of(shape, &[]).and_then(|shape| change(pool, shape, request));
     held_stores(&format!("{request:x?} by {shape:x?}"), answer, allowance, number, &out, pool, &copy)
+}
+
+fn one_change_by(run: &mut Run, pool: &[u32], shape: &[u32]) -> Result<(), Difference> {
+    let held = regions::list(&mut run.rng, 2);
+    let (caller, request) = regions::request(&mut run.rng, &held, 2);
+    let lent = resized(run, held);
+    let allowance = if run.rng.once_in(3) { run.rng.below(4) } else { u32::MAX };
+    let lengths = [(lent.len(), REGIONS_WORDS)];
+    note_lengths(run, shape, &lengths);
+    let (mut copy, mut out) = (pool.to_vec(), run.lend());
+    let by = By { regions: &lent, caller, request, allowance };
+    let number = run.subject.change_by(&mut copy, shape, by, &mut out);
+    run.tally.answered("change by a caller by a lent shape", number);
+    let answer = shape_of(shape, &lengths)
+        .and_then(|shape| change_by(pool, shape, &Regions::from_words(&lent), caller, request));
+    let what = format!("{request:x?} by {caller:#x} by {shape:x?} with a list of {} words", lent.len());
+    held_stores(&what, answer, allowance, number, &out, pool, &copy)
 }
 
 fn one_tidying(run: &mut Run, pool: &[u32], shape: &[u32]) -> Result<(), Difference> {

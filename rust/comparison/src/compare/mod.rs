@@ -1,5 +1,6 @@
 //! The comparisons: each runs a subject on generated inputs and holds every answer against the model.
 
+pub mod callers;
 pub mod cuts;
 pub mod gates;
 pub mod lengths;
@@ -7,6 +8,7 @@ pub mod lent;
 pub mod life;
 pub mod listings;
 pub mod pools;
+pub mod regions;
 pub mod rows;
 pub mod series;
 pub mod slots;

@@ -1,7 +1,8 @@
-//! Generated inputs: shapes, requests, pools and states, each mostly in order and sometimes not.
+//! Generated inputs: shapes, requests, pools, states and region lists, each mostly in order and sometimes not.
 
 pub mod lines;
 pub mod pools;
+pub mod regions;
 pub mod requests;
 pub mod shapes;
 pub mod states;

@@ -6,7 +6,7 @@ use model::buffer::{BUFFER_WORDS, SLOTS};
 use model::gates::{GATES, GATES_WORDS};
 use model::step::{FRAMES, STACK_WORDS};
 
-fn words(rng: &mut Rng, count: usize) -> Vec<u32> {
+pub(super) fn words(rng: &mut Rng, count: usize) -> Vec<u32> {
     (0..count).map(|_| rng.word()).collect()
 }
 
