@@ -59,6 +59,10 @@ BARE = {
     ("goleuthan", "gol_remove_gate", "address"): "a number from C",
     ("goleuthan", "gol_step", "address"): "a number from C",
     ("goleuthan", "gol_step", "target"): "a number from C",
+    ("goleuthan", "gol_make_region", "start"): "a number from C",
+    ("goleuthan", "gol_pass_region", "start"): "a number from C",
+    ("goleuthan", "gol_give_export", "start"): "a number from C",
+    ("goleuthan", "gol_change_by", "start"): "a number from C",
     ("goleuthan", "give_word", "at"): "a word of the results",
     ("lookaside", "slot_at", "at"): "a word of a lent state",
     ("lookaside", "put_slot", "at"): "a word of a lent state",
@@ -85,7 +89,7 @@ OFFSETS = {
 }
 
 # The names of slices of words that are not the pool.
-SLICES = {"owners", "runs", "turns", "out", "ws", "shape", "buffer", "gates", "stack", "part"}
+SLICES = {"owners", "runs", "turns", "out", "ws", "shape", "buffer", "gates", "stack", "regions", "part"}
 
 
 def closing(text, start, pair):

@@ -1,5 +1,5 @@
--- Series of changes, by the supervisor and by callers, and of tidyings, from a fresh pool on, each of them finished, cut
--- or refused; which right a word may then have; and what there is room for.
+-- Series of changes, by the supervisor and by callers, and of tidyings, from a fresh pool on, each of them finished,
+-- cut or refused; which right a word may then have; and what there is room for.
 use Prim.Native.Nat.{ℕ, _<_}
 use mathlib.Core.Path.{_≡_}
 use mathlib.Core.Logic.{_⊎_}

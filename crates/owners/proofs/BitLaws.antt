@@ -1,4 +1,5 @@
--- Laws of a bit set and a right replaced inside a word: they take effect, they leave the others as they were, and the word still fits.
+-- Laws of a bit set and a right replaced inside a word: they take effect, they leave the others as they were, and the
+-- word still fits.
 use Prim.Native.Nat.{ℕ, zero, suc, _+_, _*_, _/_, _%_, _^_, _≤_, _<_}
 use mathlib.Core.Path.{_≡_, refl, sym, ap, _∙_}
 use native.Mathlib.Omega.{arith}
@@ -51,10 +52,14 @@ bit-others (suc k) (suc j) g n e =
     ∙ bit-others k j (g / 2) (λ z. n (ap suc z)) (λ z. e (sym (bit-half g k) ∙ z)) ∙ bit-half g j
 
 pub with-bit-set : (g k : ℕ) → bitAt (withBit g k) k ≡ 1
-with-bit-set g k = by-cases (eqb (bitAt g k) 1) (λ e. rw e (eqb-true (bitAt g k) 1 e)) (λ e. rw e (bit-added k g (eqb-false (bitAt g k) 1 e)))
+with-bit-set g k = by-cases (eqb (bitAt g k) 1)
+    (λ e. rw e (eqb-true (bitAt g k) 1 e))
+    (λ e. rw e (bit-added k g (eqb-false (bitAt g k) 1 e)))
 
 pub with-bit-other : (g k j : ℕ) → (j ≡ k → ⊥) → bitAt (withBit g k) j ≡ bitAt g j
-with-bit-other g k j n = by-cases (eqb (bitAt g k) 1) (λ e. rw e) (λ e. rw e (bit-others k j g n (eqb-false (bitAt g k) 1 e)))
+with-bit-other g k j n = by-cases (eqb (bitAt g k) 1)
+    (λ e. rw e)
+    (λ e. rw e (bit-others k j g n (eqb-false (bitAt g k) 1 e)))
 
 four : (n : ℕ) → 2 ^ (2 * suc n) ≡ 4 * 2 ^ (2 * n)
 four n =
@@ -102,7 +107,8 @@ replaced-fits (suc n) (suc k) w x q h l b e =
 
 replaced-here : (k w x q : ℕ) → q < 4 → Replaced w x k q → rightAt x k ≡ q
 replaced-here zero w x q l e = omega arith
-replaced-here (suc k) w x q l e = sym (right-quarter x k) ∙ replaced-here k (w / 4) (x / 4) q l (replaced-quarter w x k q e .0)
+replaced-here (suc k) w x q l e =
+    sym (right-quarter x k) ∙ replaced-here k (w / 4) (x / 4) q l (replaced-quarter w x k q e .0)
 
 replaced-other : (k j w x q : ℕ) → (j ≡ k → ⊥) → q < 4 → Replaced w x k q → rightAt x j ≡ rightAt w j
 replaced-other zero zero w x q n l e = absurd (n refl)
@@ -111,7 +117,8 @@ replaced-other zero (suc j) w x q n l e =
     sym (right-quarter x j) ∙ ap (λ y. rightAt y j) d ∙ right-quarter w j
 replaced-other (suc k) zero w x q n l e = let p = replaced-quarter w x k q e .1 in omega arith
 replaced-other (suc k) (suc j) w x q n l e =
-    sym (right-quarter x j) ∙ replaced-other k j (w / 4) (x / 4) q (λ z. n (ap suc z)) l (replaced-quarter w x k q e .0) ∙ right-quarter w j
+    sym (right-quarter x j)
+    ∙ replaced-other k j (w / 4) (x / 4) q (λ z. n (ap suc z)) l (replaced-quarter w x k q e .0) ∙ right-quarter w j
 
 with-right-replaced : (w k q : ℕ) → Replaced w (withRight w k q) k q
 with-right-replaced w k q = let t = right-there w k in omega arith

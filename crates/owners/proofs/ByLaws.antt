@@ -1,7 +1,7 @@
 -- A change by a caller: it is as the supervisor's own, or it is refused and leaves the pool; one that is not refused
 -- was allowed on every word that it covers; and each input has one outcome.
 use Prim.Native.Nat.{ℕ}
-use mathlib.Core.Path.{_≡_, refl, sym, ap}
+use mathlib.Core.Path.{_≡_, refl, ap}
 use mathlib.Core.Logic.{_≢_, _⊎_, inl, inr, ⊎-elim}
 use mathlib.Core.List.{List}
 use native.Mathlib.Omega.{arith}

@@ -1,6 +1,6 @@
 -- A list whose regions are disjoint stays so: through making, passing on and giving an export. A region made shares no
 -- word with one held, and one stored over another holds the same words.
-use Prim.Native.Nat.{ℕ, _+_, _≤_, _<_}
+use Prim.Native.Nat.{ℕ, _≤_, _<_}
 use mathlib.Core.Path.{_≡_, refl, sym, ap, _∙_}
 use mathlib.Core.Bool.{true, false, _&&_, true≢false}
 use mathlib.Core.List.{List}
@@ -19,7 +19,8 @@ use Rattle.owners.proofs.PlaceLaws.{place-at, place-before}
 use Rattle.owners.proofs.ReachLaws.{held-word, word-held, lesser-above}
 use Rattle.owners.proofs.CallLaws.{owned-held}
 use Rattle.owners.proofs.StoreLaws.{put-same, put-other, put-count, added-count, added-last, added-other}
-use Rattle.owners.proofs.OutcomeLaws.{Ends, kept, done, Made, Owns, Passed, Gave, make-ends, pass-ends, give-ends}
+use Rattle.owners.proofs.OutcomeLaws.{Ends, kept, done, Made, Owns, make-ends, pass-ends}
+use Rattle.owners.proofs.OutcomeLaws.{give-ends}
 
 greater-below : (a b w : ℕ) → a ≤ w → b ≤ w → greater a b ≤ w
 greater-below a b w g h = by-cases (ltb a b) (λ e. rw e h) (λ e. rw e g)

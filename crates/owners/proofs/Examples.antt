@@ -1,7 +1,7 @@
 -- Owned regions, computed: who may on which word, what the calls leave, and the refusals in their order.
 use Prim.Native.Nat.{ℕ}
 use mathlib.Core.Path.{_≡_, refl}
-use mathlib.Core.Bool.{Bool, true, false}
+use mathlib.Core.Bool.{true, false}
 use mathlib.Core.List.{List, [], _∷_, _++_}
 use lib.ListN.{replicate}
 use Rattle.words.specs.declared.Region.{Region}
@@ -84,7 +84,8 @@ region-given : regionAt given 0 ≡ owned 1 1024 1028 8 64
 unfolding askedOf regionOf made firstFrom gave
 region-given = refl
 
-export-may : mayWord given 3 2 1 1027 ∷ mayWord given 3 2 2 1027 ∷ mayWord given 3 3 1 1027 ∷ mayWord given 3 2 0 1028 ∷ []
+export-may : mayWord given 3 2 1 1027 ∷ mayWord given 3 2 2 1027 ∷ mayWord given 3 3 1 1027 ∷ mayWord given 3 2 0 1028
+    ∷ []
     ≡ true ∷ false ∷ false ∷ false ∷ []
 unfolding askedOf regionOf made firstFrom gave
 export-may = refl
@@ -118,7 +119,7 @@ makes-refused : makeOf 5 (replicate 320 0) 4 9 0 0 .refusal ∷ makeOf 5 many 4 
 unfolding askedOf regionOf made firstFrom
 makes-refused = refl
 
--- Giving refuses 3 after 2 and before 4; and 19 for words of no region, for another's region, and for the caller itself.
+-- Giving refuses 3 after 2 and before 4; and 19 for words of no region, for another's, and for the caller itself.
 gives-refused : giveOf 4 two 1 4 4 4096 0 .refusal ∷ giveOf 4 two 1 3 4 4096 0 .refusal
     ∷ giveOf 4 two 1 3 3 4096 0 .refusal ∷ giveOf 4 two 1 3 3 4096 12 .refusal ∷ giveOf 4 two 2 3 3 4096 16 .refusal
     ∷ giveOf 4 two 1 1 3 4096 16 .refusal ∷ giveOf 4 two 1 3 3 4096 16 .refusal ∷ []

@@ -1,9 +1,9 @@
 -- What each call moves: after a region is made or passed on, its words are the new owner's alone; after an export is
 -- given, its receiver may set what the export says; and for every other word, and every other caller, nothing moved.
-use Prim.Native.Nat.{ℕ, _+_, _/_, _%_, _^_, _≤_, _<_}
+use Prim.Native.Nat.{ℕ, _+_, _^_, _≤_, _<_}
 use mathlib.Core.Path.{_≡_, refl, sym, ap, _∙_}
 use mathlib.Core.Logic.{_≢_}
-use mathlib.Core.Bool.{Bool, true, false, not, cond, _&&_, _||_, true≢false, or-false}
+use mathlib.Core.Bool.{true, false, not, _&&_, true≢false, or-false}
 use mathlib.Core.List.{List}
 use native.Mathlib.Omega.{arith}
 use native.Mathlib.Nat.{zero-div}
@@ -15,14 +15,14 @@ use Rattle.theory.proofs.Logic.{by-cases}
 use Rattle.words.specs.declared.Region.{Region}
 use Rattle.owners.specs.declared.Owned.{Owned}
 use Rattle.owners.specs.Regions.{listLong, maxRegions, regionAt, countOf, holds, placeOf, Disjoint}
-use Rattle.owners.specs.Rules.{exportDomains, noGreater, exports, exportOf, mayIn, mayAt, mayWord}
+use Rattle.owners.specs.Rules.{exportDomains, noGreater, exports, mayIn, mayAt, mayWord}
 use Rattle.owners.specs.Calls.{sameWords, freshRegion, putAt, added, withExport}
 use Rattle.owners.proofs.PlaceLaws.{place-most, place-at, place-before, place-is}
 use Rattle.owners.proofs.ReachLaws.{not-held, word-held}
 use Rattle.owners.proofs.CallLaws.{owned-held}
 use Rattle.owners.proofs.ExportLaws.{export-given, export-right, export-kept, export-right-kept}
 use Rattle.owners.proofs.StoreLaws.{put-same, put-other, put-count, added-count, added-last, added-other}
-use Rattle.owners.proofs.OutcomeLaws.{Made, Owns, Passed, Gave}
+use Rattle.owners.proofs.OutcomeLaws.{Made, Passed, Gave}
 use Rattle.owners.proofs.DisjointLaws.{apart-all, found-words}
 
 -- A word of region `k`, before which none holds it.
@@ -136,8 +136,8 @@ module _ (list : List ℕ) (by owner : ℕ) (after : List ℕ) (m : Passed list 
       let r = freshRegion owner (m .words) in
       let k = owned-held list by _ (o .owned) in
       rw (m .now-is)
-      (put-inside list (placeOf list (sameWords (m .words))) r (o .long) k (o .few) (found-words list (m .words) owner k)
-      w d (word-held r w g h) caller domain right ∙ fresh-may owner (m .words) caller domain right)
+      (put-inside list (placeOf list (sameWords (m .words))) r (o .long) k (o .few)
+      (found-words list (m .words) owner k) w d (word-held r w g h) caller domain right ∙ fresh-may owner (m .words) caller domain right)
 
   pub passed-outside : holds w (freshRegion owner (m .words)) ≡ false → (caller domain right : ℕ)
       → mayWord after caller domain right w ≡ mayWord list caller domain right w

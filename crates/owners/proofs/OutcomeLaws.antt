@@ -3,7 +3,7 @@
 use Prim.Native.Nat.{ℕ, _≤_, _<_}
 use mathlib.Core.Path.{_≡_, refl, sym}
 use mathlib.Core.Logic.{_≢_, ⊎-elim}
-use mathlib.Core.Bool.{Bool, true, false}
+use mathlib.Core.Bool.{Bool, true}
 use mathlib.Core.List.{List}
 use native.Mathlib.Omega.{arith}
 use borrow.Author.Tests.{eqb-true, eqb-false, ltb-true, ltb-false}
@@ -16,7 +16,8 @@ use Rattle.words.specs.declared.Rounded.the-variants.{Covers, Refused}
 use Rattle.owners.specs.Regions.{maxRegions, listLong, countOf, regionAt, placeOf}
 use Rattle.owners.specs.Calls.{Outcome, outcome, askedOf, inRange, answered, meets, sameWords, ownedAt}
 use Rattle.owners.specs.Calls.{freshRegion, putAt, added, withExport, made, passed, gave, makeOf, passOf, giveOf}
-use Rattle.owners.proofs.CallLaws.{InOrder, asked-in-order, asked-number, make-not-zero, make-meets, make-full, make-adds}
+use Rattle.owners.proofs.CallLaws.{InOrder, asked-in-order, asked-number, make-not-zero, make-meets}
+use Rattle.owners.proofs.CallLaws.{make-full, make-adds}
 use Rattle.owners.proofs.CallLaws.{pass-not, pass-goes, give-not, give-self, give-goes}
 
 -- Refused, with the list as it came; or done.

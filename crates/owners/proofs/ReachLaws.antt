@@ -1,13 +1,13 @@
--- Laws of the reach of a verdict: what a region holds, what is left of a stretch once it is passed, and the first region
--- of every word of the stretch.
+-- Laws of the reach of a verdict: what a region holds, what is left of a stretch once it is passed, and the first
+-- region of every word of the stretch.
 use Prim.Native.Nat.{ℕ, _+_, _≤_, _<_}
-use mathlib.Core.Path.{_≡_, sym, ap, _∙_}
-use mathlib.Core.Bool.{true, false, true≢false}
+use mathlib.Core.Path.{_≡_, sym}
+use mathlib.Core.Bool.{true, false}
 use mathlib.Core.List.{List}
 use native.Mathlib.Omega.{arith}
 use native.Mathlib.Decide.{ℕ-discrete}
-use borrow.Author.Tests.{ltb-true, ltb-false, leb-true, lt-ltb, le-ltb, le-leb, lt-leb}
-use lib.Dec.{leb, ltb}
+use borrow.Author.Tests.{ltb-true, ltb-false, leb-true, lt-ltb, le-leb, lt-leb}
+use lib.Dec.{ltb}
 use Rattle.theory.proofs.Logic.{by-cases, and-both}
 use Rattle.owners.specs.declared.Owned.{Owned}
 use Rattle.owners.specs.Regions.{regionAt, countOf, holds, placeOf}
@@ -65,7 +65,8 @@ free-above list w until i h =
 
 -- The region that holds `w` holds the stretch up to its own end.
 pub reach-hit : (list : List ℕ) (w until i : ℕ) → i < countOf list → w < until → regionAt list i .lo ≤ w
-    → w < regionAt list i .hi → Free list w until i → Reaches list w (record { place = i; until = lesser (regionAt list i .hi) until })
+    → w < regionAt list i .hi → Free list w until i
+    → Reaches list w (record { place = i; until = lesser (regionAt list i .hi) until })
 reach-hit list w until i few h from to f =
     let r = regionAt list i in
     let last = lesser (r .hi) until in

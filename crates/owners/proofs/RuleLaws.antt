@@ -1,5 +1,5 @@
--- Laws of who may set a right: a stretch of words with one verdict is passed at once, and the test is true exactly where
--- every covered word allows it.
+-- Laws of who may set a right: a stretch of words with one verdict is passed at once, and the test is true exactly
+-- where every covered word allows it.
 use Prim.Native.Nat.{ℕ, zero, suc, _+_, _-_, _≤_, _<_}
 use mathlib.Core.Path.{_≡_, sym, ap, _∙_}
 use mathlib.Core.Bool.{Bool, true, false, true≢false}
@@ -76,5 +76,6 @@ module _ (list : List ℕ) (caller domain right : ℕ) (region : Region) where
       × (Allowed list caller domain right region → allowedOf list caller domain right region ≡ true)
   allowed-exact = (true-allowed, allowed-true)
 
-  pub false-not-allowed : allowedOf list caller domain right region ≡ false → Allowed list caller domain right region → ⊥
+  pub false-not-allowed : allowedOf list caller domain right region ≡ false
+      → Allowed list caller domain right region → ⊥
   false-not-allowed e f = true≢false (sym (allowed-true f) ∙ e)

@@ -13,6 +13,8 @@ use Rattle.words.specs.declared.Rounded.the-variants.{Covers, Refused}
 use Rattle.words.specs.Rights.{rightAt}
 use Rattle.words.specs.Region.{regionOf}
 use Rattle.table.specs.Shape.{maxDomains}
+use Rattle.owners.specs.declared.Act.{Act}
+use Rattle.owners.specs.declared.Act.the-variants.{Make, Pass, Give}
 use Rattle.owners.specs.declared.Owned.{Owned}
 use Rattle.owners.specs.Regions.{maxRegions, listLong, countPlace, countOf, regionAt, placeOf}
 use Rattle.owners.specs.Rules.{supervisor}
@@ -120,17 +122,31 @@ gave list caller receiver right a =
     (outcome 0 (putAt list k (withExport (regionAt list k) receiver right)))
     (outcome 19 list)
 
--- What making a region answers and leaves. It names no right, and none is in order.
+-- What a call does with the region that it asks for.
+abbrev pub doneOf : Act → List ℕ → ℕ → ℕ → Region → Outcome
+doneOf Make list caller owner a = made list caller owner a
+doneOf Pass list caller owner a = passed list caller owner a
+doneOf (Give right) list caller receiver a = gave list caller receiver right a
+
+-- The right that it names; making and passing on name none, and 0 is in order.
+abbrev pub rightNamed : Act → ℕ
+rightNamed Make = 0
+rightNamed Pass = 0
+rightNamed (Give right) = right
+
+-- What a call on the list answers and leaves. `other` is the owner or receiver that it names.
+abbrev pub callOf : Act → ℕ → List ℕ → ℕ → ℕ → ℕ → ℕ → Outcome
+callOf act D list caller other start len =
+    answered list (doneOf act list caller other) (askedOf (inRange D) list D caller other (rightNamed act) start len)
+
+-- What making a region answers and leaves.
 abbrev pub makeOf : ℕ → List ℕ → ℕ → ℕ → ℕ → ℕ → Outcome
-makeOf D list caller owner start len =
-    answered list (made list caller owner) (askedOf (inRange D) list D caller owner 0 start len)
+makeOf D list caller owner start len = callOf Make D list caller owner start len
 
 -- What passing a region on answers and leaves.
 abbrev pub passOf : ℕ → List ℕ → ℕ → ℕ → ℕ → ℕ → Outcome
-passOf D list caller owner start len =
-    answered list (passed list caller owner) (askedOf (inRange D) list D caller owner 0 start len)
+passOf D list caller owner start len = callOf Pass D list caller owner start len
 
 -- What giving an export answers and leaves.
 abbrev pub giveOf : ℕ → List ℕ → ℕ → ℕ → ℕ → ℕ → ℕ → Outcome
-giveOf D list caller receiver right start len =
-    answered list (gave list caller receiver right) (askedOf (inRange D) list D caller receiver right start len)
+giveOf D list caller receiver right start len = callOf (Give right) D list caller receiver start len

@@ -19,7 +19,8 @@ abbrev pub askedBy : List ℕ → Shape → List ℕ → ℕ → ℕ → ℕ →
 askedBy p s list caller d start len r = askedOf (fitsOf s (length p)) list (s .domains) caller d r start len
 
 -- The change of the pool `p` by a caller, beside the list of owned regions, answers and leaves.
-pub data ChangesBy (p : List ℕ) (s : Shape) (list : List ℕ) (caller d start len r n : ℕ) : Answer → List ℕ → Type 0 where
+pub data ChangesBy (p : List ℕ) (s : Shape) (list : List ℕ) (caller d start len r n : ℕ)
+    : Answer → List ℕ → Type 0 where
   -- 101, 1, 18, 2, 3, 4 or 5.
   not-asked : (k : ℕ) → askedBy p s list caller d start len r ≡ NoRegion k
       → ChangesBy p s list caller d start len r n (Refused k) p

@@ -1,9 +1,9 @@
 -- Owned regions: what the lent words say, and which region comes first.
-use Prim.Native.Nat.{ℕ, zero, suc, _+_, _*_, _<_}
+use Prim.Native.Nat.{ℕ, zero, suc, _+_, _*_, _≤_, _<_}
 use mathlib.Core.Path.{_≡_}
 use mathlib.Core.Bool.{Bool, true, cond, _&&_}
 use mathlib.Core.List.{List}
-use lib.ListN.{getD}
+use lib.ListN.{length, getD}
 use lib.Dec.{leb, ltb}
 use Rattle.owners.specs.declared.Owned.{Owned}
 
@@ -32,6 +32,10 @@ regionAt list i = record {
 -- How many regions are held; those from that number on are idle.
 abbrev pub countOf : List ℕ → ℕ
 countOf list = getD list countPlace 0
+
+-- A list of its length, and no more regions held than it has room for.
+abbrev pub Counted : List ℕ → Type 0
+Counted list = (length list ≡ listLong) × (countOf list ≤ maxRegions)
 
 -- The memory word `w` lies in the region: one with hi at or below lo holds nothing.
 abbrev pub holds : ℕ → Owned → Bool

@@ -1,9 +1,10 @@
 // The calls on a list: what all of them refuse alike, and what each does once it is in order.
 ghost use mathlib.Core.Path.{_≡_};
-ghost use Prim.Native.Nat.{_<_, _≤_};
-ghost use lib.ListN.{length};
-ghost use Rattle.owners.specs.Regions.{maxRegions, listLong, countOf};
-ghost use Rattle.owners.specs.Calls.{outcome, askedOf, inRange, freshRegion, made, passed, gave};
+ghost use Prim.Native.Nat.{_<_};
+ghost use Rattle.owners.specs.Regions.{Counted};
+ghost use Rattle.owners.specs.Calls.{outcome, askedOf, inRange, freshRegion, made, passed, gave, doneOf};
+ghost use Rattle.owners.specs.Calls.{rightNamed, callOf};
+use crate::Act;
 use crate::Asking;
 use crate::COUNT;
 use crate::LIST_WORDS;
@@ -16,7 +17,7 @@ use words::ByteAddr;
 use words::Region;
 use words::Rounded;
 
-pub(crate) fn in_range(domains: u32) -> bool
+fn in_range(domains: u32) -> bool
     ensures { λ r. ⌜ r ≡ inRange domains ⌝ }
 {
     if domains < 1 {
@@ -74,8 +75,8 @@ fn fresh_region(owner: u32, region: Region) -> Owned
     }
 }
 
-pub(crate) fn make(ws: &mut [u32], caller: u32, owner: u32, region: Region) -> u32
-    requires { ⌜ (length (now ws) ≡ listLong) × (countOf (now ws) ≤ maxRegions) ⌝ }
+fn make(ws: &mut [u32], caller: u32, owner: u32, region: Region) -> u32
+    requires { ⌜ Counted (now ws) ⌝ }
     ensures { λ r. ⌜ outcome r (now (ws .exit)) ≡ made (now (ws .entry)) caller owner region ⌝ }
 {
     if caller != SUPERVISOR {
@@ -97,8 +98,8 @@ pub(crate) fn make(ws: &mut [u32], caller: u32, owner: u32, region: Region) -> u
     0
 }
 
-pub(crate) fn pass(ws: &mut [u32], caller: u32, owner: u32, region: Region) -> u32
-    requires { ⌜ (length (now ws) ≡ listLong) × (countOf (now ws) ≤ maxRegions) ⌝ }
+fn pass(ws: &mut [u32], caller: u32, owner: u32, region: Region) -> u32
+    requires { ⌜ Counted (now ws) ⌝ }
     ensures { λ r. ⌜ outcome r (now (ws .exit)) ≡ passed (now (ws .entry)) caller owner region ⌝ }
 {
     let asking = Asking::Same;
@@ -112,8 +113,8 @@ pub(crate) fn pass(ws: &mut [u32], caller: u32, owner: u32, region: Region) -> u
     0
 }
 
-pub(crate) fn give(ws: &mut [u32], caller: u32, receiver: u32, right: u32, region: Region) -> u32
-    requires { ⌜ (length (now ws) ≡ listLong) × (countOf (now ws) ≤ maxRegions) ⌝ }
+fn give(ws: &mut [u32], caller: u32, receiver: u32, right: u32, region: Region) -> u32
+    requires { ⌜ Counted (now ws) ⌝ }
     requires { ⌜ (receiver < 16) × (right < 4) ⌝ }
     ensures { λ r. ⌜ outcome r (now (ws .exit)) ≡ gave (now (ws .entry)) caller receiver right region ⌝ }
 {
@@ -130,4 +131,49 @@ pub(crate) fn give(ws: &mut [u32], caller: u32, receiver: u32, right: u32, regio
     let r = exports::with_export(old, receiver, right);
     list::put_region(ws, k, r);
     0
+}
+
+// What the call does with a region that is in order.
+fn act_on(act: Act, ws: &mut [u32], caller: u32, other: u32, region: Region) -> u32
+    requires { ⌜ Counted (now ws) ⌝ }
+    requires { ⌜ (other < 16) × (rightNamed act < 4) ⌝ }
+    ensures { λ r. ⌜ outcome r (now (ws .exit)) ≡ doneOf act (now (ws .entry)) caller other region ⌝ }
+{
+    match act {
+        Act::Make => make(ws, caller, other, region),
+        Act::Pass => pass(ws, caller, other, region),
+        Act::Give(right) => give(ws, caller, other, right, region),
+    }
+}
+
+fn right_named(act: Act) -> u32
+    ensures { λ r. ⌜ r ≡ rightNamed act ⌝ }
+{
+    match act {
+        Act::Make => 0,
+        Act::Pass => 0,
+        Act::Give(right) => right,
+    }
+}
+
+// A call on the list: what all of them refuse alike, and then what it is to do.
+pub(crate) fn call(
+    act: Act,
+    domains: u32,
+    ws: &mut [u32],
+    caller: u32,
+    other: u32,
+    start: ByteAddr,
+    length: u32,
+) -> u32
+    ensures { λ r. ⌜ outcome r (now (ws .exit)) ≡ callOf act domains (now (ws .entry)) caller other (start .0)
+        length ⌝ }
+{
+    let fits = in_range(domains);
+    let right = right_named(act);
+    let asked = ask(fits, ws, domains, caller, other, right, start, length);
+    match asked {
+        Rounded::Refused(n) => n,
+        Rounded::Covers(region) => act_on(act, ws, caller, other, region),
+    }
 }

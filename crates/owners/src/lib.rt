@@ -37,6 +37,13 @@ pub struct Owned {
     pub rights: u32,
 }
 
+// What a call on the list is to do with the region that it names.
+pub enum Act {
+    Make,
+    Pass,
+    Give(u32),
+}
+
 // What is asked of a region held, beside one that a call names: whether it is of the same words, or shares one.
 pub enum Asking {
     Same,
@@ -62,12 +69,8 @@ pub fn make_region(
     ensures { λ r. ⌜ outcome r (now (regions .exit)) ≡ makeOf domains (now (regions .entry)) caller owner (start .0)
         length ⌝ }
 {
-    let fits = calls::in_range(domains);
-    let asked = calls::ask(fits, regions, domains, caller, owner, 0, start, length);
-    match asked {
-        Rounded::Refused(n) => n,
-        Rounded::Covers(region) => calls::make(regions, caller, owner, region),
-    }
+    let act = Act::Make;
+    calls::call(act, domains, regions, caller, owner, start, length)
 }
 
 // A whole region passed on by its owner, which ends its exports.
@@ -82,12 +85,8 @@ pub fn pass_region(
     ensures { λ r. ⌜ outcome r (now (regions .exit)) ≡ passOf domains (now (regions .entry)) caller owner (start .0)
         length ⌝ }
 {
-    let fits = calls::in_range(domains);
-    let asked = calls::ask(fits, regions, domains, caller, owner, 0, start, length);
-    match asked {
-        Rounded::Refused(n) => n,
-        Rounded::Covers(region) => calls::pass(regions, caller, owner, region),
-    }
+    let act = Act::Pass;
+    calls::call(act, domains, regions, caller, owner, start, length)
 }
 
 // An export of a right on a whole region, given by its owner to another domain.
@@ -103,21 +102,8 @@ pub fn give_export(
     ensures { λ r. ⌜ outcome r (now (regions .exit)) ≡ giveOf domains (now (regions .entry)) caller receiver right
         (start .0) length ⌝ }
 {
-    let fits = calls::in_range(domains);
-    let asked = calls::ask(
-        fits,
-        regions,
-        domains,
-        caller,
-        receiver,
-        right,
-        start,
-        length,
-    );
-    match asked {
-        Rounded::Refused(n) => n,
-        Rounded::Covers(region) => calls::give(regions, caller, receiver, right, region),
-    }
+    let act = Act::Give(right);
+    calls::call(act, domains, regions, caller, receiver, start, length)
 }
 
 // A change by a caller: refused 19 where a covered word does not allow it, else the change itself.

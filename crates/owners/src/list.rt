@@ -2,7 +2,7 @@
 ghost use mathlib.Core.Path.{_≡_};
 ghost use Prim.Native.Nat.{_+_, _*_, _≤_};
 ghost use lib.ListN.{length};
-ghost use Rattle.owners.specs.Regions.{maxRegions, listLong, regionAt, countOf, placeOf};
+ghost use Rattle.owners.specs.Regions.{Counted, regionAt, placeOf};
 ghost use Rattle.owners.specs.Calls.{lesser, greater, meets, sameWords, ownedAt, putAt};
 ghost use Rattle.owners.specs.Reach.{asks, boundsOf};
 use crate::Asking;
@@ -101,7 +101,7 @@ fn is_asked(asking: Asking, region: Region, r: Owned) -> bool
 // The number of the first region held that is asked for, or the count. The earlier of two counts because the search
 // goes up.
 pub(crate) fn place_of(ws: &[u32], asking: Asking, region: Region) -> usize
-    requires { ⌜ (length (now ws) ≡ listLong) × (countOf (now ws) ≤ maxRegions) ⌝ }
+    requires { ⌜ Counted (now ws) ⌝ }
     ensures { λ k. ⌜ k ≡ placeOf (now (ws .entry)) (asks asking region) ⌝ }
 {
     let n = ws[COUNT];
@@ -120,7 +120,7 @@ pub(crate) fn place_of(ws: &[u32], asking: Asking, region: Region) -> usize
 
 // Whether the region is held and the caller's.
 pub(crate) fn owned_at(ws: &[u32], caller: u32, k: usize) -> bool
-    requires { ⌜ (length (now ws) ≡ listLong) × (countOf (now ws) ≤ maxRegions) ⌝ }
+    requires { ⌜ Counted (now ws) ⌝ }
     ensures { λ b. ⌜ b ≡ ownedAt (now (ws .entry)) caller k ⌝ }
 {
     let n = ws[COUNT];

@@ -1,8 +1,7 @@
 // Who may set a right: by a region, on a word, and on all words of a region at once.
 ghost use mathlib.Core.Path.{_≡_};
-ghost use Prim.Native.Nat.{_<_, _≤_};
-ghost use lib.ListN.{length};
-ghost use Rattle.owners.specs.Regions.{maxRegions, listLong, countOf};
+ghost use Prim.Native.Nat.{_<_};
+ghost use Rattle.owners.specs.Regions.{Counted};
 ghost use Rattle.owners.specs.Rules.{exports, noGreater, mayIn, mayAt, allowedOf};
 ghost use Rattle.owners.specs.Reach.{Reaches};
 use crate::COUNT;
@@ -16,7 +15,7 @@ use words::Region;
 // The earliest region that holds a word, and how far that stays so. One pass over the regions: those before it shorten
 // the stretch.
 fn reach_from(ws: &[u32], w: u32, end: u32) -> Reach
-    requires { ⌜ (length (now ws) ≡ listLong) × (countOf (now ws) ≤ maxRegions) ⌝ }
+    requires { ⌜ Counted (now ws) ⌝ }
     requires { ⌜ w < end ⌝ }
     ensures { λ r. ⌜ Reaches (now (ws .entry)) w r ⌝ }
 {
@@ -91,7 +90,7 @@ fn may_in(r: Owned, caller: u32, domain: u32, right: u32) -> bool
 
 // Whether a word of the region of this number allows it; the count is no region.
 fn may_at(ws: &[u32], k: usize, caller: u32, domain: u32, right: u32) -> bool
-    requires { ⌜ (length (now ws) ≡ listLong) × (countOf (now ws) ≤ maxRegions) ⌝ }
+    requires { ⌜ Counted (now ws) ⌝ }
     ensures { λ b. ⌜ b ≡ mayAt (now (ws .entry)) k caller domain right ⌝ }
 {
     let n = ws[COUNT];
@@ -106,7 +105,7 @@ fn may_at(ws: &[u32], k: usize, caller: u32, domain: u32, right: u32) -> bool
 // Whether every word of the region allows the change. It goes from boundary to boundary: a verdict holds as far as the
 // word's region stays the same.
 pub(crate) fn allowed(ws: &[u32], caller: u32, domain: u32, right: u32, region: Region) -> bool
-    requires { ⌜ (length (now ws) ≡ listLong) × (countOf (now ws) ≤ maxRegions) ⌝ }
+    requires { ⌜ Counted (now ws) ⌝ }
     ensures { λ b. ⌜ b ≡ allowedOf (now (ws .entry)) caller domain right region ⌝ }
 {
     let end = region.hi;

@@ -24,22 +24,27 @@ returns : tie.Need-returns
 returns c =
     let a = c .before .before .before .before .before .before .args in
     give-not (a .ws .now) (a .caller) (a .receiver) (a .right) (a .region)
-    (ap (ownedAt (a .ws .now) (a .caller)) (sym (c .before .before .before .place-of .ensures)) ∙ sym (c .before .owned-at .ensures) ∙ not-true _ (c .if1 .taken))
+    (ap (ownedAt (a .ws .now) (a .caller)) (sym (c .before .before .before .place-of .ensures))
+    ∙ sym (c .before .owned-at .ensures) ∙ not-true _ (c .if1 .taken))
 
 same-length-2 : tie.Need-same-length-2
 same-length-2 c = search needs
 
--- The caller owns the region found, so it is present.
-module _ (c : tie.Else1) where
-  owned : let a = c .before .before .before .before .before .before .args in ownedAt (a .ws .now) (a .caller) (placeOf (a .ws .now) (sameWords (a .region))) ≡ true
-  owned =
-      let a = c .before .before .before .before .before .before .args in
-      ap (ownedAt (a .ws .now) (a .caller)) (sym (c .before .before .before .place-of .ensures)) ∙ sym (c .before .owned-at .ensures) ∙ not-false _ (c .if1 .left)
+-- The caller owns the region found ..
+owned : (c : tie.Else1) → let a = c .before .before .before .before .before .before .args in
+    ownedAt (a .ws .now) (a .caller) (placeOf (a .ws .now) (sameWords (a .region))) ≡ true
+owned c =
+    let a = c .before .before .before .before .before .before .args in
+    ap (ownedAt (a .ws .now) (a .caller)) (sym (c .before .before .before .place-of .ensures))
+    ∙ sym (c .before .owned-at .ensures) ∙ not-false _ (c .if1 .left)
 
-  present : let a = c .before .before .before .before .before .before .args in c .before .before .before .place-of .result < countOf (a .ws .now)
-  present =
-      let a = c .before .before .before .before .before .before .args in
-      rw (c .before .before .before .place-of .ensures) (owned-held (a .ws .now) (a .caller) (placeOf (a .ws .now) (sameWords (a .region))) owned)
+-- .. so it is held.
+held : (c : tie.Else1) → let a = c .before .before .before .before .before .before .args in
+    c .before .before .before .place-of .result < countOf (a .ws .now)
+held c =
+    let a = c .before .before .before .before .before .before .args in
+    rw (c .before .before .before .place-of .ensures)
+    (owned-held (a .ws .now) (a .caller) (placeOf (a .ws .now) (sameWords (a .region))) (owned c))
 
 returns-2 : tie.Need-returns-2
 returns-2 c =
@@ -48,7 +53,7 @@ returns-2 c =
 
 region-at-requires : tie.Need-region-at-requires
 region-at-requires c κs =
-    let p = present (c .before .before) in
+    let p = held (c .before .before) in
     omega arith
 
 with-export-requires : tie.Need-with-export-requires
@@ -56,7 +61,7 @@ with-export-requires c κs = search needs
 
 put-region-requires : tie.Need-put-region-requires
 put-region-requires c κs =
-    let p = present (c .before .before .before .before .before) in
+    let p = held (c .before .before .before .before .before) in
     omega arith
 
 same-length-3 : tie.Need-same-length-3
@@ -68,7 +73,12 @@ returns-3 c =
     let f = x .before .before .before in
     let e = f .before in
     let a = e .before .before .before .before .before .before .args in
-    rw (c .before .before .put-region .ensures, x .with-export .ensures, x .before .region-at .ensures, e .before .before .before .place-of .ensures)
+    rw (
+      c .before .before .put-region .ensures,
+      x .with-export .ensures,
+      x .before .region-at .ensures,
+      e .before .before .before .place-of .ensures,
+    )
     (give-goes (a .ws .now) (a .caller) (a .receiver) (a .right) (a .region) (owned e) (f .if2 .left))
 
 pub give-spec : {M : Type 1} → statement M

@@ -1,6 +1,5 @@
 -- `owners::calls::make` meets its contract.
 use Prim.Native.Nat.{_≤_}
-use native.Mathlib.Omega.{arith}
 use borrow.Author.Needs.{needs}
 use Rattle.owners.specs.Regions.{countOf, placeOf}
 use Rattle.owners.specs.Calls.{meets}

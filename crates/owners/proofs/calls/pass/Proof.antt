@@ -24,27 +24,32 @@ returns : tie.Need-returns
 returns c =
     let a = c .before .before .before .before .before .before .args in
     pass-not (a .ws .now) (a .caller) (a .owner) (a .region)
-    (ap (ownedAt (a .ws .now) (a .caller)) (sym (c .before .before .before .place-of .ensures)) ∙ sym (c .before .owned-at .ensures) ∙ not-true _ (c .if1 .taken))
+    (ap (ownedAt (a .ws .now) (a .caller)) (sym (c .before .before .before .place-of .ensures))
+    ∙ sym (c .before .owned-at .ensures) ∙ not-true _ (c .if1 .taken))
 
 fresh-region-requires : tie.Need-fresh-region-requires
 fresh-region-requires c κs = search needs
 
--- The caller owns the region found, so it is present.
-module _ (c : tie.Else1) where
-  owned : let a = c .before .before .before .before .before .before .args in ownedAt (a .ws .now) (a .caller) (placeOf (a .ws .now) (sameWords (a .region))) ≡ true
-  owned =
-      let a = c .before .before .before .before .before .before .args in
-      ap (ownedAt (a .ws .now) (a .caller)) (sym (c .before .before .before .place-of .ensures)) ∙ sym (c .before .owned-at .ensures) ∙ not-false _ (c .if1 .left)
+-- The caller owns the region found ..
+owned : (c : tie.Else1) → let a = c .before .before .before .before .before .before .args in
+    ownedAt (a .ws .now) (a .caller) (placeOf (a .ws .now) (sameWords (a .region))) ≡ true
+owned c =
+    let a = c .before .before .before .before .before .before .args in
+    ap (ownedAt (a .ws .now) (a .caller)) (sym (c .before .before .before .place-of .ensures))
+    ∙ sym (c .before .owned-at .ensures) ∙ not-false _ (c .if1 .left)
 
-  present : let a = c .before .before .before .before .before .before .args in c .before .before .before .place-of .result < countOf (a .ws .now)
-  present =
-      let a = c .before .before .before .before .before .before .args in
-      rw (c .before .before .before .place-of .ensures) (owned-held (a .ws .now) (a .caller) (placeOf (a .ws .now) (sameWords (a .region))) owned)
+-- .. so it is held.
+held : (c : tie.Else1) → let a = c .before .before .before .before .before .before .args in
+    c .before .before .before .place-of .result < countOf (a .ws .now)
+held c =
+    let a = c .before .before .before .before .before .before .args in
+    rw (c .before .before .before .place-of .ensures)
+    (owned-held (a .ws .now) (a .caller) (placeOf (a .ws .now) (sameWords (a .region))) (owned c))
 
 put-region-requires : tie.Need-put-region-requires
 put-region-requires c κs =
     let e = c .before .before in
-    let p = present e in
+    let p = held e in
     omega arith
 
 same-length-2 : tie.Need-same-length-2
@@ -54,7 +59,11 @@ returns-2 : tie.Need-returns-2
 returns-2 c =
     let e = c .before .before .before .before .before in
     let a = e .before .before .before .before .before .before .args in
-    rw (c .before .before .put-region .ensures, c .before .before .before .before .fresh-region .ensures, e .before .before .before .place-of .ensures)
+    rw (
+      c .before .before .put-region .ensures,
+      c .before .before .before .before .fresh-region .ensures,
+      e .before .before .before .place-of .ensures,
+    )
     (pass-goes (a .ws .now) (a .caller) (a .owner) (a .region) (owned e))
 
 pub pass-spec : {M : Type 1} → statement M

@@ -19,7 +19,8 @@ power-of-two-requires c κs = search needs
 
 -- The two products, in the definition's words.
 module _ (c : tie.After-power-of-two) where
-  taken-is : let a = c .before .before .args in c .before .right-at .result * c .power-of-two .result ≡ rightAt (a .w) (a .k) * 2 ^ (2 * a .k)
+  taken-is : let a = c .before .before .args in
+      c .before .right-at .result * c .power-of-two .result ≡ rightAt (a .w) (a .k) * 2 ^ (2 * a .k)
   taken-is = rw (c .before .right-at .ensures, c .power-of-two .ensures)
 
   set-is : let a = c .before .before .args in a .right * c .power-of-two .result ≡ a .right * 2 ^ (2 * a .k)

@@ -25,7 +25,8 @@ returns-3 : tie.Need-returns-3
 returns-3 c =
     let e = c .before .before .before in
     let a = e .before .args in
-    let n : exports (a .r) (a .caller) ≡ true = sym (c .before .before .has-export .ensures) ∙ not-false _ (c .before .if2 .left) in
+    let n : exports (a .r) (a .caller) ≡ true =
+    sym (c .before .before .has-export .ensures) ∙ not-false _ (c .before .if2 .left) in
     rw (ne-eqb (a .caller) (a .r .owner) (e .if1 .left), n, eq-eqb (a .caller) (a .domain) (c .if3 .taken))
 
 right-at-requires : tie.Need-right-at-requires
@@ -42,8 +43,15 @@ returns-4 c =
     let t = c .before .before in
     let e = t .before .before .before in
     let a = e .before .args in
-    let n : exports (a .r) (a .caller) ≡ true = sym (t .before .before .has-export .ensures) ∙ not-false _ (t .before .if2 .left) in
-    rw (ne-eqb (a .caller) (a .r .owner) (e .if1 .left), n, ne-eqb (a .caller) (a .domain) (t .if3 .left), c .no-greater .ensures, c .before .right-at .ensures)
+    let n : exports (a .r) (a .caller) ≡ true =
+    sym (t .before .before .has-export .ensures) ∙ not-false _ (t .before .if2 .left) in
+    rw (
+      ne-eqb (a .caller) (a .r .owner) (e .if1 .left),
+      n,
+      ne-eqb (a .caller) (a .domain) (t .if3 .left),
+      c .no-greater .ensures,
+      c .before .right-at .ensures,
+    )
 
 pub may-in-spec : {M : Type 1} → statement M
 may-in-spec =
