@@ -9,7 +9,7 @@ use Rattle.words.specs.Region.{regionOf}
 use Rattle.owners.specs.declared.Owned.{Owned}
 use Rattle.owners.specs.Regions.{regionAt, countOf, firstFrom, holds, placeOf}
 use Rattle.owners.specs.Rules.{noGreater, exports, mayIn, mayWord, everyWord, allowedOf}
-use Rattle.owners.specs.Calls.{askedOf, made, passed, gave, makeOf, passOf, giveOf}
+use Rattle.owners.specs.Calls.{ownedWords, askedOf, made, passed, gave, makeOf, passOf, giveOf}
 
 -- A list with no regions.
 abbrev none : List ℕ
@@ -98,8 +98,8 @@ passed-on = refl
 -- Of overlapping regions the earlier counts, one that ends where it begins or before holds nothing, and one past the
 -- count is idle.
 abbrev odd : List ℕ
-odd = (3 ∷ 9 ∷ 9 ∷ 0 ∷ 0 ∷ []) ++ (1 ∷ 4 ∷ 8 ∷ 0 ∷ 0 ∷ []) ++ (2 ∷ 6 ∷ 10 ∷ 0 ∷ 0 ∷ []) ++ (3 ∷ 0 ∷ 99 ∷ 0 ∷ 0 ∷ [])
-    ++ replicate 300 0 ++ 3 ∷ []
+odd = ownedWords (owned 3 9 9 0 0) ++ ownedWords (owned 1 4 8 0 0) ++ ownedWords (owned 2 6 10 0 0)
+    ++ ownedWords (owned 3 0 99 0 0) ++ replicate 300 0 ++ 3 ∷ []
 
 earlier-counts : placeOf odd (holds 7) ∷ placeOf odd (holds 9) ∷ placeOf odd (holds 11) ∷ [] ≡ 1 ∷ 2 ∷ 3 ∷ []
 unfolding firstFrom

@@ -137,7 +137,8 @@ module _ (list : List ℕ) (by owner : ℕ) (after : List ℕ) (m : Passed list 
       let k = owned-held list by _ (o .owned) in
       rw (m .now-is)
       (put-inside list (placeOf list (sameWords (m .words))) r (o .long) k (o .few)
-      (found-words list (m .words) owner k) w d (word-held r w g h) caller domain right ∙ fresh-may owner (m .words) caller domain right)
+      (found-words list (m .words) owner k) w d (word-held r w g h) caller domain right
+      ∙ fresh-may owner (m .words) caller domain right)
 
   pub passed-outside : holds w (freshRegion owner (m .words)) ≡ false → (caller domain right : ℕ)
       → mayWord after caller domain right w ≡ mayWord list caller domain right w

@@ -2,6 +2,7 @@
 ghost use mathlib.Core.Path.{_≡_};
 ghost use Prim.Native.Nat.{_<_};
 ghost use Rattle.owners.specs.Regions.{Counted};
+ghost use Rattle.owners.specs.Rules.{exportDomains};
 ghost use Rattle.owners.specs.Calls.{outcome, askedOf, inRange, freshRegion, made, passed, gave, doneOf};
 ghost use Rattle.owners.specs.Calls.{rightNamed, callOf};
 use crate::Act;
@@ -115,7 +116,7 @@ fn pass(ws: &mut [u32], caller: u32, owner: u32, region: Region) -> u32
 
 fn give(ws: &mut [u32], caller: u32, receiver: u32, right: u32, region: Region) -> u32
     requires { ⌜ Counted (now ws) ⌝ }
-    requires { ⌜ (receiver < 16) × (right < 4) ⌝ }
+    requires { ⌜ (receiver < exportDomains) × (right < 4) ⌝ }
     ensures { λ r. ⌜ outcome r (now (ws .exit)) ≡ gave (now (ws .entry)) caller receiver right region ⌝ }
 {
     let asking = Asking::Same;
@@ -136,7 +137,7 @@ fn give(ws: &mut [u32], caller: u32, receiver: u32, right: u32, region: Region) 
 // What the call does with a region that is in order.
 fn act_on(act: Act, ws: &mut [u32], caller: u32, other: u32, region: Region) -> u32
     requires { ⌜ Counted (now ws) ⌝ }
-    requires { ⌜ (other < 16) × (rightNamed act < 4) ⌝ }
+    requires { ⌜ (other < exportDomains) × (rightNamed act < 4) ⌝ }
     ensures { λ r. ⌜ outcome r (now (ws .exit)) ≡ doneOf act (now (ws .entry)) caller other region ⌝ }
 {
     match act {

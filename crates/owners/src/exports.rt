@@ -1,6 +1,7 @@
 // An export given: a bit and a right inside the words of a region.
 ghost use mathlib.Core.Path.{_≡_};
 ghost use Prim.Native.Nat.{_^_, _<_};
+ghost use Rattle.owners.specs.Rules.{exportDomains};
 ghost use Rattle.owners.specs.Calls.{withBit, withRight, withExport};
 use crate::Owned;
 
@@ -12,7 +13,7 @@ fn power_of_two(k: u32) -> u32
 }
 
 fn with_bit(g: u32, k: u32) -> u32
-    requires { ⌜ k < 16 ⌝ }
+    requires { ⌜ k < exportDomains ⌝ }
     ensures { λ r. ⌜ r ≡ withBit g k ⌝ }
 {
     if (g >> k) % 2 == 1 {
@@ -23,7 +24,7 @@ fn with_bit(g: u32, k: u32) -> u32
 }
 
 fn with_right(w: u32, k: u32, right: u32) -> u32
-    requires { ⌜ (k < 16) × (right < 4) ⌝ }
+    requires { ⌜ (k < exportDomains) × (right < 4) ⌝ }
     ensures { λ r. ⌜ r ≡ withRight w k right ⌝ }
 {
     let old = words::right_at(w, k);
@@ -35,7 +36,7 @@ fn with_right(w: u32, k: u32, right: u32) -> u32
 }
 
 pub(crate) fn with_export(r: Owned, domain: u32, right: u32) -> Owned
-    requires { ⌜ (domain < 16) × (right < 4) ⌝ }
+    requires { ⌜ (domain < exportDomains) × (right < 4) ⌝ }
     ensures { λ s. ⌜ s ≡ withExport r domain right ⌝ }
 {
     let owner = r.owner;
