@@ -8,6 +8,11 @@ ghost use Rattle.words.specs.Rights.{rightAt, eightOf, sixteenOf, goodRi
 ghost use Rattle.words.specs.Region.{roundedLength, regionOf};
 ghost use Rattle.words.specs.Passing.{Passed, SkipsRights, AllSame};
 
+mod stretches; // stretches.rt: how far one right goes inside an entry
+
+pub use stretches::Stretch;
+pub use stretches::stretch_at;
+
 // Bit 31, which is set in a root or middle entry exactly where it is eight rights.
 pub const BIT_31: u32 = 0x8000_0000;
 
