@@ -193,9 +193,16 @@ uint32_t gol_tidy(uint32_t *pool, size_t words, const uint32_t *shape, size_t sh
                   uint32_t *out, size_t out_len);
 
 /*
- * The right that `domain` has on the word at `address`, whose low two bits do not matter.
+ * The right that `domain` has on the word at `address`, whose low two bits do not matter, and how far the answer
+ * reaches: the longest stretch of that right around the word inside the deciding entry's block. The block is 4 MB for a
+ * root entry, 4 KB for a middle table's and 64 bytes for a leaf's. Every byte of the stretch has the right; a byte
+ * beside it that lies in the block has another. Where the stretch ends with the block, the right may go on in the next.
  * out[0]: the right. out[1]: the entry that decides. out[2]: the loads made: 1 root, 2 middle table, 3 leaf.
- * Returns 0, 101, 1, 2, or 6 where the walk meets a bad entry.
+ * out[3]: the first byte of the stretch, a multiple of 4. out[4]: its last byte, so 0xFFFFFFFF at the end of memory.
+ * To walk a region in one lookup for each stretch, go on at out[4] + 1, and stop when out[4] is 0xFFFFFFFF or not below
+ * the region's last byte. Where a block begins there is a new stretch, of the same right or of another; the first
+ * stretch and the last may reach beyond the region.
+ * Returns 0, 101, 1, 2, or 6 where the walk meets a bad entry. On a refusal all five are 0, first and last byte too.
  */
 uint32_t gol_lookup(const uint32_t *pool, size_t words, const uint32_t *shape, size_t shape_len, uint32_t domain,
                     uint32_t address, uint32_t *out, size_t out_len);

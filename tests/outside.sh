@@ -76,6 +76,7 @@ example brown_out
 example day_of_a_module
 example no_results
 example suppliers_buffer
+example tracing
 workspace
 
 echo "outside: $passed passed, $failed failed"

@@ -30,11 +30,9 @@ BARE = {
     ("listing", "Open", "from"): "a run number",
     ("listing", "put_run", "from"): "a run number",
     ("listing", "close", "at"): "a memory word number",
+    ("listing", "turn_to", "at"): "a memory word number",
     ("listing", "feed_right", "at"): "a memory word number",
     ("listing", "feed_rights", "at"): "a memory word number",
-    ("listing", "turn_to", "at"): "a memory word number",
-    ("listing", "feed_turns", "at"): "a memory word number",
-    ("listing", "feed_chunk", "at"): "a memory word number",
     ("listing", "feed_leaf", "at"): "a memory word number",
     ("listing", "feed_table", "at"): "a memory word number",
     ("listing", "feed_entry", "at"): "a memory word number",
@@ -89,7 +87,7 @@ OFFSETS = {
 }
 
 # The names of slices of words that are not the pool.
-SLICES = {"owners", "runs", "turns", "out", "ws", "shape", "buffer", "gates", "stack", "regions", "part"}
+SLICES = {"owners", "runs", "out", "ws", "shape", "buffer", "gates", "stack", "regions", "part"}
 
 
 def closing(text, start, pair):

@@ -15,6 +15,8 @@ CHANGED = "make_stores(pool, shape, &owners, to, paint, work, allowance)"
 TIDIED = "make_stores(pool, shape, &owners, 0, UNPAINTED, Work::Tidying, allowance)"
 FRESH = "table::fresh(&mut pool, serving::shape());"
 LOAD = "let got = load(pool, at, loads);"
+WALK = "let walked = decide(pool, shape, domain, address);"
+WALK_OF_A_CHECK = "let walked = table::decide(pool, shape, domain, address);"
 BY = "change::change(pool, shape, domain, start, length, right, allowance)"
 MET = "let met = list::place_of(ws, asking, region);"
 
@@ -103,6 +105,8 @@ HARMLESS = [
 WRONG += [
     ("loads a word twice", "loads", [before(TABLE, LOAD, LOAD)]),
     ("reads a word without counting it", "loads", [before(TABLE, LOAD, "let seen = pool[0];")]),
+    ("walks twice in a lookup", "loads", [before(TABLE, WALK, WALK.replace("walked", "again"))]),
+    ("looks at the pool by itself in a check", "loads", [before(BUFFER, WALK_OF_A_CHECK, "let seen = pool[0];")]),
     ("writes a word of a buffer and writes it back before a check", "states",
      [before(BUFFER, "let hit = layout::find(", "let was = buffer[0]; buffer[0] = 7; buffer[0] = was;")]),
     ("stores a slot that stays in a flush", "states",

@@ -112,8 +112,26 @@ STATES = {
     },
 }
 
-# What a lookup's code does with the pool.
-READERS = {"lookup": ["length", "to walk_down"], "walk_down": ["to load"], "load": ["read"]}
+# What the code of lookups, and of the checks and steps that ask as they do, does with the pool.
+READERS = {
+    "table": {
+        "lookup": ["to decide"],
+        "decide": ["length", "to walk_down"],
+        "walk_down": ["to load"],
+        "load": ["read"],
+    },
+    "lookaside": {
+        "check": ["to decide"],
+        "decide": ["length", "to decide_by_walk"],
+        "decide_by_walk": ["to table::decide"],
+    },
+    "gates": {
+        "plain_step": ["to fetch"],
+        "switch_step": ["to fetch"],
+        "return_step": ["to fetch"],
+        "fetch": ["to table::decide"],
+    },
+}
 
 # The one loop, token by token, whatever its locals are called. What it asks and gives are names.
 NAMES = r"[\w ,]+"

@@ -146,13 +146,14 @@ def states(house):
 
 
 def loads(house):
-    """A lookup reads the pool in one place, which counts."""
+    """A lookup reads the pool in one place, which counts; checks and steps ask it, and have no walk of their own."""
     wrong = []
-    for name, listed in READERS.items():
-        function = house.named("table", name)
-        done = uses(function.body, "pool") if function else []
-        if done != listed:
-            wrong.append(f"table: {name} does with the pool {done}, and may do {listed}")
+    for crate, readers in READERS.items():
+        for name, listed in readers.items():
+            function = house.named(crate, name)
+            done = uses(function.body, "pool") if function else []
+            if done != listed:
+                wrong.append(f"{crate}: {name} does with the pool {done}, and may do {listed}")
     return wrong
 
 

@@ -61,6 +61,8 @@ module _ {n : ℕ} {x : List ℕ} (c : CutAt (shape 1 1) (changeAim 0 in-leaf 2)
         y .right,
         y .entry,
         y .loads,
+        y .first .0,
+        y .last .0,
         finds x (shape 1 1) a (By y) e,
         rw q (cut-right a ba),
       )

@@ -19,15 +19,17 @@ use Rattle.words.specs.declared.Region.{Region}
 use Rattle.words.specs.declared.Rounded.the-variants.{Covers}
 use Rattle.words.proofs.RightsLaws.{eight-right}
 use Rattle.words.proofs.RegionLaws.{covered-yes, covered-no}
-use Rattle.table.specs.declared.Deciding.{Deciding}
+use Rattle.table.specs.declared.Found.{Found}
 use Rattle.table.specs.declared.Found.the-variants.{By, Refused}
 use Rattle.table.specs.declared.Made.the-variants.{Done as Made}
 use Rattle.table.specs.Shape.{Fits}
-use Rattle.table.specs.Map.{addresses, formOf}
+use Rattle.table.specs.Map.{addresses, blockAt, partOf, entryRights, formOf}
 use Rattle.table.specs.Fresh.{freshPool}
-use Rattle.table.specs.Lookup.{lookupOf, foundAt}
+use Rattle.table.specs.Stretches.{firstByte, lastByte}
+use Rattle.table.specs.Lookup.{decidedBy, lookupOf, foundAt}
 use Rattle.table.proofs.ShapeLaws.{fits-test}
 use Rattle.table.proofs.BlockLaws.{number-below}
+use Rattle.table.proofs.StretchLaws.{whole-stretch}
 use Rattle.table.proofs.LookupLaws.{lookup-walks}
 use Rattle.table.proofs.FreshLaws.{makes-fresh, one-fresh}
 use Rattle.table.proofs.FreshWordLaws.{fresh-word, fresh-settled}
@@ -41,13 +43,13 @@ use Rattle.change.specs.Cuts.{differing}
 use Rattle.change.specs.Answers.{Asked, in-order, no-room}
 use Rattle.change.proofs.DifferLaws.{differing-set, differing-self}
 use Rattle.benchmarks.specs.Rows.{shape, AnyAddress, SetsOnePart, NoRoomForLess, SetsAll, ZeroWord}
-use Rattle.benchmarks.proofs.RowLaws.{always-change, finds, fresh-fits, in-range}
+use Rattle.benchmarks.proofs.RowLaws.{always-change, by, finds, fresh-fits, in-range}
 use Rattle.benchmarks.proofs.RowLaws.{aims-fresh, change-done}
 use Rattle.benchmarks.proofs.FlatLaws.{flat-finished, flat-right, first-part}
 
 -- Row 1: the root word decides.
-abbrev none : Deciding
-none = record { right = 0; entry = 2147483648; loads = 1 }
+abbrev none : ℕ → Found
+none a = by 0 2147483648 1 (blockAt 2 a) (blockAt 2 a + 0x3FFFFF)
 
 module _ (M L : ℕ) (f : Fits (shape M L) (length (freshPool (shape M L)))) (a : ℕ) where
   abbrev P : ℕ → ℕ
@@ -59,15 +61,21 @@ module _ (M L : ℕ) (f : Fits (shape M L) (length (freshPool (shape M L)))) (a 
   root-word : P k ≡ 2147483648
   root-word = fresh-word (shape M L) k ∙ ap (λ t. cond t 2147483648 0) (lt-ltb k 1024 (omega arith))
 
-  pub fresh-lookup : lookupOf (freshPool (shape M L)) (shape M L) 0 a ≡ By none
+  fresh-rights : (b : ℕ) → entryRights 2 2147483648 b ≡ 0
+  fresh-rights b = eight-right 0 (partOf 2 b) (omega arith) (number-below 2 b)
+
+  pub fresh-lookup : lookupOf (freshPool (shape M L)) (shape M L) 0 a ≡ none a
   fresh-lookup =
+      let (first, last) = whole-stretch (entryRights 2 2147483648) 2 a 0 fresh-rights in
       lookup-walks (freshPool (shape M L)) (shape M L) 0 a (fits-test (shape M L) (length (freshPool (shape M L))) f)
       (omega arith)
       ∙ ap (foundAt (formOf (shape M L)) P a) (walk-stops (formOf (shape M L)) P a 2 k (rw root-word refl)
       (rw root-word refl))
-      ∙ ap (λ w. By (record { right = rightAt w (a / 524288 % 8); entry = w; loads = 1 })) root-word
-      ∙ ap (λ x. By (record { right = x; entry = 2147483648; loads = 1 }))
-      (eight-right 0 (a / 524288 % 8) (omega arith) (number-below 2 a))
+      ∙ ap (λ w. By (decidedBy (entryRights 2 w) 2 w a)) root-word
+      ∙ ap (λ x. by x 2147483648 1 (firstByte (entryRights 2 2147483648) 2 a) (lastByte (entryRights 2 2147483648) 2 a))
+      (fresh-rights a)
+      ∙ ap (λ x. by 0 2147483648 1 x (lastByte (entryRights 2 2147483648) 2 a)) first
+      ∙ ap (by 0 2147483648 1 (blockAt 2 a)) last
 
 pub row-1 : AnyAddress
 row-1 M L p f =
@@ -78,7 +86,7 @@ row-1 M L p f =
       some = (Made, freshPool s, made);
       each = λ r q m.
           let (e, z) = one-fresh m made in
-          rw (e, z) (refl, refl, λ a ba. finds (freshPool s) s a (By none) (fresh-lookup M L g a));
+          rw (e, z) (refl, refl, λ a ba. finds (freshPool s) s a (none a) (fresh-lookup M L g a));
     }
 
 -- Row 12: the zero word leads to pool word 0, which is no place.

@@ -10,8 +10,8 @@ use Rattle.words.specs.Region.{rounded, regionOf}
 use Rattle.words.specs.declared.Region.{Region}
 use Rattle.words.specs.declared.Rounded.the-variants.{Refused as NoRegion}
 use Rattle.words.proofs.RegionLaws.{covered-range, rounded-covers}
+use Rattle.words.specs.Stretches.{firstLike, lastLike}
 use Rattle.table.specs.declared.Shape.{Shape}
-use Rattle.table.specs.declared.Found.the-variants.{By}
 use Rattle.table.specs.Shape.{maxMiddles, maxLeaves}
 use Rattle.table.specs.Fresh.{freshPool}
 use Rattle.table.proofs.WantLaws.{wants-leaf}
@@ -25,7 +25,7 @@ use Rattle.lookaside.specs.Flushes.{flushedBuffer, flushedSlot, flushes, meets,
 use Rattle.benchmarks.specs.Rows.{shape, Always, Sets}
 use Rattle.benchmarks.specs.Lengths.{SameChange, Refuses, FourBytes, LooksBeside, LastHalf, NoLength, LongSum}
 use Rattle.benchmarks.specs.Lengths.{FlushesFollow, Lengths}
-use Rattle.benchmarks.proofs.RowLaws.{always-change, finds, listed, fresh-fits, in-range, aims-fresh}
+use Rattle.benchmarks.proofs.RowLaws.{always-change, by, finds, listed, fresh-fits, in-range, aims-fresh}
 use Rattle.benchmarks.proofs.PageLaws.{OnePage, after}
 use Rattle.benchmarks.proofs.PagePools.{painted, one-page, pagePool, page-done-finished, page-done}
 use Rattle.benchmarks.proofs.LastRow.{row-10}
@@ -80,12 +80,12 @@ row-1 n h = always-change (words-set n h) (
 )
 
 row-2 : LooksBeside
-unfolding listed after walk
+unfolding listed after walk firstLike lastLike
 row-2 n h = always-change (words-set n h) (
-  finds words-pool (shape 1 1) 0x1000 (By (record { right = 2; entry = 0xA; loads = 3 })) refl,
-  finds words-pool (shape 1 1) 0x1007 (By (record { right = 2; entry = 0xA; loads = 3 })) refl,
-  finds words-pool (shape 1 1) 0x1008 (By (record { right = 0; entry = 0xA; loads = 3 })) refl,
-  finds words-pool (shape 1 1) 0xFFF (By (record { right = 0; entry = 0x80000000; loads = 2 })) refl,
+  finds words-pool (shape 1 1) 0x1000 (by 2 0xA 3 0x1000 0x1007) refl,
+  finds words-pool (shape 1 1) 0x1007 (by 2 0xA 3 0x1000 0x1007) refl,
+  finds words-pool (shape 1 1) 0x1008 (by 0 0xA 3 0x1008 0x103F) refl,
+  finds words-pool (shape 1 1) 0xFFF (by 0 0x80000000 2 0 0xFFF) refl,
 )
 
 -- Rows 3, 4 and 5: by rounding alone.

@@ -8,14 +8,14 @@ use Rattle.words.specs.Rights.{pack}
 use Rattle.words.specs.Region.{rounded, regionOf}
 use Rattle.words.specs.declared.Region.{Region}
 use Rattle.words.proofs.RegionLaws.{covered-range}
-use Rattle.table.specs.declared.Found.the-variants.{By}
+use Rattle.words.specs.Stretches.{firstLike, lastLike}
 use Rattle.table.specs.Wants.{any}
 use Rattle.table.specs.Fresh.{freshPool}
 use Rattle.table.proofs.WantLaws.{wants-leaf}
 use Rattle.change.specs.declared.Answer.the-variants.{Done}
 use Rattle.change.specs.Cuts.{differing}
 use Rattle.benchmarks.specs.Rows.{shape, Sets, SetsOneLeaf, LooksAround, SetsOneMiddle}
-use Rattle.benchmarks.proofs.RowLaws.{always-change, finds, listed}
+use Rattle.benchmarks.proofs.RowLaws.{always-change, by, finds, listed}
 use Rattle.benchmarks.proofs.PageLaws.{OnePage, after}
 use Rattle.benchmarks.proofs.PagePools.{painted, one-page, pagePool, page-done}
 
@@ -46,12 +46,12 @@ row-2 n h = always-change (leaf-set n h) (refl, refl)
 
 -- Row 3: lookups in that pool.
 pub row-3 : LooksAround
-unfolding listed after walk
+unfolding listed after walk firstLike lastLike
 row-3 n h = always-change (leaf-set n h) (
-  finds leaf-pool (shape 1 1) 0x103F (By (record { right = 2; entry = 0xAAAAAAAA; loads = 3 })) refl,
-  finds leaf-pool (shape 1 1) 0x1040 (By (record { right = 0; entry = 0; loads = 3 })) refl,
-  finds leaf-pool (shape 1 1) 0x2000 (By (record { right = 0; entry = 0x80000000; loads = 2 })) refl,
-  finds leaf-pool (shape 1 1) 0x400000 (By (record { right = 0; entry = 0x80000000; loads = 1 })) refl,
+  finds leaf-pool (shape 1 1) 0x103F (by 2 0xAAAAAAAA 3 0x1000 0x103F) refl,
+  finds leaf-pool (shape 1 1) 0x1040 (by 0 0 3 0x1040 0x107F) refl,
+  finds leaf-pool (shape 1 1) 0x2000 (by 0 0x80000000 2 0x2000 0x2FFF) refl,
+  finds leaf-pool (shape 1 1) 0x400000 (by 0 0x80000000 1 0x400000 0x7FFFFF) refl,
 )
 
 -- Row 6: a middle table alone.

@@ -19,6 +19,7 @@ use Rattle.words.specs.Region.{covered}
 use Rattle.words.specs.declared.Region.{Region}
 use Rattle.table.specs.declared.Shape.{Shape}
 use Rattle.table.specs.declared.Found.{Found}
+use Rattle.table.specs.declared.Found.the-variants.{By}
 use Rattle.table.specs.Shape.{InRange, Fits, poolLength, maxMiddles, maxLeaves}
 use Rattle.table.specs.Map.{formOf}
 use Rattle.table.specs.Fresh.{freshPool}
@@ -73,6 +74,17 @@ listed-words f n z j = elim (decLt j n) [
 ]
 
 -- What a lookup answers by its definition.
+-- An answer, by its numbers.
+abbrev pub by : (right entry loads first last : ℕ) → Found
+by right entry loads first last =
+    By (record {
+      right = right;
+      entry = entry;
+      loads = loads;
+      first = record { 0 = first };
+      last = record { 0 = last };
+    })
+
 pub finds : (p : List ℕ) (s : Shape) (a : ℕ) (r : Found) → lookupOf p s 0 a ≡ r → Finds p s a (numbers r)
 finds p s a r e = record { some = (r, looks-up p s 0 a r (sym e)); each = λ t l. ap numbers (l .answer ∙ e) }
 

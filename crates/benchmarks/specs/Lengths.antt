@@ -38,11 +38,14 @@ FourBytes = (n : ℕ) → 1026 ≤ n → Always (Sets 1 1 0x1002 4 2 n)
     × ((b : ℕ) → b < addresses
     → rightOf (formOf (shape 1 1)) (words q) 0 b ≡ cond (leb 0x1000 b && ltb b 0x1008) 2 0))
 
--- 2. Then 0x1000 and 0x1007 give 2 and 0x1008 gives 0, 3 loads each; 0xFFF gives 0 in 2.
+-- 2. Then 0x1000 and 0x1007 give 2 and 0x1008 gives 0, 3 loads each; 0xFFF gives 0 in 2. The right 2 reaches from
+-- 0x1000 to 0x1007, right 0 from there to the end of the leaf entry, and from 0 to 0xFFF.
 abbrev pub LooksBeside : Type 0
 LooksBeside = (n : ℕ) → 1026 ≤ n → Always (Sets 1 1 0x1002 4 2 n)
-    (λ a q. FindsRight q (shape 1 1) 0x1000 2 0xA 3 × FindsRight q (shape 1 1) 0x1007 2 0xA 3
-    × FindsRight q (shape 1 1) 0x1008 0 0xA 3 × FindsRight q (shape 1 1) 0xFFF 0 0x80000000 2)
+    (λ a q. FindsRight q (shape 1 1) 0x1000 2 0xA 3 0x1000 0x1007
+    × FindsRight q (shape 1 1) 0x1007 2 0xA 3 0x1000 0x1007
+    × FindsRight q (shape 1 1) 0x1008 0 0xA 3 0x1008 0x103F
+    × FindsRight q (shape 1 1) 0xFFF 0 0x80000000 2 0 0xFFF)
 
 -- 3. M 1, L 1, start 0xFFFFFFFE: length 2 accepted, 3 refused 5. Accepted: with an allowance that suffices done, and
 -- the last word has the right; and in every pool it is what length 4 from 0xFFFFFFFC is, row 10 of the twelve.

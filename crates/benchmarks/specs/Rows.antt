@@ -11,7 +11,7 @@ use Rattle.words.specs.declared.Region.{Region}
 use Rattle.table.specs.declared.Shape.{Shape}
 use Rattle.table.specs.declared.Found.{Found}
 use Rattle.table.specs.Shape.{Fits, maxLeaves, firstMiddle, firstLeaf}
-use Rattle.table.specs.Map.{addresses, formOf}
+use Rattle.table.specs.Map.{addresses, blockAt, formOf}
 use Rattle.table.specs.Fresh.{madeNumber, freshPool, MakesFresh}
 use Rattle.table.specs.Lookup.{Numbers, numbers, LooksUp}
 use Rattle.change.specs.declared.Answer.{Answer}
@@ -46,32 +46,38 @@ pub record Finds (p : List ℕ) (s : Shape) (a : ℕ) (x : Numbers) : Type 0 whe
   pub some : (r : Found) × LooksUp p s 0 a r
   pub each : (r : Found) → LooksUp p s 0 a r → numbers r ≡ x
 
--- It gives the right, the deciding entry and the loads.
-abbrev pub FindsRight : (p : List ℕ) (s : Shape) (a right entry loads : ℕ) → Type 0
-FindsRight p s a right entry loads = Finds p s a (record { refusal = 0; right = right; entry = entry; loads = loads })
+-- It gives the right, the deciding entry and the loads; and the right reaches from byte `first` to byte `last`.
+abbrev pub FindsRight : (p : List ℕ) (s : Shape) (a right entry loads first last : ℕ) → Type 0
+FindsRight p s a right entry loads first last =
+    Finds p s a
+    (record { refusal = 0; right = right; entry = entry; loads = loads; first = first; last = last })
 
--- 1. Any address: right 0, 1 load. For every M and L, whatever the pool held before it was made fresh.
+-- 1. Any address: right 0, 1 load, for its whole block. For every M and L, whatever the pool held before it was made
+-- fresh.
 abbrev pub AnyAddress : Type 0
 AnyAddress = (M L : ℕ) (p : List ℕ) → Fits (shape M L) (length p) → Always (MakesFresh (shape M L) p)
     (λ r q. (madeNumber r ≡ 0) × (q ≡ freshPool (shape M L))
-    × ((a : ℕ) → a < addresses → FindsRight q (shape M L) a 0 0x80000000 1))
+    × ((a : ℕ) → a < addresses → FindsRight q (shape M L) a 0 0x80000000 1 (blockAt 2 a) (blockAt 2 a + 0x3FFFFF)))
 
 -- 2. M 1, L 1, set 0x1000 for 64 bytes to 2: done, 1,026 stores; the leaf's first entry is 0xAAAAAAAA.
 abbrev pub SetsOneLeaf : Type 0
 SetsOneLeaf = (n : ℕ) → 1026 ≤ n → Always (Sets 1 1 0x1000 64 2 n)
     (λ a q. AnsweredDone 1026 a × (words q (firstLeaf (shape 1 1)) ≡ 0xAAAAAAAA))
 
--- 3. Then 0x103F gives 2 and 0x1040 gives 0, 3 loads each; 0x2000 gives 0 in 2; 0x400000 gives 0 in 1.
+-- 3. Then 0x103F gives 2 and 0x1040 gives 0, 3 loads each; 0x2000 gives 0 in 2; 0x400000 gives 0 in 1. Each of them
+-- for the whole block of its entry.
 abbrev pub LooksAround : Type 0
 LooksAround = (n : ℕ) → 1026 ≤ n → Always (Sets 1 1 0x1000 64 2 n)
-    (λ a q. FindsRight q (shape 1 1) 0x103F 2 0xAAAAAAAA 3
-    × FindsRight q (shape 1 1) 0x1040 0 0 3 × FindsRight q (shape 1 1) 0x2000 0 0x80000000 2
-    × FindsRight q (shape 1 1) 0x400000 0 0x80000000 1)
+    (λ a q. FindsRight q (shape 1 1) 0x103F 2 0xAAAAAAAA 3 0x1000 0x103F
+    × FindsRight q (shape 1 1) 0x1040 0 0 3 0x1040 0x107F
+    × FindsRight q (shape 1 1) 0x2000 0 0x80000000 2 0x2000 0x2FFF
+    × FindsRight q (shape 1 1) 0x400000 0 0x80000000 1 0x400000 0x7FFFFF)
 
 -- Every lookup gives right 0 or, from `lo` to `hi`, right 2.
 abbrev pub NoneOrTwo : (p : List ℕ) (s : Shape) (lo hi : ℕ) → Type 0
 NoneOrTwo p s lo hi = (a : ℕ) → a < addresses
-    → (x : ℕ) × (w : ℕ) × (n : ℕ) × FindsRight p s a x w n × ((x ≡ 0) ⊎ ((x ≡ 2) × (lo ≤ a) × (a ≤ hi)))
+    → (x : ℕ) × (w : ℕ) × (n : ℕ) × (f : ℕ) × (l : ℕ) × FindsRight p s a x w n f l
+    × ((x ≡ 0) ⊎ ((x ≡ 2) × (lo ≤ a) × (a ≤ hi)))
 
 -- 4. As 2 with allowance 1,025: cut, and every lookup gives right 0 or, in 0x1000 to 0x103F, right 2; the pool is
 -- sound.
@@ -133,7 +139,7 @@ Needless = (L n : ℕ) → L ≤ maxLeaves
 -- 12. A zero word as root entry 0: lookup of address 0 refused 6. In every pool of one root.
 abbrev pub ZeroWord : Type 0
 ZeroWord = (M L : ℕ) (p : List ℕ) → Fits (shape M L) (length p)
-    → Finds (set p 0 0) (shape M L) 0 (record { refusal = 6; right = 0; entry = 0; loads = 0 })
+    → Finds (set p 0 0) (shape M L) 0 (record { refusal = 6; right = 0; entry = 0; loads = 0; first = 0; last = 0 })
 
 -- The twelve.
 pub record Rows : Type 0 where

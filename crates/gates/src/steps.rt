@@ -17,8 +17,8 @@ use crate::MAX_GATES;
 use crate::Stepped;
 use crate::layout;
 use crate::places::leads_below;
-use table::Found;
 use table::Shape;
+use table::Walked;
 use words::ByteAddr;
 
 fn gate_below(g: GateAt, domains: u32) -> bool
@@ -130,10 +130,10 @@ pub(crate) fn step_refusal(
 fn fetch(pool: &[u32], shape: Shape, domain: u32, address: ByteAddr) -> Stepped
     ensures { λ r. ⌜ r ≡ fetchOf (now (pool .entry)) shape (address .0) domain ⌝ }
 {
-    let found = table::lookup(pool, shape, domain, address);
-    match found {
-        Found::Refused(n) => Stepped::Refused(n),
-        Found::By(by) => {
+    let walked = table::decide(pool, shape, domain, address);
+    match walked {
+        Walked::Refused(n) => Stepped::Refused(n),
+        Walked::By(by) => {
             let right = by.right;
             let good = table::passes(table::FETCH, right);
             if good {

@@ -35,12 +35,12 @@ fresh-refused {p} {sh} (shaped l made q x) h = go (fitsOf (shapeIn sh) (length p
     go false e k = k
 
 -- A lookup.
-found-zeros : (f : Found) → foundNumbers f .refusal ≢ 0 → foundResults f ≡ 0 ∷ 0 ∷ 0 ∷ []
+found-zeros : (f : Found) → foundNumbers f .refusal ≢ 0 → foundResults f ≡ 0 ∷ 0 ∷ 0 ∷ 0 ∷ 0 ∷ []
 found-zeros (By x) real = absurd (real refl)
 found-zeros (NotFound k) real = refl
 
 pub lookup-refused : {p sh : List ℕ} {d a n : ℕ} {out res : List ℕ} → LookupCall p sh d a out n res → n ≢ 0
-    → res ≡ outWith (0 ∷ 0 ∷ 0 ∷ []) out
+    → res ≡ outWith (0 ∷ 0 ∷ 0 ∷ 0 ∷ 0 ∷ []) out
 lookup-refused (wrong-length f) h = refl
 lookup-refused {out = out} (shaped l f x) h = ap (λ r. outWith r out) (found-zeros f h)
 

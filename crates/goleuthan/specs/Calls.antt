@@ -44,9 +44,9 @@ shapeIn sh = record {
 abbrev pub answerNumber : Answer → ℕ
 answerNumber a = cond (eqb (answerNumbers a .cuts) 1) wasCut (answerNumbers a .refusal)
 
--- The result words of a lookup: right, entry, loads.
+-- The result words of a lookup: right, entry, loads, first byte, last byte.
 abbrev pub foundResults : Found → List ℕ
-foundResults f = foundNumbers f .right ∷ foundNumbers f .entry ∷ foundNumbers f .loads ∷ []
+foundResults f = let n = foundNumbers f in n .right ∷ n .entry ∷ n .loads ∷ n .first ∷ n .last ∷ []
 
 -- The result word of a change or a tidying: the stores made, 0 for a cut.
 abbrev pub answerResults : Answer → List ℕ
@@ -68,7 +68,7 @@ pub data FreshCall (p sh : List ℕ) : ℕ → List ℕ → Type 0 where
 
 -- gol_lookup with the lent words `out`: the number, and what it leaves in them.
 pub data LookupCall (p sh : List ℕ) (d a : ℕ) (out : List ℕ) : ℕ → List ℕ → Type 0 where
-  wrong-length : NotLong sh → LookupCall p sh d a out wrongLength (outWith (0 ∷ 0 ∷ 0 ∷ []) out)
+  wrong-length : NotLong sh → LookupCall p sh d a out wrongLength (outWith (0 ∷ 0 ∷ 0 ∷ 0 ∷ 0 ∷ []) out)
   shaped : length sh ≡ shapeLong → (f : Found) → LooksUp p (shapeIn sh) d a f
       → LookupCall p sh d a out (foundNumbers f .refusal) (outWith (foundResults f) out)
 

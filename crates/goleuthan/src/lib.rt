@@ -24,7 +24,8 @@ pub extern "C" fn gol_fresh(pool: &mut [u32], shape: &[u32]) -> u32
     results::made_number(made)
 }
 
-// The right of an address, the deciding entry and the loads made.
+// The right of an address, the deciding entry, the loads made, and the first and the last byte that the right reaches
+// to inside the entry's block.
 #[no_mangle]
 pub extern "C" fn gol_lookup(
     pool: &[u32],
@@ -37,7 +38,7 @@ pub extern "C" fn gol_lookup(
         (now (out .exit)) ⌝ }
 {
     if shape.len() != shapes::SHAPE_WORDS {
-        results::three(out, 0, 0, 0);
+        results::five(out, 0, 0, 0, 0, 0);
         return rows::WRONG_LENGTH;
     }
     let by = shapes::read_shape(shape);

@@ -29,7 +29,7 @@ fn give_word(out: &mut [u32], at: usize, v: u32)
     }
 }
 
-// The results of a call that has one, two or three of them.
+// The results of a call that has one, two or five of them.
 pub fn one(out: &mut [u32], a: u32)
     ensures { λ _. ⌜ now (out .exit) ≡ outWith (a ∷ []) (now (out .entry)) ⌝ }
 {
@@ -43,12 +43,22 @@ pub fn two(out: &mut [u32], a: u32, b: u32)
     give_word(out, 1, b);
 }
 
-pub fn three(out: &mut [u32], a: u32, b: u32, c: u32)
-    ensures { λ _. ⌜ now (out .exit) ≡ outWith (a ∷ b ∷ c ∷ []) (now (out .entry)) ⌝ }
+// Most callers lend room for all five: then one test is enough.
+pub fn five(out: &mut [u32], a: u32, b: u32, c: u32, d: u32, e: u32)
+    ensures { λ _. ⌜ now (out .exit) ≡ outWith (a ∷ b ∷ c ∷ d ∷ e ∷ []) (now (out .entry)) ⌝ }
 {
-    give_word(out, 0, a);
-    give_word(out, 1, b);
-    give_word(out, 2, c);
+    if out.len() < 5 {
+        give_word(out, 0, a);
+        give_word(out, 1, b);
+        give_word(out, 2, c);
+        give_word(out, 3, d);
+        return;
+    }
+    out[0] = a;
+    out[1] = b;
+    out[2] = c;
+    out[3] = d;
+    out[4] = e;
 }
 
 // A count in one word: the greatest word where it is greater.
@@ -77,14 +87,13 @@ pub fn give_found(found: Found, out: &mut [u32]) -> u32
 {
     match found {
         Found::By(by) => {
-            let right = by.right;
-            let entry = by.entry;
-            let loads = by.loads;
-            three(out, right, entry, loads);
+            let first = words::addr_number(by.first);
+            let last = words::addr_number(by.last);
+            five(out, by.right, by.entry, by.loads, first, last);
             0
         }
         Found::Refused(n) => {
-            three(out, 0, 0, 0);
+            five(out, 0, 0, 0, 0, 0);
             n
         }
     }

@@ -17,7 +17,7 @@ use Rattle.table.specs.Shape.{Fits, size}
 use Rattle.table.specs.Map.{part, parts, index, formOf}
 use Rattle.table.specs.Wants.{wordsIn}
 use Rattle.table.specs.Entries.{decodeOf, levelOf, blockWords, sameOf}
-use Rattle.table.proofs.BlockLaws.{first-word}
+use Rattle.table.proofs.BlockLaws.{first-word, few-parts as parts-few}
 use Rattle.table.proofs.EntryLaws.{decode-rights, bad-rights, rights-leads}
 use Rattle.census.proofs.ReadableLaws.{Walkable, sound-readable, reached-not-bad, reached-rights-right, reached-leads}
 use Rattle.table.specs.declared.geometry.Level.{Level}
@@ -25,7 +25,7 @@ use Rattle.listing.specs.Runs.{memoryWords}
 use Rattle.listing.specs.Sheets.{Sheet, feed, fed}
 use Rattle.listing.specs.Levels.{tableWords, entrySays, entryRight, tableRight}
 use Rattle.listing.specs.Levels.{AllSay, EntryAt, TableAt}
-use Rattle.listing.proofs.SheetLaws.{feed-again, fed-alike, fed-same, Along, along-next, room}
+use Rattle.listing.proofs.SheetLaws.{feed-leaves, feed-again, fed-alike, fed-same, Along, along-next, room}
 
 -- The numbers of a height.
 
@@ -46,9 +46,9 @@ parts-block zero = refl
 parts-block (suc zero) = refl
 parts-block (suc (suc h)) = refl
 
-parts-few : (h : ℕ) → parts h ≤ 16
-parts-few zero = omega arith
-parts-few (suc h) = omega arith
+parts-some : (h : ℕ) → 0 < parts h
+parts-some zero = omega arith
+parts-some (suc h) = omega arith
 
 module _ (h : ℕ) (v : Level) (e : v ≡ levelOf h) where
   level-parts : v .parts ≡ parts h
@@ -70,10 +70,13 @@ module _ (h : ℕ) (v : Level) (e : v ≡ levelOf h) where
   pub whole-table : v .entries * v .block ≡ tableWords h
   whole-table = ap (λ x. x .entries * x .block) e
 
-  module _ (i : ℕ) (b : i < v .parts) where
-    pub part-few : i < 16
-    part-few = omega (arith, level-parts, parts-few h)
+  pub some-parts : 0 < v .parts
+  some-parts = omega (arith, level-parts, parts-some h)
 
+  pub few-parts : v .parts ≤ 16
+  few-parts = omega (arith, level-parts, parts-few h)
+
+  module _ (i : ℕ) (b : i < v .parts) where
     -- Part `i` lies in the block.
     pub part-room : i * v .step + v .step ≤ blockWords h
     part-room = rw whole-block at (room i (v .parts) (v .step) b)
@@ -139,6 +142,21 @@ part-next h w a v s₀ i s t e al l b k =
     (λ j lo hi. ap (rightAt w) (sym (part-at h a i j al (rw en at b) (rw eu at lo) (rw eu at hi))))
     (k ∙ sym (fed-same (v .step) (rightAt w i) (λ j. rightAt w i) (a + i * v .step) s (rw eu (first-word h))
     (λ j lo hi. refl)))
+
+-- A stretch of parts further: what was fed at its first part is fed at all.
+pub stretch-next : (h w a : ℕ) (v : Level) (s₀ : Sheet) (i : ℕ) (s t : Sheet) → v ≡ levelOf h → a % blockWords h ≡ 0
+    → Along (entrySays h w) (v .parts) (v .step) a s₀ i s → t ≡ feed (rightAt w i) (a + i * v .step) s
+    → (n : ℕ) → i + n < v .parts → ((j : ℕ) → i ≤ j → j ≤ i + n → rightAt w j ≡ rightAt w i)
+    → Along (entrySays h w) (v .parts) (v .step) a s₀ (i + n + 1) t
+stretch-next h w a v s₀ i s t e al l k zero b same =
+    rw add-zero (part-next h w a v s₀ i s t e al l (omega arith) k)
+stretch-next h w a v s₀ i s t e al l k (suc n) b same =
+    let o : i + suc n ≡ i + n + 1 = omega arith in
+    let q = same (i + n + 1) (omega arith) (omega arith) in
+    rw o (part-next h w a v s₀ (i + n + 1) t t e al
+    (stretch-next h w a v s₀ i s t e al l k n (omega arith) (λ j lo hi. same j lo (omega arith))) (omega arith)
+    (sym (feed-again (rightAt w (i + n + 1)) (a + (i + n + 1) * v .step) t
+    (ap (λ x. x .run .right) k ∙ feed-leaves (rightAt w i) (a + i * v .step) s ∙ sym q))))
 
 -- An entry that leads is for the words of the table below.
 sub-blocks : (h a i : ℕ) → 0 < h → h ≤ 2 → a % blockWords h ≡ 0 → a + blockWords h ≤ memoryWords → i < size (h - 1)

@@ -6,6 +6,5 @@ pub mod ScanLaws
 pub mod ShownLaws
 pub mod SheetLaws
 pub mod LevelLaws
-pub mod TurnLaws
 pub mod ListingLaws
 pub mod Examples

@@ -3,10 +3,11 @@ use Prim.Native.Nat.{ℕ, zero, suc, _+_, _*_, _<_, _≤_}
 use native.Mathlib.Omega.{arith}
 use native.Mathlib.Nat.{zero-mul, add-zero, add-suc, add-assoc, add-mul, mul-le-mul-right}
 use mathlib.Core.Path.{_≡_, refl, sym, ap, _∙_}
+use mathlib.Core.Logic.{_≢_}
 use mathlib.Core.Bool.{Bool, true, false, cond}
 use lib.Dec.{eqb}
-use borrow.Author.Tests.{eqb-true, eq-eqb}
-use Rattle.listing.specs.Sheets.{Sheet, sheet, putRun, counted, runTo, closed, opened, feed, fed, OpenAt}
+use borrow.Author.Tests.{eqb-true, eq-eqb, ne-eqb}
+use Rattle.listing.specs.Sheets.{Sheet, sheet, putRun, counted, runTo, closed, opened, turned, feed, fed, OpenAt}
 
 -- Feeding.
 
@@ -17,6 +18,11 @@ feed-leaves q a s = go (eqb q (s .run .right)) refl
     go : (t : Bool) → eqb q (s .run .right) ≡ t → cond t s (opened q a (closed a s)) .run .right ≡ q
     go true e = sym (eqb-true _ _ e)
     go false e = refl
+
+-- Another right is a turn.
+pub feed-turns : (q a : ℕ) (s : Sheet) → q ≢ s .run .right → feed q a s ≡ turned q a s
+unfolding feed
+feed-turns q a s e = simp (ne-eqb q (s .run .right) e)
 
 -- The same right again changes nothing.
 pub feed-again : (q a : ℕ) (s : Sheet) → s .run .right ≡ q → feed q a s ≡ s

@@ -5,4 +5,3 @@ pub mod Listing
 pub mod Scan
 pub mod Sheets
 pub mod Levels
-pub mod Turns

@@ -1,6 +1,6 @@
 // The listing of rights: by domain and then address, each longest run of one right other than none, written into
-// words that the caller lends. It goes down one level at a time, with the open run passed and returned; at a boundary
-// it is told which right holds from there on.
+// words that the caller lends. It goes down one level at a time, with the open run passed and returned, and in an entry
+// from stretch to stretch.
 ghost use mathlib.Core.Path.{_≡_};
 ghost use Prim.Native.Nat.{_+_, _*_, _%_, _<_, _≤_};
 ghost use lib.ListN.{length};
@@ -9,15 +9,12 @@ ghost use Rattle.table.specs.Shape.{Fits};
 ghost use Rattle.table.specs.Map.{formOf};
 ghost use Rattle.listing.specs.Runs.{memoryWords};
 ghost use Rattle.listing.specs.Scan.{listingOf};
-ghost use Rattle.listing.specs.Sheets.{putRun, sheet, counted, closed, feed, fed, OpenAt, written, opening};
-ghost use Rattle.listing.specs.Sheets.{countOf};
+ghost use Rattle.listing.specs.Sheets.{putRun, sheet, counted, closed, turned, feed, fed, OpenAt};
+ghost use Rattle.listing.specs.Sheets.{written, opening, countOf};
 ghost use Rattle.listing.specs.Levels.{tableWords, entrySays, entryRight};
 ghost use Rattle.table.specs.Entries.{blockWords};
 ghost use Rattle.listing.specs.Levels.{tableRight, AllSay, EntryAt, TableAt};
 ghost use Rattle.listing.specs.Listing.{wordRight, Lists};
-
-mod turns; // turns.rt: the rights of a leaf entry, turn by turn
-
 use table::Entry;
 use table::Shape;
 use words::PoolWord;
@@ -88,7 +85,24 @@ fn close(run: Open, at: u32, runs: &mut [u32]) -> usize
     n
 }
 
-// From word `at` on the right is `right`.
+// The right turns to `right` at word `at`.
+fn turn_to(right: u32, at: u32, run: Open, runs: &mut [u32]) -> Open
+    requires { ⌜ at ≤ memoryWords ⌝ }
+    requires { ⌜ OpenAt run at ⌝ }
+    ensures { λ r. ⌜ sheet r (now (runs .exit)) ≡ turned right at (sheet run (now (runs .entry))) ⌝ }
+{
+    let n = close(run, at, runs);
+    Open {
+        domain: run.domain,
+        right,
+        first: at,
+        count: n,
+        from: run.from,
+    }
+}
+
+// From word `at` on the right is `right`. There is one way out, whether it turns or not: so the open run stays in
+// registers.
 fn feed_right(right: u32, at: u32, run: Open, runs: &mut [u32]) -> Open
     requires { ⌜ at ≤ memoryWords ⌝ }
     requires { ⌜ OpenAt run at ⌝ }
@@ -110,29 +124,25 @@ fn feed_right(right: u32, at: u32, run: Open, runs: &mut [u32]) -> Open
     }
 }
 
-// The rights of the entry `w`, whose block begins at word `at`. Most entries say one right for the whole block, and
-// are told at once.
+// The rights of the entry `w`, whose block begins at word `at`, stretch by stretch: how far each one reaches is what a
+// lookup answers there. Between two of them the right turns.
 fn feed_rights(height: u32, w: u32, at: u32, run: Open, runs: &mut [u32]) -> Open
     requires { ⌜ (at % blockWords height ≡ 0) × (at + blockWords height ≤ memoryWords) ⌝ }
     requires { ⌜ OpenAt run at ⌝ }
     ensures { λ r. ⌜ sheet r (now (runs .exit)) ≡ fed (blockWords height) (entrySays height w)
         at (sheet run (now (runs .entry))) ⌝ }
 {
-    let first = words::right_at(w, 0);
-    let same = table::same_entry(height, first);
-    if w == same {
-        return feed_right(first, at, run, runs);
-    }
     let level = table::level_of(height);
     let parts = level.parts;
     let step = level.step;
-    let mut s = run;
-    let mut i = 0;
+    let begin = words::stretch_at(w, parts, 0);
+    let mut s = feed_right(begin.right, at, run, runs);
+    let mut i = begin.last + 1;
     while i < parts {
-        let right = words::right_at(w, i);
+        let around = words::stretch_at(w, parts, i);
         let from = at + i * step;
-        s = feed_right(right, from, s, runs);
-        i += 1;
+        s = turn_to(around.right, from, s, runs);
+        i = around.last + 1;
     }
     s
 }
@@ -158,14 +168,14 @@ fn feed_leaf(
     while i < table::LEAF_WORDS {
         let w = pool[start + i as usize];
         let from = at + i * 16;
-        s = turns::feed_chunk(w, from, s, runs);
+        s = feed_rights(0, w, from, s, runs);
         i += 1;
     }
     s
 }
 
 // How many of the `rest` entries from pool word `word` on say the open run's right for their whole blocks, as far as
-// is told at once: most entries of a table are alike, and so are tried 32 at a time.
+// is told at once: most entries of a table are alike, and so are tried 32 at a time, and near another entry four.
 fn same_ahead(pool: &[u32], height: u32, word: PoolWord, rest: u32, right: u32) -> u32
     requires { ⌜ (0 < rest) × (word .0 + rest ≤ length (now pool)) ⌝ }
     ensures { λ r. ⌜ (r ≤ rest) × AllSay (now (pool .entry)) height (word .0) r right ⌝ }
@@ -183,11 +193,15 @@ fn same_ahead(pool: &[u32], height: u32, word: PoolWord, rest: u32, right: u32) 
     if rest < 32 {
         return 1;
     }
+    let near = words::all_same(pool, word, 4, same);
+    if !near {
+        return 1;
+    }
     let all = words::all_same(pool, word, 32, same);
     if all {
         return 32;
     }
-    1
+    4
 }
 
 // The table of a height that begins at pool word `base`, for the memory from word `at` on. Entries that say what the

@@ -11,8 +11,8 @@ ghost use Rattle.lookaside.specs.Flushes.{flushes, flushedBuffer, flushe
 ghost use Rattle.lookaside.specs.Flushes.{flushedRegion};
 ghost use Rattle.lookaside.specs.Check.{isAccess, refusalOf, verdictOf, checkOf, walkDecided, decideOf};
 ghost use Rattle.lookaside.specs.Layout.{IsBuffer, bufferOf, bufferWords, CheckedAs, FlushedAs};
-use table::Found;
 use table::Shape;
+use table::Walked;
 use words::ByteAddr;
 use words::Region;
 use words::Rounded;
@@ -167,18 +167,19 @@ fn judge(kind: u32, right: u32, loads: u32) -> Verdict
     Verdict::Deny(loads)
 }
 
-// What a check that no slot answers decides: it walks the pool, and keeps the deciding entry, whether it passes or not.
+// What a check that no slot answers decides: it asks the pool as a lookup does, and keeps the deciding entry, whether
+// it passes or not.
 fn decide_by_walk(pool: &[u32], shape: Shape, domain: u32, kind: u32, address: ByteAddr) -> Ruling
     ensures { λ r. ⌜ r ≡ walkDecided (lookupOf (now (pool .entry)) shape domain (address .0)) domain kind
         (address .0) ⌝ }
 {
-    let found = table::lookup(pool, shape, domain, address);
-    match found {
-        Found::Refused(n) => Ruling {
+    let walked = table::decide(pool, shape, domain, address);
+    match walked {
+        Walked::Refused(n) => Ruling {
             verdict: Verdict::Refused(n),
             fill: Fill::Keep,
         },
-        Found::By(by) => {
+        Walked::By(by) => {
             let right = by.right;
             let entry = by.entry;
             let loads = by.loads;

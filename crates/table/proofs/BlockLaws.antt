@@ -1,12 +1,12 @@
 -- Laws of blocks and their sub-blocks: two addresses lie together exactly where their blocks have one number.
-use Prim.Native.Nat.{ℕ, zero, suc, _+_, _*_, _/_, _%_, _≤_, _<_}
+use Prim.Native.Nat.{ℕ, zero, suc, _+_, _*_, _-_, _/_, _%_, _≤_, _<_}
 use mathlib.Core.Path.{_≡_, sym, ap, _∙_}
 use native.Mathlib.Omega.{arith}
 use native.Mathlib.Decide.{ℕ-discrete}
 use Rattle.theory.specs.Settled.{Together}
 use Rattle.table.specs.declared.Shape.{Shape}
 use Rattle.table.specs.Shape.{size}
-use Rattle.table.specs.Map.{addresses, block, part, parts, index, formOf}
+use Rattle.table.specs.Map.{addresses, block, part, parts, blockAt, partAt, partOf, index, formOf}
 use Rattle.table.specs.Wants.{wordAt, wordsIn}
 
 -- The number of a block: it is the number of the block above, and the index in the table of that one.
@@ -76,6 +76,10 @@ pub number-below : (h a : ℕ) → a / part h % parts h < parts h
 number-below zero a = omega arith
 number-below (suc h) a = omega arith
 
+pub few-parts : (h : ℕ) → parts h ≤ 16
+few-parts zero = omega arith
+few-parts (suc h) = omega arith
+
 part-up : (h a : ℕ) → h < 2 → a / part (suc h) ≡ a / part h / (part (suc h) / part h)
 part-up zero a hi = omega arith
 part-up (suc zero) a hi = omega arith
@@ -93,6 +97,108 @@ byte-part (suc (suc h)) a = omega arith
 
 pub byte-block : (h a : ℕ) → a / block h ≡ a / 4 * 4 / block h
 byte-block h a = part-in-block h a (a / 4 * 4) (byte-part h a)
+
+-- The bytes of a block, and of its sub-blocks.
+
+pub around : (h a : ℕ) → (blockAt h a ≤ a) × (a < blockAt h a + block h)
+around zero a = (omega arith, omega arith)
+around (suc zero) a = (omega arith, omega arith)
+around (suc (suc h)) a = (omega arith, omega arith)
+
+-- A sub-block has bytes, and a block sub-blocks.
+pub some-bytes : (h : ℕ) → (0 < part h) × (0 < parts h)
+some-bytes zero = (omega arith, omega arith)
+some-bytes (suc zero) = (omega arith, omega arith)
+some-bytes (suc (suc h)) = (omega arith, omega arith)
+
+pub block-is : (h a b : ℕ) → blockAt h a ≤ b → b < blockAt h a + block h → a / block h ≡ b / block h
+block-is zero a b lo hi = omega arith
+block-is (suc zero) a b lo hi = omega arith
+block-is (suc (suc h)) a b lo hi = omega arith
+
+pub block-low : (h a : ℕ) → a < addresses → blockAt h a + block h ≤ addresses
+block-low zero a ba = omega arith
+block-low (suc zero) a ba = omega arith
+block-low (suc (suc h)) a ba = omega arith
+
+-- A byte lies in the first sub-blocks up to its own, and not past them.
+pub part-from : (h a i b : ℕ) → blockAt h a ≤ b → b < blockAt h a + block h → partAt h a i ≤ b → i ≤ partOf h b
+part-from zero a i b lo hi e = omega arith
+part-from (suc zero) a i b lo hi e = omega arith
+part-from (suc (suc h)) a i b lo hi e = omega arith
+
+pub part-upto : (h a i b : ℕ) → blockAt h a ≤ b → b < blockAt h a + block h → b ≤ partAt h a i + (part h - 1)
+    → partOf h b ≤ i
+part-upto zero a i b lo hi e = omega arith
+part-upto (suc zero) a i b lo hi e = omega arith
+part-upto (suc (suc h)) a i b lo hi e = omega arith
+
+pub from-part : (h a i b : ℕ) → blockAt h a ≤ b → b < blockAt h a + block h → i ≤ partOf h b → partAt h a i ≤ b
+from-part zero a i b lo hi e = omega arith
+from-part (suc zero) a i b lo hi e = omega arith
+from-part (suc (suc h)) a i b lo hi e = omega arith
+
+pub upto-part : (h a i b : ℕ) → blockAt h a ≤ b → b < blockAt h a + block h → partOf h b ≤ i
+    → b ≤ partAt h a i + (part h - 1)
+upto-part zero a i b lo hi e = omega arith
+upto-part (suc zero) a i b lo hi e = omega arith
+upto-part (suc (suc h)) a i b lo hi e = omega arith
+
+pub same-part : (h a b : ℕ) → blockAt h a ≤ b → b < blockAt h a + block h
+    → b / part h ≡ partAt h a (partOf h b) / part h
+same-part zero a b lo hi = omega arith
+same-part (suc zero) a b lo hi = omega arith
+same-part (suc (suc h)) a b lo hi = omega arith
+
+pub part-number : (h a i : ℕ) → i < parts h → partOf h (partAt h a i) ≡ i
+part-number zero a i b = omega arith
+part-number (suc zero) a i b = omega arith
+part-number (suc (suc h)) a i b = omega arith
+
+-- The last byte of a sub-block lies in the block, the byte before its first in the sub-block before, the one after
+-- its last in the next.
+pub part-ends : (h a i : ℕ) → i < parts h → partAt h a i + (part h - 1) < blockAt h a + block h
+part-ends zero a i b = omega arith
+part-ends (suc zero) a i b = omega arith
+part-ends (suc (suc h)) a i b = omega arith
+
+-- The first and the last sub-block.
+pub parts-ends : (h a : ℕ) → (partAt h a 0 ≡ blockAt h a)
+    × (partAt h a (parts h - 1) + (part h - 1) ≡ blockAt h a + (block h - 1))
+parts-ends zero a = (omega arith, omega arith)
+parts-ends (suc zero) a = (omega arith, omega arith)
+parts-ends (suc (suc h)) a = (omega arith, omega arith)
+
+pub part-some : (h a i : ℕ) → blockAt h a < partAt h a i → 0 < i
+part-some zero a i b = omega arith
+part-some (suc zero) a i b = omega arith
+part-some (suc (suc h)) a i b = omega arith
+
+pub part-before : (h a i : ℕ) → 0 < i → i < parts h → (blockAt h a ≤ partAt h a i - 1)
+    × (partAt h a i - 1 < blockAt h a + block h) × (partOf h (partAt h a i - 1) ≡ i - 1)
+part-before zero a i lo hi = (omega arith, omega arith, omega arith)
+part-before (suc zero) a i lo hi = (omega arith, omega arith, omega arith)
+part-before (suc (suc h)) a i lo hi = (omega arith, omega arith, omega arith)
+
+pub part-after : (h a i : ℕ) → partAt h a i + (part h - 1) + 1 < blockAt h a + block h → (i + 1 < parts h)
+    × (partOf h (partAt h a i + (part h - 1) + 1) ≡ i + 1)
+part-after zero a i hi = (omega arith, omega arith)
+part-after (suc zero) a i hi = (omega arith, omega arith)
+part-after (suc (suc h)) a i hi = (omega arith, omega arith)
+
+-- Sub-blocks counted from the first of the memory on: so code finds the first byte of one, and no product wraps.
+
+pub part-first : (h a i : ℕ) → (a / part h % parts h ≤ a / part h)
+    × ((a / part h - a / part h % parts h + i) * part h ≡ partAt h a i)
+part-first zero a i = (omega arith, omega arith)
+part-first (suc zero) a i = (omega arith, omega arith)
+part-first (suc (suc h)) a i = (omega arith, omega arith)
+
+pub number-fits : (h a i : ℕ) → a < addresses → i < parts h
+    → let x = a / part h - a / part h % parts h + i in (x ≤ x * part h) × (x * part h + (part h - 1) < addresses)
+number-fits zero a i ba b = (omega arith, omega arith)
+number-fits (suc zero) a i ba b = (omega arith, omega arith)
+number-fits (suc (suc h)) a i ba b = (omega arith, omega arith)
 
 -- The words of a block.
 

@@ -2,9 +2,12 @@ pub mod HeightLaws
 pub mod ShapeLaws
 pub mod EntryLaws
 pub mod BlockLaws
+pub mod StretchLaws
 pub mod FormLaws
 pub mod WantLaws
 pub mod FreshLaws
 pub mod FreshWordLaws
 pub mod LookupLaws
+pub mod AnswerLaws
 pub mod Witness
+pub mod Examples

@@ -31,9 +31,24 @@ abbrev pub parts : ℕ → ℕ
 parts zero = 16
 parts (suc h) = 8
 
+-- The first byte of the block of an address, and of sub-block `i` of that block.
+abbrev pub blockAt : ℕ → ℕ → ℕ
+blockAt h a = a / block h * block h
+
+abbrev pub partAt : ℕ → ℕ → ℕ → ℕ
+partAt h a i = blockAt h a + part h * i
+
+-- The number of the sub-block that an address lies in.
+abbrev pub partOf : ℕ → ℕ → ℕ
+partOf h a = a / part h % parts h
+
 -- The entry by which an address goes: bits 31 to 22 in a root, 21 to 12 in a middle table, 11 to 6 in a leaf.
 abbrev pub index : ℕ → ℕ → ℕ
 index h a = a / block h % size h
+
+-- The rights that the entry `w` of height `h` says.
+abbrev pub entryRights : ℕ → ℕ → ℕ → ℕ
+entryRights h w a = rightAt w (partOf h a)
 
 -- Bit 31 clear in a root or middle entry: a pool word number.
 abbrev pub leads : ℕ → ℕ → Bool
@@ -73,7 +88,7 @@ module _ (s : Shape) where
     good = good;
     leads = leads;
     target = λ h w. w;
-    says = λ h w a. rightAt w (a / part h % parts h);
+    says = entryRights;
     Wants = λ h R a. Divided (block h) (part h) R a;
     zone = zone;
   }

@@ -4,7 +4,7 @@ use mathlib.Core.Path.{_≡_}
 use mathlib.Core.Bool.{Bool, false, _||_, not}
 use lib.Dec.{eqb}
 use Rattle.words.specs.Rights.{pack}
-use Rattle.table.specs.Map.{addresses, block, part, parts}
+use Rattle.table.specs.Map.{addresses, part, parts, partAt}
 
 -- One of the first `n` numbers passes the test `f`.
 unfoldable pub any : (ℕ → Bool) → ℕ → Bool
@@ -13,7 +13,7 @@ any f (suc n) = f n || any f n
 
 -- The address of word `j` of sub-block `i` of the block of an entry of height `h` around `a`.
 abbrev pub wordAt : ℕ → ℕ → ℕ → ℕ → ℕ
-wordAt h a i j = a / block h * block h + part h * i + 4 * j
+wordAt h a i j = partAt h a i + 4 * j
 
 -- How many words a sub-block has.
 abbrev pub wordsIn : ℕ → ℕ

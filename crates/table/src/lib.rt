@@ -1,19 +1,20 @@
 // The table: the shape of a pool, what its entries say, making it fresh, and the lookup of one word.
 ghost use mathlib.Core.Path.{_≡_};
-ghost use Prim.Native.Nat.{_+_, _*_, _/_, _%_, _<_, _≤_};
+ghost use Prim.Native.Nat.{_+_, _*_, _<_, _≤_};
 ghost use lib.ListN.{length, replicate};
 ghost use Rattle.theory.specs.Pool.{words};
 ghost use Rattle.theory.specs.Walk.{walk};
 ghost use Rattle.table.specs.Shape.{fitsOf, Fits, InRange};
-ghost use Rattle.table.specs.Map.{index, part, parts, formOf};
+ghost use Rattle.table.specs.Map.{index, partOf, formOf};
 ghost use Rattle.table.specs.Entries.{leadsTo, decodeOf};
 ghost use Rattle.table.specs.Fresh.{MakesFresh};
-ghost use Rattle.table.specs.Lookup.{foundAt, LooksUp};
+ghost use Rattle.table.specs.Lookup.{foundAt, withoutReach, lookupOf, LooksUp};
 ghost use Rattle.table.specs.Access.{passesOf};
 use words::ByteAddr;
 use words::PoolWord;
 
 mod geometry; // geometry.rt: blocks, parts, sizes and places by the height
+mod reach; // reach.rt: how far the right of a deciding entry goes
 
 pub use geometry::BLOCK_BYTES;
 pub use geometry::DOMAIN_BLOCKS;
@@ -79,11 +80,26 @@ pub enum Made {
     Refused(u32),
 }
 
-// The right that a lookup finds, the entry that decides it, and how many words were read.
+// The right that a walk finds, the entry that decides it, and how many words were read.
+pub struct Decided {
+    pub right: u32,
+    pub entry: u32,
+    pub loads: u32,
+}
+
+pub enum Walked {
+    By(Decided),
+    Refused(u32),
+}
+
+// What a lookup answers: the same, and the first and the last byte of the stretch that has this right, inside the
+// entry's block.
 pub struct Deciding {
     pub right: u32,
     pub entry: u32,
     pub loads: u32,
+    pub first: ByteAddr,
+    pub last: ByteAddr,
 }
 
 pub enum Found {
@@ -131,7 +147,7 @@ pub fn index_in(height: u32, address: ByteAddr) -> usize
 // Which right of an entry of a height is that of an address.
 pub fn part_in(height: u32, address: ByteAddr) -> u32
     requires { ⌜ height ≤ 2 ⌝ }
-    ensures { λ r. ⌜ r ≡ address .0 / part height % parts height ⌝ }
+    ensures { λ r. ⌜ r ≡ partOf height (address .0) ⌝ }
 {
     let a = words::addr_number(address);
     if height == 2 {
@@ -229,11 +245,11 @@ fn load(pool: &[u32], at: PoolWord, before: u32) -> Loaded
 }
 
 // The walk from the root word of an address down to the entry that decides.
-fn walk_down(pool: &[u32], shape: Shape, domain: u32, address: ByteAddr) -> Found
+fn walk_down(pool: &[u32], shape: Shape, domain: u32, address: ByteAddr) -> Walked
     requires { ⌜ Fits shape (length (now pool)) ⌝ }
     requires { ⌜ domain < shape .domains ⌝ }
-    ensures { λ r. ⌜ r ≡ foundAt (formOf shape) (words (now (pool .entry))) (address .0)
-        (walk (formOf shape) (words (now (pool .entry))) (address .0) 2 (1024 * domain + index 2 (address .0))) ⌝ }
+    ensures { λ r. ⌜ r ≡ withoutReach (foundAt (formOf shape) (words (now (pool .entry))) (address .0)
+        (walk (formOf shape) (words (now (pool .entry))) (address .0) 2 (1024 * domain + index 2 (address .0)))) ⌝ }
 {
     let mut height: u32 = 2;
     let mut loads: u32 = 0;
@@ -247,17 +263,17 @@ fn walk_down(pool: &[u32], shape: Shape, domain: u32, address: ByteAddr) -> Foun
         let e = decode(shape, height, w);
         match e {
             Entry::Bad => {
-                return Found::Refused(6);
+                return Walked::Refused(6);
             }
             Entry::Rights(r) => {
                 let i = part_in(height, address);
                 let right = words::right_at(r, i);
-                let by = Deciding {
+                let by = Decided {
                     right,
                     entry: r,
                     loads,
                 };
-                return Found::By(by);
+                return Walked::By(by);
             }
             Entry::Leads(t, _) => {
                 height -= 1;
@@ -268,19 +284,34 @@ fn walk_down(pool: &[u32], shape: Shape, domain: u32, address: ByteAddr) -> Foun
     }
 }
 
-// The right of a domain at an address, the entry that decides it, and how many words were read.
-pub fn lookup(pool: &[u32], shape: Shape, domain: u32, address: ByteAddr) -> Found
-    ensures { λ r. ⌜ LooksUp (now (pool .entry)) shape domain (address .0) r ⌝ }
+// What a lookup answers, but for how far it reaches: checks and steps ask no more.
+pub fn decide(pool: &[u32], shape: Shape, domain: u32, address: ByteAddr) -> Walked
+    ensures { λ r. ⌜ r ≡ withoutReach (lookupOf (now (pool .entry)) shape domain (address .0)) ⌝ }
 {
     let n = pool.len();
     if !shape_fits(shape, n) {
-        return Found::Refused(1);
+        return Walked::Refused(1);
     }
     let domains = shape.domains;
     if domain >= domains {
-        return Found::Refused(2);
+        return Walked::Refused(2);
     }
     walk_down(pool, shape, domain, address)
+}
+
+// The right of a domain at an address, the entry that decides it, how many words were read, and how far the right
+// reaches inside the entry's block.
+pub fn lookup(pool: &[u32], shape: Shape, domain: u32, address: ByteAddr) -> Found
+    ensures { λ r. ⌜ LooksUp (now (pool .entry)) shape domain (address .0) r ⌝ }
+{
+    let walked = decide(pool, shape, domain, address);
+    match walked {
+        Walked::Refused(n) => Found::Refused(n),
+        Walked::By(by) => {
+            let all = reach::reached(by.entry, by.loads, address);
+            Found::By(all)
+        }
+    }
 }
 
 // Whether an access of a kind passes on a right.

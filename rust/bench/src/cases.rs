@@ -31,6 +31,7 @@ pub const CASES: &[Case] = &[
     case!(lookup_root, "lookup, decided in the root"),
     case!(lookup_middle, "lookup, decided in a middle table"),
     case!(lookup_leaf, "lookup, decided in a leaf"),
+    case!(lookup_word, "lookup, decided in a leaf whose words differ, a stretch of one word"),
     case!(check_first, "check, hit in slot 0"),
     case!(check_last, "check, hit in slot 63"),
     case!(check_miss, "check, miss of 64 slots, decided in the root"),
@@ -79,10 +80,23 @@ pub fn almost_full(subject: &impl Subject) -> Vec<u32> {
     pool
 }
 
-fn lookup<S: Direct>(subject: &'static S, address: u32) -> Body {
+/// A pool with 64 bytes of one right, and then 64 whose words have the four rights by turns.
+fn looked_up_in(subject: &impl Subject) -> Vec<u32> {
     let mut pool = SMALL.fresh();
     set(subject, &mut pool, SMALL, request(0, 0x1000, 64, 2));
-    let mut out = [0; 3];
+    (0..16).for_each(|word| set(subject, &mut pool, SMALL, request(0, 0x1040 + 4 * word, 4, word % 4)));
+    pool
+}
+
+/// Addresses by the entry that decides; the last one's stretch is a word.
+const ROOT: u32 = 0x40_0000;
+const MIDDLE: u32 = 0x2000;
+const LEAF: u32 = 0x103C;
+const WORD: u32 = 0x1064;
+
+fn lookup<S: Direct>(subject: &'static S, address: u32) -> Body {
+    let pool = looked_up_in(subject);
+    let mut out = [0; 5];
     Box::new(move |times| {
         for _ in 0..times {
             black_box(S::look(black_box(&pool), SMALL_WORDS, 0, black_box(address), &mut out));
@@ -91,15 +105,19 @@ fn lookup<S: Direct>(subject: &'static S, address: u32) -> Body {
 }
 
 fn lookup_root<S: Direct>(subject: &'static S) -> Body {
-    lookup(subject, 0x40_0000)
+    lookup(subject, ROOT)
 }
 
 fn lookup_middle<S: Direct>(subject: &'static S) -> Body {
-    lookup(subject, 0x2000)
+    lookup(subject, MIDDLE)
 }
 
 fn lookup_leaf<S: Direct>(subject: &'static S) -> Body {
-    lookup(subject, 0x103C)
+    lookup(subject, LEAF)
+}
+
+fn lookup_word<S: Direct>(subject: &'static S) -> Body {
+    lookup(subject, WORD)
 }
 
 /// Checks of loads at addresses by turns.
@@ -258,4 +276,20 @@ fn list_count<S: Subject>(subject: &'static S) -> Body {
 
 fn list_write<S: Subject>(subject: &'static S) -> Body {
     list(subject, 40_000)
+}
+
+#[cfg(test)]
+mod tests {
+    use super::*;
+
+    #[test]
+    fn lookups_are_decided_where_they_say() {
+        let pool = looked_up_in(&Twin);
+        for (address, must) in [(ROOT, (1, 4 << 20)), (MIDDLE, (2, 4096)), (LEAF, (3, 64)), (WORD, (3, 4))] {
+            let mut out = [0; 5];
+            assert_eq!(Twin.lookup(&pool, SMALL_WORDS, 0, address, &mut out), 0);
+            let [_, _, loads, first, last] = out;
+            assert_eq!((loads, last - first + 1), must);
+        }
+    }
 }

@@ -28,7 +28,7 @@ const PAGE: u32 = 0x3000;
 
 fn lookup() -> Body {
     let pool = almost_full(&Library);
-    let mut out = [0; 3];
+    let mut out = [0; 5];
     Box::new(move |times| {
         for _ in 0..times {
             black_box(Library::look(black_box(&pool), FULL_WORDS, 0, black_box(WORD), &mut out));

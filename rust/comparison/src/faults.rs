@@ -3,6 +3,7 @@
 
 mod callers;
 mod programs;
+mod reaches;
 
 use crate::subject::{By, Step, Subject, Twin};
 use callers::*;
@@ -12,6 +13,7 @@ use model::face::shape_of;
 use model::regions::Asked;
 use model::shape::Shape;
 use programs::*;
+use reaches::*;
 
 /// The twin with some of its functions replaced.
 #[allow(clippy::type_complexity)]
@@ -228,4 +230,28 @@ pub const ALL: &[Fault] = &[
     ("keeps an export that was given", "regions", Wrong { give_export: keeps_first_export, ..RIGHT }),
     ("joins an export with the one before", "regions", Wrong { give_export: joins_rights, ..RIGHT }),
     ("gives an export to a domain that there is not", "regions", Wrong { give_export: sets_past_d, ..RIGHT }),
+    ("lets a stretch end with its sub-block", "reaches", Wrong { lookup: stops_at_the_part, ..RIGHT }),
+    ("takes the whole block for the stretch", "reaches", Wrong { lookup: gives_the_block, ..RIGHT }),
+    ("runs on into the block after", "reaches", Wrong { lookup: runs_on_after, ..RIGHT }),
+    ("runs on into the block before", "reaches", Wrong { lookup: runs_on_before, ..RIGHT }),
+    ("joins stretches that lie apart", "reaches", Wrong { lookup: joins_what_lies_apart, ..RIGHT }),
+    ("reads sixteen rights in a root entry", "reaches", Wrong { lookup: reads_sixteen_rights, ..RIGHT }),
+    ("reads eight rights in a leaf entry", "reaches", Wrong { lookup: reads_eight_rights, ..RIGHT }),
+    ("gives the end for the last byte", "reaches", Wrong { lookup: gives_the_end, ..RIGHT }),
+    ("loses the last byte of memory", "reaches", Wrong { lookup: loses_the_last_byte, ..RIGHT }),
+    ("gives the last word for the last byte", "reaches", Wrong { lookup: gives_the_last_word, ..RIGHT }),
+    ("lets a stretch begin at the word", "reaches", Wrong { lookup: begins_at_the_word, ..RIGHT }),
+    ("gives the low bits with the first byte", "reaches", Wrong { lookup: keeps_the_low_bits, ..RIGHT }),
+    ("counts a stretch in words", "reaches", Wrong { lookup: counts_in_words, ..RIGHT }),
+    ("counts a stretch from its block", "reaches", Wrong { lookup: counts_from_the_block, ..RIGHT }),
+    ("swaps first and last byte", "reaches", Wrong { lookup: swaps_first_and_last, ..RIGHT }),
+    ("gives three results as before", "reaches", Wrong { lookup: three_words_alone, ..RIGHT }),
+    ("gives no first byte without the last", "reaches", Wrong { lookup: both_or_none, ..RIGHT }),
+    ("clears a sixth result word", "reaches", Wrong { lookup: clears_the_sixth_word, ..RIGHT }),
+    ("leaves first and last on a refusal", "reaches", Wrong { lookup: refuses_with_a_reach, ..RIGHT }),
+    ("refuses with a block", "reaches", Wrong { lookup: refuses_with_the_block, ..RIGHT }),
+    ("lets a stretch end with its sub-block", "short series", Wrong { lookup: stops_at_the_part, ..RIGHT }),
+    ("gives three results as before", "pools", Wrong { lookup: three_words_alone, ..RIGHT }),
+    ("leaves first and last on a refusal", "pools", Wrong { lookup: refuses_with_a_reach, ..RIGHT }),
+    ("leaves first and last on a refusal", "lent shapes", Wrong { lookup: refuses_with_a_reach, ..RIGHT }),
 ];

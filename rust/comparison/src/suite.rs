@@ -1,10 +1,14 @@
 //! The comparisons with their seeds, their sizes and the kinds of cases that each must meet.
 
-use crate::compare::{callers, cuts, gates, lengths, lent, life, listings, pools, regions, rows, series, slots, Run};
+mod kinds;
+
+use crate::compare::{callers, cuts, gates, lengths, lent, life, listings, pools, reaches, regions, rows};
+use crate::compare::{series, slots, Run};
 use crate::given::shapes;
 use crate::subject::Subject;
 use crate::tally::{answers, remainders, Tally};
 use crate::Difference;
+use kinds::*;
 use model::shape::Shape;
 
 /// How a comparison ended.
@@ -61,179 +65,6 @@ impl Comparison {
 pub fn named(name: &str) -> &'static Comparison {
     ALL.iter().find(|comparison| comparison.name == name).expect("a comparison of that name")
 }
-
-const SERIES_KINDS: &[&str] = &[
-    "series: D 1",
-    "series: D 2",
-    "series: D 3",
-    "series: D 4",
-    "series: M 0",
-    "series: M 1",
-    "series: M 2",
-    "series: M 3",
-    "series: M 4",
-    "series: M 5",
-    "series: M 6",
-    "series: M 7",
-    "series: M 8",
-    "series: L 0",
-    "series: L 1 to 63",
-    "series: L 64",
-    "series: a pool of roots alone",
-    "series: a pool with middle tables alone",
-    "series: a pool with leaves",
-    "series: a full pool",
-    "lookup in 1 load",
-    "lookup in 2 loads",
-    "lookup in 3 loads",
-];
-
-const CUT_KINDS: &[&str] =
-    &["cut: old rights", "cut: new rights", "cut: some words old, some new", "cut, tidied and made again"];
-
-const UNSETTLED: &[&str] = &[
-    "cut: old rights",
-    "cut: new rights",
-    "cut: some words old, some new",
-    "cut: not settled",
-    "cut, tidied and made again",
-];
-
-const LIFE_KINDS: &[&str] = &[
-    "life: changed",
-    "life: a change is cut",
-    "life: refused 7 after a cut",
-    "life: tidied",
-    "life: a tidying is cut",
-    "life: a reset",
-    "life: a slot answers",
-    "life: a miss",
-];
-
-const POOL_KINDS: &[&str] = &[
-    "pool of another length",
-    "pool that fits one shape",
-    "pool that fits several shapes",
-    "pool sound in another shape",
-    "pool not sound in another shape",
-];
-
-const LISTING_KINDS: &[&str] = &[
-    "listing: no run",
-    "listing: fewer than 1,000 runs",
-    "listing: 1,000 runs or more",
-    "listing: 20,000 runs or more",
-    "listing: not all fit",
-    "listing: room for part of a run",
-    "listing: from past the last",
-    "listing: a run to the last byte",
-    "listing: one right at a domain's end and the next one's start",
-];
-
-const SLOT_KINDS: &[&str] = &[
-    "check passes with 0 loads",
-    "check passes with 1 loads",
-    "check passes with 2 loads",
-    "check passes with 3 loads",
-    "check is denied with 0 loads",
-    "check is denied with 1 loads",
-    "check is denied with 2 loads",
-    "check is denied with 3 loads",
-    "flush empties several slots",
-    "flush meets slots out of order",
-];
-
-const STEP_KINDS: &[&str] =
-    &["step is refused", "step is denied", "step switches", "step returns", "step passes without a gate"];
-
-const REGION_KINDS: &[&str] = &[
-    "a list of more than 64 regions",
-    "a list of no region",
-    "a list of 64 regions",
-    "a list of regions that do not meet",
-    "a list of regions that overlap",
-    "a list with two regions of the same words",
-    "a list with a region of no words",
-    "a list with a region past the memory",
-    "a list of owners that there are not",
-    "a list with bits for domains above 15",
-    "making: next to a region",
-    "making: away from all regions",
-    "making: refused for one word that is held",
-    "making: refused for words that are held",
-    "making: refused for a caller other than 0",
-    "passing a region: there is none of these words",
-    "passing a region: it is another's",
-    "passing a region: the earlier of two decides",
-    "passing a region: exports end",
-    "passing a region: there was no export",
-    "giving an export: there is none of these words",
-    "giving an export: it is another's",
-    "giving an export: the earlier of two decides",
-    "giving an export: the receiver is the caller",
-    "giving an export: in the place of an export",
-    "giving an export: the first to a domain",
-];
-
-const CALLER_KINDS: &[&str] = &[
-    "allowed to domain 0 outside all regions",
-    "allowed to the owner",
-    "allowed by an export of none",
-    "allowed by an export of read",
-    "allowed by an export of read and write",
-    "allowed by an export of execute and read",
-    "allowed on several stretches",
-    "allowed on exactly the words of a region",
-    "refused for its first word alone",
-    "refused for its last word alone",
-    "refused between its ends",
-    "refused outside all regions",
-    "refused none without an export",
-    "refused without an export",
-    "refused for the exporter",
-    "refused right 1 by an export of 0",
-    "refused right 2 by an export of 0",
-    "refused right 3 by an export of 0",
-    "refused right 2 by an export of 1",
-    "refused right 3 by an export of 1",
-    "refused right 3 by an export of 2",
-    "refused right 2 by an export of 3",
-    "refused 19 before 0",
-    "refused 19 before 6",
-    "refused 19 before 7",
-    "refused 19 before 8",
-    "refused 19 before 100",
-    "the earlier of two allows",
-    "the earlier of two refuses",
-    "an idle region would say otherwise",
-    "every cut of a change by a caller",
-    "a list of regions that do not meet",
-    "a list of regions that overlap",
-    "a list with a region of no words",
-    "a list with a region past the memory",
-    "a list of owners that there are not",
-    "making: next to a region",
-    "passing a region: exports end",
-    "giving an export: in the place of an export",
-];
-
-const LENT_KINDS: &[&str] = &[
-    "lent shape of 0 words",
-    "lent shape of 1 words",
-    "lent shape of 2 words",
-    "lent shape of 3 words",
-    "lent shape of 4 words",
-    "lent shape of 5 words",
-    "lent shape of 6 words",
-    "lent shape of 7 words",
-    "lent shape of the paper's form",
-    "lent shape with a V",
-    "lent shape of another form",
-    "lent shape of another form with a V",
-    "state of another length",
-    "state of another length, and another form or a V",
-    "state and shape of another length",
-];
 
 pub const ALL: &[Comparison] = &[
     Comparison {
@@ -415,6 +246,14 @@ pub const ALL: &[Comparison] = &[
         ],
         regions: &["change by a caller"],
         kinds: CALLER_KINDS,
+    },
+    Comparison {
+        name: "reaches",
+        seed: 18,
+        body: |run| reaches::reaches(run, 100, 150),
+        answers: &[("reach", &[0, 1, 2, 6, 101])],
+        regions: &[],
+        kinds: REACH_KINDS,
     },
 ];
 

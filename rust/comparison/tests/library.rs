@@ -42,6 +42,7 @@ library! {
     lengths: "lengths",
     regions: "regions",
     changes_by_callers: "changes by callers",
+    reaches: "reaches",
 }
 
 /// All comparisons on the cases of other seeds, by hand: `SEEDS=20 cargo test --release -- --ignored soak`.

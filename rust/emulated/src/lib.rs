@@ -34,7 +34,8 @@ pub fn tidy(pool: &mut [u32], shape: &[u32], allowance: u32, out: &mut [u32]) ->
     call(2, &[allowance], [Lent::Out(pool), Lent::NONE, Lent::NONE, Lent::Out(out), Lent::In(shape)])
 }
 
-/// The right of a word. Results: the right, the deciding entry, the loads made.
+/// The right of a word. Results: the right, the deciding entry, the loads made, and the first and the last byte of the
+/// longest stretch of the right around the word in the entry's block.
 pub fn lookup(pool: &[u32], shape: &[u32], domain: u32, address: u32, out: &mut [u32]) -> u32 {
     call(3, &[domain, address], [Lent::In(pool), Lent::NONE, Lent::NONE, Lent::Out(out), Lent::In(shape)])
 }

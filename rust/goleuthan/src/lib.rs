@@ -15,6 +15,7 @@
 //! assert_eq!(table.change(request, u32::MAX)?, Answer::Done { stores: 1026 });
 //! let found = table.lookup(0, 0x103F)?;
 //! assert_eq!((found.right, found.loads), (Right::ReadWrite, 3));
+//! assert_eq!(found.range(), 0x1000..=0x103F);
 //! # Ok::<(), goleuthan::Refusal>(())
 //! ```
 #![deny(unsafe_code, missing_docs)]
@@ -25,6 +26,7 @@ mod refusal;
 mod regions;
 mod runs;
 mod stack;
+mod stretches;
 mod table;
 
 #[cfg(linked)]
@@ -43,4 +45,5 @@ pub use refusal::Refusal;
 pub use regions::{Exports, OwnedRegion, Regions};
 pub use runs::Run;
 pub use stack::{CallStack, Frame};
+pub use stretches::{Stretch, Stretches};
 pub use table::{Access, Answer, Found, Request, Right, Shape, Table, Verdict};

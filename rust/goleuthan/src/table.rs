@@ -1,6 +1,7 @@
 //! The table: a borrowed pool with its shape, and the calls on it.
 
-use crate::{runs, words, CallStack, Gates, LookasideBuffer, Refusal, Regions, Run};
+use crate::{runs, words, CallStack, Gates, LookasideBuffer, Refusal, Regions, Run, Stretches};
+use std::ops::{RangeBounds, RangeInclusive};
 
 /// The shape of a pool: how many domains, middle places and leaf places it has. It is the words that the library knows.
 /// The pool does not hold them: give each call those that it was made fresh with.
@@ -103,7 +104,9 @@ pub enum Answer {
     Cut,
 }
 
-/// What a lookup finds.
+/// What a lookup finds, and how far it reaches: every byte from the first to the last has the right, all by the entry
+/// that decides. They lie in the entry's block (4 MB for a root entry, 4 KB for one of a middle table, 64 bytes for one
+/// of a leaf), and a byte beside them in the block has another right. In the next block the right may go on.
 #[derive(Clone, Copy, Debug, PartialEq, Eq, Hash)]
 pub struct Found {
     /// The right.
@@ -112,6 +115,17 @@ pub struct Found {
     pub entry: u32,
     /// The loads made: 1 to 3 by the level that decides.
     pub loads: u32,
+    /// The first byte of the longest stretch of the right around the address, inside the block.
+    pub first_byte: u32,
+    /// The last byte of that stretch, which is `u32::MAX` at the end of memory.
+    pub last_byte: u32,
+}
+
+impl Found {
+    /// The bytes of the stretch.
+    pub fn range(&self) -> RangeInclusive<u32> {
+        self.first_byte..=self.last_byte
+    }
 }
 
 /// An access to be checked; the size is 1, 2 or 4 bytes.
@@ -230,11 +244,44 @@ impl<'a> Table<'a> {
         answer(number, out[0])
     }
 
-    /// The right that a domain has on the word at an address.
+    /// The right that a domain has on the word at an address, and the bytes around it that have the same.
     pub fn lookup(&self, domain: u32, address: u32) -> Result<Found, Refusal> {
-        let mut out = [0; 3];
+        let mut out = [0; 5];
         Refusal::none_or(words::lookup(self.pool, self.shape.words(), domain, address, &mut out))?;
-        Ok(Found { right: Right::of(out[0]), entry: out[1], loads: out[2] })
+        let [right, entry, loads, first_byte, last_byte] = out;
+        Ok(Found { right: Right::of(right), entry, loads, first_byte, last_byte })
+    }
+
+    /// The rights of a domain in a range of bytes, stretch by stretch in order of address, and with exactly one lookup
+    /// for each; nothing is allocated.
+    ///
+    /// The stretches lie side by side and are cut to the range, so that they cover it and no byte beyond. Each is what
+    /// one lookup reaches: two neighbours in one block differ in their right, and where a block begins there is a new
+    /// stretch, though its right may be that of the one before. A refusal, as [`lookup`](Table::lookup) gives it, is
+    /// the last item; an empty range makes no lookup and has no items.
+    ///
+    /// ```
+    /// use goleuthan::{Request, Right, Shape, Table};
+    ///
+    /// let shape = Shape::new(1, 1, 1);
+    /// let mut pool = vec![0; shape.pool_words()];
+    /// let mut table = Table::fresh(&mut pool, shape)?;
+    /// let _ = table.change(Request { domain: 0, start: 0x1010, length: 72, right: Right::Read }, u32::MAX)?;
+    /// let mut walk = table.stretches(0, 0x1000..0x1080).map(|stretch| {
+    ///     stretch.map(|stretch| (stretch.first_byte, stretch.last_byte, stretch.right))
+    /// });
+    /// // 32 words in four lookups; the block of a leaf's entry ends at 0x103F
+    /// assert_eq!(walk.next(), Some(Ok((0x1000, 0x100F, Right::None))));
+    /// assert_eq!(walk.next(), Some(Ok((0x1010, 0x103F, Right::Read))));
+    /// assert_eq!(walk.next(), Some(Ok((0x1040, 0x1057, Right::Read))));
+    /// assert_eq!(walk.next(), Some(Ok((0x1058, 0x107F, Right::None))));
+    /// assert_eq!(walk.next(), None);
+    /// // to the end of memory, which is the last block's
+    /// assert_eq!(table.stretches(0, 0xFFC0_0000..).count(), 1);
+    /// # Ok::<(), goleuthan::Refusal>(())
+    /// ```
+    pub fn stretches(&self, domain: u32, bytes: impl RangeBounds<u32>) -> Stretches<'_> {
+        Stretches::new(self, domain, bytes)
     }
 
     /// Checks an access through a lookaside buffer: the verdict, and the loads made (0 where a slot answers). It is the

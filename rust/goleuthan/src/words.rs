@@ -169,7 +169,8 @@ pub fn tidy(pool: &mut [u32], shape: &[u32], allowance: u32, out: &mut [u32]) ->
     unsafe { c::gol_tidy(pool.as_mut_ptr(), words, shape, shape_len, allowance, out.as_mut_ptr(), out_len) }
 }
 
-/// The right of a word. Results: the right, the deciding entry, the loads made.
+/// The right of a word. Results: the right, the deciding entry, the loads made, and the first and the last byte of the
+/// longest stretch of the right around the word in the entry's block.
 pub fn lookup(pool: &[u32], shape: &[u32], domain: u32, address: u32, out: &mut [u32]) -> u32 {
     let (shape, shape_len) = (shape.as_ptr(), shape.len());
     let (words, out_len) = (pool.len(), out.len());

@@ -1,7 +1,7 @@
 //! The safe face: each type's calls, once each way. What the library answers is compared elsewhere.
 
 use goleuthan::{Access, Answer, CallStack, Found, Frame, Gate, GateKind, Gates, Level, LookasideBuffer};
-use goleuthan::{Regions, Request, Right, Run, Shape, Slot, Table, Verdict};
+use goleuthan::{Regions, Request, Right, Run, Shape, Slot, Stretch, Table, Verdict};
 
 const SHAPE: Shape = Shape::new(2, 1, 1);
 
@@ -41,13 +41,40 @@ fn changes_lookups_and_runs() {
     assert_eq!(table.tidy(u32::MAX), Ok(Answer::Done { stores: 0 }));
     let done = table.change(request(1, 0x1000, 64, Right::ReadWrite), u32::MAX);
     assert!(matches!(done, Ok(Answer::Done { stores }) if stores <= 1026));
-    assert_eq!(table.lookup(1, 0x103F), Ok(Found { right: Right::ReadWrite, entry: 0xAAAA_AAAA, loads: 3 }));
-    assert_eq!(table.lookup(0, 0x103F), Ok(Found { right: Right::None, entry: 0x8000_0000, loads: 1 }));
+    let (first_byte, last_byte) = (0x1000, 0x103F);
+    let found = Found { right: Right::ReadWrite, entry: 0xAAAA_AAAA, loads: 3, first_byte, last_byte };
+    assert_eq!(table.lookup(1, 0x103F), Ok(found));
+    assert_eq!(found.range(), first_byte..=last_byte);
+    let found = Found { right: Right::None, entry: 0x8000_0000, loads: 1, first_byte: 0, last_byte: 0x3F_FFFF };
+    assert_eq!(table.lookup(0, 0x103F), Ok(found));
     assert_eq!(number(table.lookup(2, 0)), 2);
     let run = Run { domain: 1, first_byte: 0x1000, last_byte: 0x103F, right: Right::ReadWrite };
     assert_eq!(table.runs(), Ok(vec![run]));
     let refused = table.change(request(0, 0, 4, Right::Read), u32::MAX).unwrap_err();
     assert_eq!(refused.to_string(), "refused 8: there are not enough middle or leaf places for these rights");
+}
+
+/// Blocks of all three levels, from the middle of a word on; a root entry that is bad ends the walk.
+#[test]
+fn stretches_of_a_range() {
+    let mut pool = vec![0; SHAPE.pool_words()];
+    let mut table = Table::fresh(&mut pool, SHAPE).unwrap();
+    let _ = table.change(request(1, 0x3F_FFF8, 0x40_0008, Right::ReadWrite), u32::MAX).unwrap();
+    let stretch = |first_byte, last_byte, right| Ok(Stretch { right, first_byte, last_byte });
+    let page = stretch(0x3F_E801, 0x3F_EFFF, Right::None);
+    let leaf = (0..63).map(|line| stretch(0x3F_F000 + 64 * line, 0x3F_F03F + 64 * line, Right::None));
+    let line = [stretch(0x3F_FFC0, 0x3F_FFF7, Right::None), stretch(0x3F_FFF8, 0x3F_FFFF, Right::ReadWrite)];
+    let (block, rest) = (stretch(0x40_0000, 0x7F_FFFF, Right::ReadWrite), stretch(0x80_0000, 0x80_0002, Right::None));
+    let all = [page].into_iter().chain(leaf).chain(line).chain([block, rest]);
+    assert!(table.stretches(1, 0x3F_E801..0x80_0003).eq(all));
+    assert_eq!(table.stretches(1, ..).last(), Some(stretch(0xFFC0_0000, u32::MAX, Right::None)));
+    let mut refused = table.stretches(2, ..);
+    assert_eq!((number(refused.next().unwrap()), refused.next()), (2, None));
+    pool[1023] = 7;
+    let table = Table::resume(&mut pool, SHAPE);
+    let mut end = table.stretches(0, 0xFF80_0000..);
+    assert_eq!(end.next(), Some(stretch(0xFF80_0000, 0xFFBF_FFFF, Right::None)));
+    assert_eq!((number(end.next().unwrap()), end.next()), (6, None));
 }
 
 #[test]

@@ -5,12 +5,15 @@ use crate::shape::{Shape, LEAF, TABLE};
 use crate::state::{Owner, Owners, State, BLOCK, LINE, PAGE};
 use crate::Refusal;
 
-/// What a lookup gives.
+/// What a lookup gives; `first` and `last` are bytes, those of the longest stretch of the right around the word inside
+/// the block of the entry.
 #[derive(Clone, Copy, Debug, PartialEq, Eq)]
 pub struct Found {
     pub right: u32,
     pub entry: u32,
     pub loads: u32,
+    pub first: u32,
+    pub last: u32,
 }
 
 /// Bit 31 set and bits 30 to 16 zero: eight rights.
@@ -27,20 +30,34 @@ pub fn lookup(pool: &[u32], shape: Shape, domain: u32, address: u32) -> Result<F
     let word = address / 4;
     let root = pool[shape.root(domain as usize) + (word / BLOCK) as usize];
     if is_eight_rights(root) {
-        return Ok(found(root, word % BLOCK / (BLOCK / 8), 1));
+        return Ok(found(root, word, BLOCK, 8, 1));
     }
     let middle_place = shape.middle_at(root).ok_or(6u32)?;
     let middle = pool[shape.middle(middle_place) + (word % BLOCK / PAGE) as usize];
     if is_eight_rights(middle) {
-        return Ok(found(middle, word % PAGE / (PAGE / 8), 2));
+        return Ok(found(middle, word, PAGE, 8, 2));
     }
     let leaf_place = shape.leaf_at(middle).ok_or(6u32)?;
     let leaf = pool[shape.leaf(leaf_place) + (word % PAGE / LINE) as usize];
-    Ok(found(leaf, word % LINE, 3))
+    Ok(found(leaf, word, LINE, 16, 3))
 }
 
-fn found(entry: u32, part: u32, loads: u32) -> Found {
-    Found { right: right_of(entry, part), entry, loads }
+/// What an entry says of a word, where its rights are for `parts` equal parts of a block of `words` words. A stretch
+/// grows from the word's own part to both sides, as long as the word beside it lies in the block and has the right.
+fn found(entry: u32, word: u32, words: u32, parts: u32, loads: u32) -> Found {
+    let part = words / parts;
+    let block = word / words * words;
+    let right_at = |word: u32| right_of(entry, (word - block) / part);
+    let right = right_at(word);
+    let mut start = word / part * part;
+    let mut end = start + part;
+    while start > block && right_at(start - 1) == right {
+        start -= part;
+    }
+    while end < block + words && right_at(end) == right {
+        end += part;
+    }
+    Found { right, entry, loads, first: 4 * start, last: 4 * (end - 1) + 3 }
 }
 
 fn right_of(entry: u32, part: u32) -> u32 {

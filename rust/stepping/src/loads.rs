@@ -11,15 +11,21 @@ use model::walk::lookup;
 #[derive(Clone, Debug, PartialEq, Eq)]
 pub struct Loads {
     pub number: u32,
-    pub results: [u32; 3],
+    pub results: [u32; RESULTS],
     pub touched: Vec<usize>,
 }
 
-/// Makes a call in a child whose view of the pool is shut. The call is given the pool and three result words; it
-/// neither allocates nor panics.
+/// A lookup has the most.
+const RESULTS: usize = 5;
+/// What a result word holds that no call wrote.
+const MARK: u32 = 0x4D41_524B;
+
+/// Makes a call in a child whose view of the pool is shut. The call is given the pool and five result words, a mark in
+/// each; it neither allocates nor panics.
 pub fn loads(pool: &[u32], call: impl FnOnce(&[u32], &mut [u32]) -> u32) -> Result<Loads, String> {
-    let (lent, answer) = (Shared::new(pool.len())?, Shared::new(4)?);
+    let (lent, answer) = (Shared::new(pool.len())?, Shared::new(1 + RESULTS)?);
     lent.words_mut().copy_from_slice(pool);
+    answer.words_mut().fill(MARK);
     let work = || {
         let (number, out) = answer.words_mut().split_at_mut(1);
         guard(lent.words_mut(), Against::Touching);
@@ -32,7 +38,7 @@ pub fn loads(pool: &[u32], call: impl FnOnce(&[u32], &mut [u32]) -> u32) -> Resu
         touched.push(lent.word_at(touch.address)?);
     }
     let told = answer.words();
-    Ok(Loads { number: told[0], results: [told[1], told[2], told[3]], touched })
+    Ok(Loads { number: told[0], results: std::array::from_fn(|i| told[1 + i]), touched })
 }
 
 /// The words that the paper's walk of an address names, up to the entry that decides or is bad.
@@ -63,16 +69,16 @@ pub struct Lookup {
 /// What makes a lookup: the library, or something that stands in for it. It neither allocates nor panics.
 pub type Walker = fn(&Lookup, &[u32], &mut [u32]) -> u32;
 
-/// A lookup loads the words of the walk, each once and in order, and answers with their number; refused, it has
-/// loaded no more than the walk up to the bad entry.
+/// A lookup loads the words of the walk, each once and in order, and answers with their number: how far the answer
+/// reaches costs no load. Refused, it has loaded no more than the walk up to the bad entry.
 pub fn watch_lookup(walker: Walker, asked: &Lookup, pool: &[u32]) -> Result<Loads, Difference> {
     let Lookup { shape, domain, address } = *asked;
     let made = loads(pool, |pool, out| walker(asked, pool, out)).map_err(Difference)?;
     let words = walk(pool, shape, domain, address);
     hold!(made.touched == words, "{asked:x?} loads the words {:x?}, and the walk is {words:x?}", made.touched);
     let (number, results) = match lookup(pool, shape, domain, address) {
-        Ok(found) => (0, [found.right, found.entry, words.len() as u32]),
-        Err(refusal) => (refusal, [0; 3]),
+        Ok(found) => (0, [found.right, found.entry, words.len() as u32, found.first, found.last]),
+        Err(refusal) => (refusal, [0; RESULTS]),
     };
     let answered = (made.number, made.results);
     hold!(answered == (number, results), "{asked:x?} answers {answered:x?}, and must {:x?}", (number, results));

@@ -142,6 +142,15 @@ fn looks_at_another_address(asked: &Lookup, pool: &[u32], out: &mut [u32]) -> u3
     library(&Lookup { address: asked.address ^ 1 << 31, ..*asked }, pool, out)
 }
 
+fn looks_at_the_next_block(asked: &Lookup, pool: &[u32], out: &mut [u32]) -> u32 {
+    black_box(pool[(asked.address >> 22) as usize + 1]);
+    library(asked, pool, out)
+}
+
+fn gives_three_words(asked: &Lookup, pool: &[u32], out: &mut [u32]) -> u32 {
+    library(asked, pool, &mut out[..3])
+}
+
 /// One more call that reads nothing is harmless.
 #[inline(never)]
 fn behind_a_call(asked: &Lookup, pool: &[u32], out: &mut [u32]) -> u32 {
@@ -157,8 +166,13 @@ fn every_wrong_walk_is_seen() {
         ("walks twice", walks_twice as Walker),
         ("reads one more word", reads_one_more),
         ("looks at another address", looks_at_another_address),
+        ("looks at the next block", looks_at_the_next_block),
+        ("gives three words", gives_three_words),
     ] {
         assert!(watch_lookup(walker, &asked, &pool).is_err(), "a lookup that {what} is let pass");
     }
+    let refused = Lookup { domain: 1, ..asked };
+    assert!(watch_lookup(gives_three_words, &refused, &pool).is_err(), "a refusal of three words is let pass");
+    assert!(watch_lookup(library, &refused, &pool).is_ok());
     assert!(watch_lookup(behind_a_call, &asked, &pool).is_ok());
 }

@@ -30,6 +30,17 @@ pub fn sixteen(right: u32) -> u32 {
     right * 0x5555_5555
 }
 
+/// The first and the last of an entry's `parts` parts around part `i` that all have its right. In `other` a place is
+/// zero where the right is the same; the upper bits of eight rights are no rights, so the last is capped.
+#[inline]
+pub fn same_around(entry: u32, i: u32, parts: u32) -> (u32, u32) {
+    let other = entry ^ sixteen(right_at(entry, i));
+    let below = other & ((1 << (2 * i)) - 1);
+    let first = (33 - below.leading_zeros()) / 2;
+    let same = (other >> (2 * i)).trailing_zeros() / 2;
+    (first, (i + same).min(parts) - 1)
+}
+
 /// The words `lo <= w < hi` of memory.
 #[derive(Clone, Copy)]
 pub struct Region {

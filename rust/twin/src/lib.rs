@@ -126,8 +126,8 @@ pub fn tidy(pool: &mut [u32], shape: &[u32], allowance: u32, out: &mut [u32]) ->
 
 #[inline(never)]
 pub fn lookup(pool: &[u32], shape: &[u32], domain: u32, address: u32, out: &mut [u32]) -> u32 {
-    let answer = Shape::fitting(pool, shape).and_then(|shape| lookup::lookup(pool, shape, domain, address));
-    deliver(out, answer.map(|found| [found.right, found.entry, found.loads]))
+    let answer = Shape::fitting(pool, shape).and_then(|shape| lookup::reaching(pool, shape, domain, address));
+    deliver(out, answer)
 }
 
 #[inline(never)]

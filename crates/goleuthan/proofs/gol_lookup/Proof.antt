@@ -6,14 +6,14 @@ use borrow.Author.Needs.{needs}
 use Rattle.goleuthan.proofs.gol_lookup.Statement.{statement}
 use Rattle.goleuthan.proofs.gol_lookup.Tie as tie
 
-three-requires : tie.Need-three-requires
-three-requires c κs = search needs
+five-requires : tie.Need-five-requires
+five-requires c κs = search needs
 
 same-length : tie.Need-same-length
 same-length c = search needs
 
 returns : tie.Need-returns
-returns c = rw (c .before .before .three .ensures) (wrong-length (c .before .before .before .before .if1 .taken))
+returns c = rw (c .before .before .five .ensures) (wrong-length (c .before .before .before .before .if1 .taken))
 
 read-shape-requires : tie.Need-read-shape-requires
 read-shape-requires c κs = search needs
@@ -43,7 +43,7 @@ pub gol-lookup-spec : {M : Type 1} → statement M
 gol-lookup-spec =
     tie.close
     (tie.spec
-    three-requires
+    five-requires
     same-length
     returns
     read-shape-requires

@@ -56,8 +56,8 @@ mul-from c = search needs
 add-from : tie.Need-add-from Inv-loop μ-loop
 add-from c = let x = stands (c .before) in omega (arith, x .inside)
 
-feed-chunk-requires : tie.Need-feed-chunk-requires Inv-loop μ-loop
-feed-chunk-requires c κs =
+feed-rights-requires : tie.Need-feed-rights-requires Inv-loop μ-loop
+feed-rights-requires c κs =
     let i = c .before .before in
     let x = stands i in
     ((x .aligned, x .inside), i .before .loop .inv .0 _ (leaf (i .before .before)) .numbers)
@@ -73,7 +73,7 @@ loop-again c =
     let f = c .before .before in
     let i = f .before .before .before in (
       (λ x k. entry-next _ x _ _ _ k (levelOf 0) refl _ (i .loop-test .taken) _ _ _ (i .before .loop .inv .0 x k)
-          (f .feed-chunk .ensures ∙ rights-fed _ _ _ _ _ _ _
+          (f .feed-rights .ensures ∙ rights-fed _ _ _ _ _ _ _
           (entry-at _ x _ _ _ k (levelOf 0) refl _ (i .loop-test .taken)) refl)),
       omega arith,
     )
@@ -102,7 +102,7 @@ feed-leaf-spec =
     shared-slice-read-w
     mul-from
     add-from
-    feed-chunk-requires
+    feed-rights-requires
     add-i
     loop-less
     loop-again

@@ -3,6 +3,7 @@ use Prim.Native.Nat.{_+_, _<_}
 use mathlib.Core.Path.{_≡_, sym, ap, _∙_}
 use native.Mathlib.Omega.{arith}
 use borrow.Author.Needs.{needs}
+use borrow.Author.Tests.{not-false}
 use Rattle.theory.specs.Pool.{words}
 use Rattle.words.proofs.RightsLaws.{right-small}
 use Rattle.table.specs.Entries.{sameOf}
@@ -57,12 +58,26 @@ all-same-requires : tie.Need-all-same-requires
 all-same-requires c κs = search needs
 
 returns-4 : tie.Need-returns-4
-returns-4 c =
+returns-4 c = (omega arith, here (c .before .before .before))
+
+-- The entry and the three after it.
+near : (c : tie.Else4) → let a = c .before .before .before .before .before .before .before .before .before .before .args
+    in
+    AllSay (a .pool .now) (a .height) (a .word .0) 4 (a .right)
+near c j b =
     let d = c .before .before .before in
-    (omega arith, λ j b. (c .before .all-same .ensures .0 (c .if4 .taken) j b ∙ same d, small d))
+    (c .before .all-same .ensures .0 (not-false _ (c .if4 .left)) j b ∙ same d, small d)
+
+all-same-requires-2 : tie.Need-all-same-requires-2
+all-same-requires-2 c κs = search needs
 
 returns-5 : tie.Need-returns-5
-returns-5 c = (omega arith, here (c .before .before .before))
+returns-5 c =
+    let d = c .before .before .before .before .before in
+    (omega arith, λ j b. (c .before .all-same2 .ensures .0 (c .if5 .taken) j b ∙ same d, small d))
+
+returns-6 : tie.Need-returns-6
+returns-6 c = (omega arith, near (c .before .before))
 
 pub same-ahead-spec : {M : Type 1} → statement M
 same-ahead-spec =
@@ -78,4 +93,6 @@ same-ahead-spec =
     returns-3
     all-same-requires
     returns-4
-    returns-5)
+    all-same-requires-2
+    returns-5
+    returns-6)

@@ -1,40 +1,41 @@
--- `table::lookup` meets its contract.
+-- `table::lookup` meets its contract. Assumes nothing.
 use mathlib.Core.Path.{sym, _∙_}
-use native.Mathlib.Omega.{arith}
 use borrow.Author.Needs.{needs}
-use borrow.Author.Tests.{not-true, not-false}
-use Rattle.table.proofs.ShapeLaws.{test-fits}
-use Rattle.table.proofs.LookupLaws.{lookup-misfit, lookup-no-domain, lookup-walks, looks-up}
+use Rattle.table.proofs.LookupLaws.{walked-refused, walked-loads, walked-by}
 use Rattle.table.proofs.lookup.Statement.{statement}
 use Rattle.table.proofs.lookup.Tie as tie
 
-shape-fits-requires : tie.Need-shape-fits-requires
-shape-fits-requires c κs = search needs
+decide-requires : tie.Need-decide-requires
+decide-requires c κs = search needs
+
+enum-known-walked : tie.Need-enum-known-walked
+enum-known-walked c = search needs
 
 returns : tie.Need-returns
 returns c =
-    let a = c .before .before .before .args in
-    looks-up _ _ _ _ _ (sym (lookup-misfit (a .pool .now) (a .shape) (a .domain) (a .address .0)
-    (sym (c .before .shape-fits .ensures) ∙ not-true _ (c .if1 .taken))))
+    let d = c .before .before .before in
+    let a = d .before .before .args in
+    walked-refused (a .pool .now) (a .shape) (a .domain) (a .address .0) _
+    (sym (c .before .walked .given .1) ∙ d .decide .ensures)
+
+enum-known-walked-2 : tie.Need-enum-known-walked-2
+enum-known-walked-2 c = search needs
+
+reached-requires : tie.Need-reached-requires
+reached-requires c κs =
+    let d = c .before .before .before in
+    let a = d .before .before .args in
+    walked-loads (a .pool .now) (a .shape) (a .domain) (a .address .0) _
+    (sym (c .before .walked2 .given .1) ∙ d .decide .ensures)
 
 returns-2 : tie.Need-returns-2
 returns-2 c =
-    let a = c .before .before .before .before .args in
-    looks-up _ _ _ _ _ (sym (lookup-no-domain (a .pool .now) (a .shape) (a .domain) (a .address .0)
-    (sym (c .before .before .shape-fits .ensures) ∙ not-false _ (c .before .if1 .left)) (c .if2 .taken)))
-
-walk-down-requires : tie.Need-walk-down-requires
-walk-down-requires c κs =
-    let a = c .before .before .before .before .args in (
-      test-fits (a .shape) _ (sym (c .before .before .shape-fits .ensures) ∙ not-false _ (c .before .if1 .left)),
-      omega arith,
-    )
-
-returns-3 : tie.Need-returns-3
-returns-3 c =
-    let a = c .before .before .before .before .before .args in
-    looks-up _ _ _ _ _ (c .walk-down .ensures ∙ sym (lookup-walks (a .pool .now) (a .shape) (a .domain) (a .address .0)
-    (sym (c .before .before .before .shape-fits .ensures) ∙ not-false _ (c .before .before .if1 .left)) (omega arith)))
+    let d = c .before .before .before .before in
+    let a = d .before .before .args in
+    walked-by (a .pool .now) (a .shape) (a .domain) (a .address .0) _
+    (sym (c .before .before .walked2 .given .1) ∙ d .decide .ensures) (c .reached .result) (c .reached .ensures)
 
 pub lookup-spec : {M : Type 1} → statement M
-lookup-spec = tie.close (tie.spec shape-fits-requires returns returns-2 walk-down-requires returns-3)
+lookup-spec =
+    tie.close
+    (tie.spec decide-requires enum-known-walked enum-known-walked-2 reached-requires returns returns-2)

@@ -10,7 +10,7 @@ use Rattle.theory.specs.Walk.{walk}
 use Rattle.theory.proofs.WalkLaws.{walk-refused, walk-stops}
 use Rattle.table.specs.Map.{index, formOf}
 use Rattle.table.specs.Entries.{decodeOf}
-use Rattle.table.specs.Lookup.{foundAt}
+use Rattle.table.specs.Lookup.{foundAt, withoutReach}
 use Rattle.table.proofs.EntryLaws.{part-below, index-below, bad-above, decoded-bad, decoded-any-rights}
 use Rattle.table.proofs.LookupLaws.{GoesOn, goes-on}
 use Rattle.table.proofs.walk_down.Statement.{statement}
@@ -68,7 +68,7 @@ returns c =
     let P = words (s .args .pool .now) in
     let e = ap (decodeOf (s .args .shape) (l .loop .height)) (sym (d .before .load .ensures .0))
     ∙ sym (d .decode .ensures) ∙ c .enum-told .given .1 in
-    ap (foundAt F P (s .args .address .0))
+    ap (λ e. withoutReach (foundAt F P (s .args .address .0) e))
     (sym (walk-refused F P (s .args .address .0) (l .loop .height) (l .loop .at .0)
     (decoded-bad (s .args .shape) (l .loop .height) _ (bad-above (s .args .shape) (l .loop .height) _ e)
     (l .loop .inv .0) e))
@@ -102,7 +102,7 @@ returns-2 c =
     let loads : d .before .load .result .loads ≡ 3 - l .loop .height = omega (arith, l .loop .inv .1, l .loop .inv .0)
     in
     rw (c .right-at .ensures, c .before .part-in .ensures, e, word, loads)
-    (ap (foundAt F P (s .args .address .0))
+    (ap (λ e. withoutReach (foundAt F P (s .args .address .0) e))
     (sym (walk-stops F P (s .args .address .0) (l .loop .height) (l .loop .at .0) (rw word at g) (rw word at n))
     ∙ l .loop .inv .3))
 

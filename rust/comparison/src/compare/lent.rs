@@ -105,7 +105,7 @@ fn one_lookup(run: &mut Run, pool: &[u32], shape: &[u32]) -> Result<(), Differen
     run.tally.answered("lookup by a lent shape", number);
     let found = shape_of(shape, &[]).and_then(|shape| lookup(pool, shape, domain, address));
     let what = format!("lookup of {address:#x} in domain {domain} by {shape:x?}");
-    Expected::new(found.map(|found| [found.right, found.entry, found.loads])).held(&what, number, &out)
+    Expected::found(found).held(&what, number, &out)
 }
 
 fn one_listing(run: &mut Run, pool: &[u32], shape: &[u32]) -> Result<(), Difference> {

@@ -8,6 +8,7 @@ pub mod lent;
 pub mod life;
 pub mod listings;
 pub mod pools;
+pub mod reaches;
 pub mod regions;
 pub mod rows;
 pub mod series;
@@ -17,6 +18,7 @@ use crate::rng::Rng;
 use crate::subject::{Subject, CUT};
 use crate::tally::Tally;
 use crate::{hold, Difference};
+use model::walk::Found;
 
 /// What a comparison needs: the subject, numbers to draw from, and the tally of what it met.
 pub struct Run<'a> {
@@ -30,14 +32,16 @@ impl<'a> Run<'a> {
         Run { subject, rng: Rng::new(seed), tally: Tally::default() }
     }
 
-    /// Lends result words, a mark in each.
+    /// Lends result words, a mark in each: mostly more than any call has results.
     fn lend(&mut self) -> Vec<u32> {
-        let length = if self.rng.once_in(4) { self.rng.index(6) } else { 5 };
+        let length = if self.rng.once_in(4) { self.rng.index(MOST_LENT + 1) } else { MOST_LENT };
         vec![MARK; length]
     }
 }
 
 const MARK: u32 = 0x4D41_524B;
+/// A lookup has five results, the most of all calls.
+const MOST_LENT: usize = 7;
 
 /// The number and the result words that the interface gives for an answer of the model.
 pub struct Expected {
@@ -48,6 +52,11 @@ pub struct Expected {
 impl Expected {
     pub fn new<const N: usize>(answer: Result<[u32; N], u32>) -> Expected {
         Expected { number: answer.err().unwrap_or(0), results: answer.unwrap_or([0; N]).to_vec() }
+    }
+
+    /// A lookup.
+    pub fn found(answer: Result<Found, u32>) -> Expected {
+        Expected::new(answer.map(|found| [found.right, found.entry, found.loads, found.first, found.last]))
     }
 
     /// A change or tidying that needs `count` stores and may make `allowance`.

@@ -137,7 +137,6 @@ fn one_lookup(run: &mut Run, pool: &[u32], shape: Shape) -> Result<(), Differenc
     let mut out = run.lend();
     let number = run.subject.lookup(pool, &shape.words(), domain, address, &mut out);
     run.tally.answered("lookup in any pool", number);
-    let found = lookup(pool, shape, domain, address).map(|found| [found.right, found.entry, found.loads]);
     let what = format!("lookup of {address:#x} in domain {domain} of any pool as {shape:?}");
-    Expected::new(found).held(&what, number, &out)
+    Expected::found(lookup(pool, shape, domain, address)).held(&what, number, &out)
 }

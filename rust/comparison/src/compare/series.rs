@@ -1,6 +1,6 @@
 //! Series of changes from a fresh pool. The model follows them in rights and owners alone and never reads the pool.
 
-use super::{same_words, Expected, Run, MARK};
+use super::{same_words, Expected, Run, MARK, MOST_LENT};
 use crate::given::{requests, shapes};
 use crate::{hold, Difference};
 use model::change::{differing, Request};
@@ -103,13 +103,12 @@ pub fn lookups(run: &mut Run, pool: &[u32], state: &State, request: Request) -> 
 }
 
 fn one_lookup(run: &mut Run, pool: &[u32], state: &State, domain: u32, address: u32) -> Result<(), Difference> {
-    let mut out = vec![MARK; 4];
+    let mut out = vec![MARK; MOST_LENT];
     let number = run.subject.lookup(pool, &state.shape.words(), domain, address, &mut out);
     let what = format!("lookup of {address:#x} in domain {domain} of {:?}", state.shape);
     let right = state.rights[domain as usize].at(address / 4);
     hold!(number == 0 && out[0] == right, "{what}: answers {number} and right {}, must be {right}", out[0]);
-    let found = walk::lookup(pool, state.shape, domain, address);
-    Expected::new(found.map(|found| [found.right, found.entry, found.loads])).held(&what, number, &out)?;
+    Expected::found(walk::lookup(pool, state.shape, domain, address)).held(&what, number, &out)?;
     run.tally.met(["", "lookup in 1 load", "lookup in 2 loads", "lookup in 3 loads"][out[2] as usize]);
     Ok(())
 }

@@ -1,9 +1,9 @@
--- `listing::turns::turn_to` meets its contract.
+-- `listing::turn_to` meets its contract.
 use mathlib.Core.Path.{ap}
 use borrow.Author.Needs.{needs}
 use Rattle.listing.specs.Sheets.{opened}
-use Rattle.listing.proofs.turns.turn_to.Statement.{statement}
-use Rattle.listing.proofs.turns.turn_to.Tie as tie
+use Rattle.listing.proofs.turn_to.Statement.{statement}
+use Rattle.listing.proofs.turn_to.Tie as tie
 
 close-requires : tie.Need-close-requires
 close-requires c κs = search needs
