@@ -98,11 +98,14 @@ if ! (cd "$root" && rt check) > "$work/proved" 2>&1; then
     exit 1
 fi
 : > "$work/counts"
-# the crates with the longest proofs come first, so that no processor waits for the last of them
+# the crates with the most to check, the lines of their proofs for each edit, come first: so no processor waits for the
+# last of them
 longest_first() {
-    local crate
+    local crate lines edits
     for crate in $(ls "$root/tests/wrong"); do
-        echo "$(find "$root/crates/$crate" -name '*.antt' -exec cat {} + | wc -l) $crate"
+        lines=$(find "$root/crates/$crate" -name '*.antt' -exec cat {} + | wc -l)
+        edits=$(ls "$root/tests/wrong/$crate" | wc -l)
+        echo "$((lines * edits)) $crate"
     done | sort -rn | cut -d ' ' -f 2
 }
 [ $# -gt 0 ] || set -- $(longest_first)
