@@ -17,7 +17,7 @@ use Rattle.table.specs.Shape.{Fits, size}
 use Rattle.table.specs.Map.{part, parts, index, formOf}
 use Rattle.table.specs.Wants.{wordsIn}
 use Rattle.table.specs.Entries.{decodeOf, levelOf, blockWords, sameOf}
-use Rattle.table.proofs.BlockLaws.{first-word, few-parts as parts-few}
+use Rattle.table.proofs.BlockLaws.{first-word, some-bytes, few-parts as parts-few}
 use Rattle.table.proofs.EntryLaws.{decode-rights, bad-rights, rights-leads}
 use Rattle.census.proofs.ReadableLaws.{Walkable, sound-readable, reached-not-bad, reached-rights-right, reached-leads}
 use Rattle.table.specs.declared.geometry.Level.{Level}
@@ -46,10 +46,6 @@ parts-block zero = refl
 parts-block (suc zero) = refl
 parts-block (suc (suc h)) = refl
 
-parts-some : (h : ℕ) → 0 < parts h
-parts-some zero = omega arith
-parts-some (suc h) = omega arith
-
 module _ (h : ℕ) (v : Level) (e : v ≡ levelOf h) where
   level-parts : v .parts ≡ parts h
   level-parts = ap (λ x. x .parts) e
@@ -71,7 +67,7 @@ module _ (h : ℕ) (v : Level) (e : v ≡ levelOf h) where
   whole-table = ap (λ x. x .entries * x .block) e
 
   pub some-parts : 0 < v .parts
-  some-parts = omega (arith, level-parts, parts-some h)
+  some-parts = omega (arith, level-parts, some-bytes h .1)
 
   pub few-parts : v .parts ≤ 16
   few-parts = omega (arith, level-parts, parts-few h)

@@ -1,28 +1,22 @@
 -- Every byte that the answer of a lookup reaches to has that same answer: a region is walked in as few lookups as it
 -- has stretches. Assumes nothing.
-use Prim.Native.Nat.{ℕ, _+_, _*_, _-_, _/_, _<_, _≤_}
+use Prim.Native.Nat.{ℕ, _+_, _*_, _/_, _≤_}
 use mathlib.Core.Path.{_≡_, refl, sym, ap, subst, _∙_}
-use mathlib.Core.Bool.{true}
 use mathlib.Core.List.{List}
 use native.Mathlib.Omega.{arith}
-use lib.Dec.{ltb}
-use lib.ListN.{length}
-use borrow.Author.Tests.{ltb-true, ltb-false}
 use Rattle.theory.specs.Pool.{words}
-use Rattle.theory.proofs.Logic.{by-cases}
 use Rattle.theory.proofs.WalkLaws.{together-decides}
 use Rattle.words.specs.Stretches.{Longest}
 use Rattle.words.proofs.StretchLaws.{one-longest, longest-around}
 use Rattle.table.specs.declared.Shape.{Shape}
 use Rattle.table.specs.declared.Deciding.{Deciding}
 use Rattle.table.specs.declared.Found.the-variants.{By}
-use Rattle.table.specs.Shape.{fitsOf}
 use Rattle.table.specs.Map.{block, part, blockAt, entryRights, formOf}
 use Rattle.table.specs.Stretches.{firstByte, lastByte}
 use Rattle.table.specs.Lookup.{decidedBy, foundAt, lookupOf}
 use Rattle.table.proofs.BlockLaws.{block-together, block-is}
 use Rattle.table.proofs.StretchLaws.{stretch-longest, entry-whole}
-use Rattle.table.proofs.LookupLaws.{lookup-misfit, lookup-no-domain, lookup-walks, refused-not-by, whole-found}
+use Rattle.table.proofs.LookupLaws.{lookup-walks, answered, whole-found}
 
 -- Around another byte of the stretch there is the same stretch.
 module _ (R : ℕ → ℕ) (h a b : ℕ) (whole : (x y : ℕ) → x / part h ≡ y / part h → R x ≡ R y)
@@ -45,18 +39,10 @@ module _ (R : ℕ → ℕ) (h a b : ℕ) (whole : (x y : ℕ) → x / part h ≡
       (longest-around R (blockAt h a) (blockAt h a + block h) a b here from upto)
 
 module _ (p : List ℕ) (s : Shape) (d a : ℕ) (x : Deciding) (e : lookupOf p s d a ≡ By x) where
-  -- An answer that is a right was not refused.
-  answered : (fitsOf s (length p) ≡ true) × (d < s .domains)
-  answered = by-cases (fitsOf s (length p))
-      (λ f. by-cases (ltb d (s .domains))
-      (λ l. (f, ltb-true d (s .domains) l))
-      (λ l. absurd (refused-not-by (sym (lookup-no-domain p s d a f (ltb-false d (s .domains) l)) ∙ e))))
-      (λ f. absurd (refused-not-by (sym (lookup-misfit p s d a f) ∙ e)))
-
   pub same-answer : (b : ℕ) → x .first .0 ≤ b → b ≤ x .last .0 → lookupOf p s d b ≡ By x
   same-answer b lo hi =
       let (h, k, z, q) = whole-found p s d a x e in
-      let (fits, domain) = answered in
+      let (fits, domain) = answered p s d a x e in
       let w = words p k in
       let R = entryRights h w in
       let from : firstByte R h a ≤ b = rw q at lo in

@@ -150,11 +150,6 @@ same-part zero a b lo hi = omega arith
 same-part (suc zero) a b lo hi = omega arith
 same-part (suc (suc h)) a b lo hi = omega arith
 
-pub part-number : (h a i : ℕ) → i < parts h → partOf h (partAt h a i) ≡ i
-part-number zero a i b = omega arith
-part-number (suc zero) a i b = omega arith
-part-number (suc (suc h)) a i b = omega arith
-
 -- The last byte of a sub-block lies in the block, the byte before its first in the sub-block before, the one after
 -- its last in the next.
 pub part-ends : (h a i : ℕ) → i < parts h → partAt h a i + (part h - 1) < blockAt h a + block h
@@ -226,6 +221,12 @@ pub word-number : (h a i j : ℕ) → i < parts h → j < wordsIn h → wordAt h
 word-number zero a i j bi bj = omega arith
 word-number (suc zero) a i j bi bj = omega arith
 word-number (suc (suc h)) a i j bi bj = omega arith
+
+-- A sub-block begins with its first word.
+pub part-number : (h a i : ℕ) → i < parts h → partOf h (partAt h a i) ≡ i
+part-number h a i b =
+    let z : partAt h a i ≡ wordAt h a i 0 = omega arith in
+    ap (partOf h) z ∙ word-number h a i 0 b (first-word h)
 
 -- Every address is a byte of one of the words of its block.
 word-of : (h b : ℕ) → b / 4 * 4 ≡ wordAt h b (b / part h % parts h) (b % part h / 4)

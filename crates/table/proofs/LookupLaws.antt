@@ -73,7 +73,7 @@ module _ (p : List ℕ) (s : Shape) (d a : ℕ) where
   pub lookup-walks : fitsOf s (length p) ≡ true → d < s .domains → lookupOf p s d a ≡ foundAt (formOf s) (words p) a end
   lookup-walks e h = rw (e, lt-ltb d (s .domains) h)
 
-pub refused-not-by : {n : ℕ} {x : Deciding} → Refused n ≡ By x → ⊥
+refused-not-by : {n : ℕ} {x : Deciding} → Refused n ≡ By x → ⊥
 refused-not-by e = let z : _≡_ {A = ℕ} 0 1 = cc in omega arith
 
 -- What the end of a walk must be for an answer that is a right.
@@ -83,15 +83,20 @@ found-decides F P a bad x e = absurd (refused-not-by e)
 found-decides F P a (decides h k) x e = (h, k, refl, cc)
 
 module _ (p : List ℕ) (s : Shape) (d a : ℕ) (x : Deciding) (e : lookupOf p s d a ≡ By x) where
-  -- An answer that is a right comes from the end of a walk.
-  pub whole-found : (h : ℕ) × (k : ℕ) × (end p s d a ≡ decides h k)
-      × (x ≡ decidedBy (entryRights h (words p k)) h (words p k) a)
-  whole-found = by-cases (fitsOf s (length p))
+  -- An answer that is a right was not refused, ..
+  pub answered : (fitsOf s (length p) ≡ true) × (d < s .domains)
+  answered = by-cases (fitsOf s (length p))
       (λ f. by-cases (ltb d (s .domains))
-      (λ l. found-decides (formOf s) (words p) a (end p s d a) x
-      (sym (lookup-walks p s d a f (ltb-true d (s .domains) l)) ∙ e))
+      (λ l. (f, ltb-true d (s .domains) l))
       (λ l. absurd (refused-not-by (sym (lookup-no-domain p s d a f (ltb-false d (s .domains) l)) ∙ e))))
       (λ f. absurd (refused-not-by (sym (lookup-misfit p s d a f) ∙ e)))
+
+  -- .. and comes from the end of a walk.
+  pub whole-found : (h : ℕ) × (k : ℕ) × (end p s d a ≡ decides h k)
+      × (x ≡ decidedBy (entryRights h (words p k)) h (words p k) a)
+  whole-found =
+      let (f, l) = answered in
+      found-decides (formOf s) (words p) a (end p s d a) x (sym (lookup-walks p s d a f l) ∙ e)
 
   pub right-found : (h : ℕ) × (k : ℕ) × (end p s d a ≡ decides h k) × (x .right ≡ formOf s .says h (words p k) a)
       × (x .entry ≡ words p k) × (x .loads ≡ 3 - h)
