@@ -82,7 +82,7 @@ SAYS_WORD = re.compile(r"(?:^|_)(?:word|addr|address|start)$")
 
 # Functions that go on from an index of the pool, with the reason.
 OFFSETS = {
-    ("targets", "part"): "its loop passes over the pages of a block, for most of the time of a plan",
+    ("targets", "entries_have"): "its loop passes over the pages of a block, for most of the time of a plan",
     ("listing", "feed_leaf"): "its loop passes over the entries of every leaf",
 }
 
@@ -184,7 +184,8 @@ WRONG = [
     ("table", "fill(&mut pool[..roots], words::BIT_31);", "fill(&mut pool[..n], words::BIT_31);", "fresh: pool[..n]"),
     ("plan", "return pool[k];", "return pool[root as usize];", "old_entry: pool[root as usize]"),
     ("census", "            let w = pool[k];", "            let w = pool[k + 1];", "table_check: pool[k + 1]"),
-    ("targets", "let w = pool[from + j as usize];", "let w = pool[m + j as usize];", "part: pool[m + j as usize]"),
+    ("targets", "let w = pool[start + j as usize];", "let w = pool[number + j as usize];",
+     "entries_have: pool[number + j as usize]"),
     ("change/ahead", "    table: PoolWord,", "    table: u32,", "a bare number: table of near_entries"),
     ("plan", "    pub number: u32,", "    pub word: u32,", "a bare number: word of Edge"),
     ("change/ahead", "    pub past: PoolWord,", "    pub past: u32,", "a bare number: past of Span"),

@@ -1,29 +1,26 @@
 -- Laws of the target of an entry of any height: told at once, or found from the entries of its table.
-use Prim.Native.Nat.{ℕ, zero, suc, _+_, _*_, _-_, _/_, _≤_, _<_}
+use Prim.Native.Nat.{ℕ, zero, suc, _+_, _*_, _/_, _≤_, _<_}
 use mathlib.Core.Path.{_≡_, refl, sym, ap, _∙_}
 use mathlib.Core.Bool.{false}
 use mathlib.Core.List.{List}
 use native.Mathlib.Omega.{arith}
+use lib.ListN.{length}
 use borrow.Author.Tests.{lt-ltb, le-ltb}
-use Rattle.theory.specs.Pool.{words}
 use Rattle.words.specs.Rights.{rightAt, pack}
 use Rattle.table.specs.Map.{block, parts, leads}
 use Rattle.table.specs.Wants.{wordsIn, above, saidOf}
-use Rattle.table.proofs.BlockLaws.{first-word}
 use Rattle.targets.specs.declared.Paint.{Paint}
 use Rattle.targets.specs.declared.Cover.the-variants.{Apart, Whole}
 use Rattle.targets.specs.declared.One.{One}
-use Rattle.targets.specs.declared.One.the-variants.{Right, Two}
 use Rattle.targets.specs.declared.Target.{Target}
-use Rattle.targets.specs.declared.Target.the-variants.{Says, Mixed}
+use Rattle.targets.specs.declared.Target.the-variants.{Says}
 use Rattle.targets.specs.Targets.{painted, given, targetOf, Gives, GivesLeaf, Readable}
 use Rattle.targets.specs.Steps.{CoverIs, Plain, OneIs, PartIs, GoodRights, SaysIs}
 use Rattle.targets.proofs.PackLaws.{leaf-packed, eight-packed}
-use Rattle.targets.proofs.TargetLaws.{mixed-not-said}
+use Rattle.targets.proofs.TargetLaws.{leaf-target}
 use Rattle.targets.proofs.PartLaws.{partWord}
-use Rattle.targets.proofs.PieceLaws.{leaf-target, piece-two, one-moved}
-use Rattle.targets.proofs.HeightLaws.{part-first, Entries}
-use Rattle.targets.proofs.GivenLaws.{gives-parts, gives-entry, gives-leaf}
+use Rattle.targets.proofs.HeightLaws.{part-first}
+use Rattle.targets.proofs.GivenLaws.{gives-parts, gives-leaf}
 use Rattle.targets.proofs.PaintLaws.{inside-none}
 use Rattle.targets.proofs.SearchLaws.{whole-target, apart-target, given-target}
 
@@ -39,6 +36,12 @@ leads-high (suc h) e l = le-ltb e 2147483648 l
 pub readable-good : (q : List ℕ) (h e : ℕ) → Readable q h e → GoodRights h e
 readable-good q zero e r = tt
 readable-good q (suc h) e r = r .rights
+
+-- The table of a readable entry lies in the pool.
+pub readable-inside : (q : List ℕ) (h e : ℕ) → 0 < h → e < 2147483648 → Readable q h e → e < length q
+readable-inside q zero e l b r = absurd (omega arith)
+readable-inside q (suc zero) e l b r = omega (arith, r .table (lt-ltb e 2147483648 b))
+readable-inside q (suc (suc h)) e l b r = omega (arith, r .table (lt-ltb e 2147483648 b))
 
 -- An entry that is rights is its rights packed.
 entry-packed : (h e : ℕ) → e < 4294967296 → GoodRights h e → leads h e ≡ false → pack (above h) (parts h) (rightAt e)
@@ -84,50 +87,6 @@ module _ (p : Paint) (P : ℕ → ℕ) (b e n i : ℕ) where
       let z : (8 * n + i) * long ≡ partWord (suc b) n i = part-first b n i long is in
       let g = gives-parts P (given P (suc b) e) (suc b) e n i bi (le-ltb e 2147483648 l) (λ x q. refl) in
       rw (z, is) at (f (rw (z, is, says) g))
-
-  -- A sub-block of an entry that leads: it has `count` entries of the table.
-  module _ (count : ℕ) (s : Entries b n i count) where
-    abbrev number : ℕ
-    number = (8 * n + i) * count
-
-    -- Entry `j` of these is readable ..
-    pub entry-readable : (q : List ℕ) (j x : ℕ) → Readable q (suc b) e → e < 2147483648 → j < count → x
-        ≡ e + (count * i + j)
-        → Readable q b (words q x)
-    entry-readable q j x r l bj at = rw at (r .entries (lt-ltb e 2147483648 l) (count * i + j) (s .inside j bj))
-
-    -- .. and, as it was found, is the target of its words.
-    pub entry-found : (j x m : ℕ) (t : Target) → e < 2147483648 → j < count → x ≡ e + (count * i + j) → m ≡ number + j
-        → ((R : ℕ → ℕ) → Gives P b (P x) m R → t ≡ targetOf (painted p R) b (m * block b)) → targetOf rights-after b
-        (m * block b) ≡ t
-    entry-found j x m t l bj at to g =
-        sym (g (given P (suc b) e) (gives-entry P b e n (count * i + j) x m (s .low) (lt-ltb e 2147483648 l)
-        (s .inside j bj) at
-        (to ∙ s .number j)))
-
-    -- One that does not say the right `u` of the first word: the sub-block has two.
-    pub entries-two : (u same j : ℕ) → pack (above b) (parts b) (λ k. u) ≡ same → j < count
-        → rights-after (4 * (number * (block b / 4))) ≡ u
-        → (targetOf rights-after b ((number + j) * block b) ≡ Says same → ⊥) → PartIs P p (suc b) e n i Two
-    entries-two u same j says bj first other =
-        one-moved Two rights-after (number * (block b / 4)) (partWord (suc b) n i) (wordsIn (suc b)) (s .first)
-        (piece-two rights-after b number u same says j (wordsIn (suc b)) (first-word (suc b)) (s .upto j bj) first
-        other)
-
-    -- So it has where the first is mixed.
-    pub first-mixed : targetOf rights-after b (number * block b) ≡ Mixed → PartIs P p (suc b) e n i Two
-    first-mixed f =
-        let z : number + 0 ≡ number = omega arith in
-        entries-two _ _ 0 refl (s .some) refl (rw z (λ g. mixed-not-said (sym f ∙ g)))
-
-    -- The entries all say `u`.
-    pub entries-one : (u j : ℕ) → j ≤ count → count ≤ j → Plain rights-after (number * (block b / 4))
-        (block b / 4 * j) u
-        → PartIs P p (suc b) e n i (Right u)
-    entries-one u j l m f =
-        let z : j ≡ count = omega arith in
-        one-moved (Right u) rights-after (number * (block b / 4)) (partWord (suc b) n i) (wordsIn (suc b)) (s .first)
-        (rw (z, s .whole) at f)
 
 -- Where nothing is painted, an entry that is rights stands.
 pub bare-says : (p : Paint) (h e n same : ℕ) → p .hi ≤ p .lo → e ≡ same → e < 4294967296 → GoodRights h e → leads h e

@@ -27,6 +27,24 @@ module _ (P : ℕ → ℕ) where
   given-rights (suc h) e a l =
       ap (λ t. cond t (given P h (P (e + index h a)) a) (rightAt e (a / part (suc h) % parts (suc h)))) l
 
+  -- The first word of a block has its entry's first right ..
+  pub first-rights : (h e n : ℕ) → leads h e ≡ false → given P h e (4 * (n * (block h / 4))) ≡ rightAt e 0
+  first-rights h e n l = given-rights h e _ l ∙ ap (rightAt e) (number h)
+    where
+      number : (h : ℕ) → 4 * (n * (block h / 4)) / part h % parts h ≡ 0
+      number zero = omega arith
+      number (suc zero) = omega arith
+      number (suc (suc h)) = omega arith
+
+  -- .. or, where the entry leads to a leaf, the first right of the leaf's first entry.
+  pub first-leaf : (h e n : ℕ) → h ≡ 1 → leads 1 e ≡ true → given P h e (4 * (n * (block h / 4))) ≡ rightAt (P e) 0
+  first-leaf h e n one l =
+      let a = 4 * (n * 1024) in
+      let z : e + a / 64 % 64 ≡ e = omega arith in
+      let y : a / 4 % 16 ≡ 0 = omega arith in
+      rw one (given-leads 0 e a l ∙ ap (λ x. given P 0 (P x) a) z ∙ given-rights 0 (P e) a refl
+      ∙ ap (rightAt (P e)) y)
+
   given-small : (h e a : ℕ) → given P h e a < 4
   given-small zero e a = rw (given-rights 0 e a refl) (right-small e _)
   given-small (suc h) e a = by-cases (leads (suc h) e)

@@ -3,10 +3,10 @@ pub mod TargetLaws
 pub mod PackLaws
 pub mod PaintLaws
 pub mod PartLaws
-pub mod PieceLaws
 pub mod HeightLaws
 pub mod LeafLaws
 pub mod GivenLaws
+pub mod HaveLaws
 pub mod SearchLaws
 pub mod EntryLaws
 pub mod PoolLaws

@@ -1,8 +1,8 @@
 -- Laws of painting: what a region that covers all of a stretch of words, none of it, or a part leaves there.
-use Prim.Native.Nat.{ℕ, _+_, _*_, _/_, _%_, _≤_, _<_}
+use Prim.Native.Nat.{ℕ, _+_, _*_, _-_, _/_, _%_, _^_, _≤_, _<_}
 use mathlib.Core.Path.{_≡_, refl, sym, ap, _∙_}
 use mathlib.Core.Logic.{_⊎_, ⊎-elim}
-use mathlib.Core.Bool.{Bool, true, false, cond, _&&_}
+use mathlib.Core.Bool.{Bool, true, false, cond, _&&_, false≢true}
 use native.Mathlib.Omega.{arith}
 use native.Mathlib.Decide.{decLt}
 use lib.Dec.{leb, ltb}
@@ -10,15 +10,15 @@ use borrow.Author.Tests.{lt-ltb, le-ltb, le-leb, lt-leb}
 use Rattle.theory.proofs.Logic.{by-cases}
 use Rattle.words.specs.Rights.{rightAt, pack, sixteenOf}
 use Rattle.words.specs.Region.{covered}
-use Rattle.words.proofs.RightsLaws.{right-small, pack-same, sixteen-pack}
+use Rattle.words.proofs.RightsLaws.{right-small, pack-same, sixteen-pack, sixteen-right}
 use Rattle.table.specs.Wants.{wordAt, saidOf, WordRights}
 use Rattle.table.proofs.WantLaws.{painted-rights}
 use Rattle.targets.specs.declared.Paint.{Paint}
 use Rattle.targets.specs.declared.Cover.the-variants.{Apart, Whole}
 use Rattle.targets.specs.Paints.{region}
 use Rattle.targets.specs.Targets.{painted, GivesLeaf}
-use Rattle.targets.specs.Steps.{inside, Half, CoverIs, rightAfter, Plain}
-use Rattle.targets.proofs.PackLaws.{leaf-packed}
+use Rattle.targets.specs.Steps.{inside, Half, CoverIs, Before, rightAfter, Plain}
+use Rattle.targets.proofs.PackLaws.{leaf-packed, parted-packed}
 
 -- Which words a region has.
 module _ (p : Paint) (x : ℕ) where
@@ -43,6 +43,13 @@ module _ (p : Paint) (x : ℕ) where
     | yes l ↦ inside-low l
     | no l ↦ inside-high (omega arith)
   ]
+
+-- A region that parts a stretch does not end before it begins.
+pub half-some : (p : Paint) (s n : ℕ) → Half p s n → p .lo ≤ p .hi
+half-some p s n h = elim (decLt (p .hi) (p .lo)) [
+  | yes l ↦ absurd (false≢true (sym (inside-none p (s + h .hit) (omega arith)) ∙ h .hit-is))
+  | no l ↦ omega arith
+]
 
 -- The right of a word after the painting.
 module _ (p : Paint) (R : ℕ → ℕ) (x : ℕ) where
@@ -141,3 +148,22 @@ module _ (p : Paint) (w n : ℕ) where
       sym (sixteen-pack (p .right))
       ∙ pack-same 0 16 (λ i. p .right) (rightAfter p w n)
       (λ i l. ap (λ t. cond t (p .right) (rightAt w i)) (sym (h i l)))
+
+-- A leaf entry of whose words the first `a` come before the region, and the first `b` before its end: no fewer ..
+module _ (p : Paint) (s a b : ℕ) (le : p .lo ≤ p .hi) (x : Before s (p .lo) a) (y : Before s (p .hi) b) where
+  pub before-order : a ≤ b
+  before-order = elim (decLt b a) [
+    | yes l ↦ absurd (omega (arith, x .upto, x .early b l, y .late b (omega arith) (omega (arith, x .upto))))
+    | no l ↦ omega arith
+  ]
+
+  -- .. and its rights after the painting are put together from its own and the painted one.
+  pub after-partly : (w : ℕ) → w < 4294967296 → p .right < 4 → let same = sixteenOf (p .right) in
+      w % 2 ^ (2 * a) + (same % 2 ^ (2 * b) - same % 2 ^ (2 * a)) + (w - w % 2 ^ (2 * b)) ≡ pack 0 16 (rightAfter p w s)
+  after-partly w small r = parted-packed w (sixteenOf (p .right)) a b (rightAfter p w s) small before-order (y .upto)
+      (λ k l. ap (λ t. cond t (p .right) (rightAt w k)) (inside-low p (s + k) (x .early k l)))
+      (λ k l m.
+      let o : k < 16 = omega (arith, y .upto) in
+      ap (λ t. cond t (p .right) (rightAt w k)) (inside-is p (s + k) (x .late k l o) (y .early k m))
+      ∙ sym (sixteen-right (p .right) k r o))
+      (λ k l m. ap (λ t. cond t (p .right) (rightAt w k)) (inside-high p (s + k) (y .late k l m)))

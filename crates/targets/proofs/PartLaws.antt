@@ -1,7 +1,7 @@
 -- Laws of sub-blocks: where each has one right the target is rights, where one has two it is mixed.
-use Prim.Native.Nat.{ℕ, zero, suc, _+_, _*_, _-_, _/_, _%_, _<_}
+use Prim.Native.Nat.{ℕ, zero, suc, _+_, _*_, _/_, _%_, _<_}
 use mathlib.Core.Path.{_≡_, sym, ap, _∙_}
-use mathlib.Core.Bool.{Bool, true, false, cond, not, true≢false}
+use mathlib.Core.Bool.{Bool, false, cond, not, true≢false}
 use native.Mathlib.Omega.{arith}
 use lib.Dec.{eqb}
 use borrow.Author.Tests.{eq-eqb}
@@ -80,12 +80,22 @@ module _ (R : ℕ → ℕ) (h n : ℕ) where
       (λ e. e)
       (λ e. absurd (g _ (even-part-is i e)))))
 
-  -- A block with one right throughout ..
+  -- A block has one right throughout exactly where each sub-block has it ..
+  pub plain-part : (u : ℕ) → Plain R (n * (block h / 4)) (block h / 4) u → (i : ℕ) → i < parts h → PartIs i u
+  plain-part u f i l j m =
+      let e : partWord h n i + j ≡ n * (block h / 4) + (wordsIn h * i + j) = omega arith in
+      ap (λ x. R (4 * x)) e ∙ f (wordsIn h * i + j) (part-below h i j l m)
+
+  pub parts-plain : (u : ℕ) → ((i : ℕ) → i < parts h → PartIs i u) → Plain R (n * (block h / 4)) (block h / 4) u
+  parts-plain u f j l =
+      let (i, k, bi, bk, z) = word-part-of h j l in
+      let y : n * (block h / 4) + j ≡ partWord h n i + k = omega arith in
+      ap (λ v. R (4 * v)) y ∙ f i bi k bk
+
+  -- .. and then its entry says that ..
   pub plain-target : (u : ℕ) → Plain R (n * (block h / 4)) (block h / 4) u → targetOf R h at ≡ Says
       (pack (above h) (parts h) (λ i. u))
-  plain-target u f = parts-target (λ i. u) (λ i l j m.
-      let e : partWord h n i + j ≡ n * (block h / 4) + (wordsIn h * i + j) = omega arith in
-      ap (λ x. R (4 * x)) e ∙ f (wordsIn h * i + j) (part-below h i j l m))
+  plain-target u f = parts-target (λ i. u) (plain-part u f)
 
   module _ (small : (a : ℕ) → R a < 4) (x : ℕ) (e : targetOf R h at ≡ Says x) where
     target-right : (i : ℕ) → i < parts h → R (wordAt h at i 0) ≡ rightAt x i
@@ -93,25 +103,12 @@ module _ (R : ℕ → ℕ) (h n : ℕ) where
         sym (pack-digit (above h) (parts h) i (λ i. R (wordAt h at i 0)) (λ i m. small _) l) ∙ ap (λ v. rightAt v i)
         (sym (said-unwanted R h at e .1))
 
-    -- The first word of a block has its entry's first right ..
-    pub target-first : R (4 * (n * (block h / 4))) ≡ rightAt x 0
-    target-first =
-        let y : 4 * (n * (block h / 4)) ≡ 4 * (partWord h n 0 + 0) = omega arith in
-        ap R (y ∙ part-word h n 0 0) ∙ target-right 0 (some h)
-      where
-        some : (h : ℕ) → 0 < parts h
-        some zero = omega arith
-        some (suc h) = omega arith
-
-    -- .. and where all the entry's rights are one, all words have that.
+    -- .. and only then.
     pub target-plain : (u : ℕ) → ((i : ℕ) → i < parts h → rightAt x i ≡ u) → Plain R (n * (block h / 4)) (block h / 4) u
-    target-plain u d j l =
-        let (i, k, bi, bk, z) = word-part-of h j l in
-        let y : n * (block h / 4) + j ≡ partWord h n i + k = omega arith in
-        ap (λ v. R (4 * v)) y
-        ∙ even-part-is i (any-none (mixed R h at) (parts h) i (said-unwanted R h at e .0) bi) k bk
+    target-plain u d = parts-plain u (λ i bi j bj.
+        even-part-is i (any-none (mixed R h at) (parts h) i (said-unwanted R h at e .0) bi) j bj
         ∙ target-right i bi
-        ∙ d i bi
+        ∙ d i bi)
 
   -- Only the rights of the block count.
   pub target-agree : (T : ℕ → ℕ) → ((a : ℕ) → a / block h ≡ n → R a ≡ T a) → targetOf R h at ≡ targetOf T h at

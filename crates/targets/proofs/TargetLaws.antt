@@ -6,7 +6,7 @@ use native.Mathlib.Omega.{arith}
 use Rattle.theory.proofs.Logic.{by-cases}
 use Rattle.table.specs.Map.{block}
 use Rattle.table.specs.Wants.{wantsOf, saidOf}
-use Rattle.table.proofs.WantLaws.{wants-block, said-block}
+use Rattle.table.proofs.WantLaws.{wants-leaf, wants-block, said-block}
 use Rattle.targets.specs.declared.Target.the-variants.{Says, Mixed}
 use Rattle.targets.specs.Targets.{targetOf}
 
@@ -32,6 +32,10 @@ module _ (R : ℕ → ℕ) (h a : ℕ) where
   said-unwanted e = by-cases (wantsOf R h a)
       (λ w. absurd (mixed-not-said (sym (wanted-mixed w) ∙ e)))
       (λ w. (w, same-said (sym e ∙ unwanted-said w)))
+
+-- A leaf entry always says its block.
+pub leaf-target : (R : ℕ → ℕ) (a t : ℕ) → t ≡ saidOf R 0 a → targetOf R 0 a ≡ Says t
+leaf-target R a t e = unwanted-said R 0 a (wants-leaf R a) ∙ ap Says (sym e)
 
 -- Every address of a block has its target.
 pub target-block : (R : ℕ → ℕ) (h a b : ℕ) → a / block h ≡ b / block h → targetOf R h a ≡ targetOf R h b

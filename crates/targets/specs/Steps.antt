@@ -42,6 +42,12 @@ CoverIs Apart p s n = (j : ℕ) → j < n → inside p (s + j) ≡ false
 CoverIs Partly p s n = Half p s n
 CoverIs Whole p s n = (j : ℕ) → j < n → inside p (s + j) ≡ true
 
+-- Of the sixteen words from `s` on, the first `k`, and no more, come before word `x`.
+pub record Before (s x k : ℕ) : Type 0 where
+  pub upto : k ≤ 16
+  pub early : (i : ℕ) → i < k → s + i < x
+  pub late : (i : ℕ) → k ≤ i → i < 16 → x ≤ s + i
+
 -- Right `i` of the leaf entry `w`, whose first word is `s`, after the painting.
 abbrev pub rightAfter : Paint → ℕ → ℕ → ℕ → ℕ
 rightAfter p w s i = cond (inside p (s + i)) (p .right) (rightAt w i)
@@ -58,6 +64,14 @@ OneIs Two R s n = (u : ℕ) → Plain R s n u → ⊥
 -- Of the block of height `h` numbered `n`, which has the entry `e` in the pool `P`: sub-block `i` once painted.
 abbrev pub PartIs : (ℕ → ℕ) → Paint → ℕ → ℕ → ℕ → ℕ → One → Type 0
 PartIs P p h e n i o = OneIs o (painted p (given P h e)) (n * (block h / 4) + wordsIn h * i) (wordsIn h)
+
+-- That block has the right `u` on all its words once painted ..
+abbrev pub BlockHas : (ℕ → ℕ) → Paint → ℕ → ℕ → ℕ → ℕ → Type 0
+BlockHas P p h e n u = Plain (painted p (given P h e)) (n * (block h / 4)) (block h / 4) u
+
+-- .. and so have the `m` blocks from number `n` on, whose entries stand from pool word `k` on.
+abbrev pub BlocksHave : (ℕ → ℕ) → Paint → ℕ → ℕ → ℕ → ℕ → ℕ → Type 0
+BlocksHave P p h k m n u = (j : ℕ) → j < m → BlockHas P p h (P (k + j)) (n + j) u
 
 -- An entry of a height that is rights is eight good ones; of a leaf, any word is good.
 abbrev pub GoodRights : ℕ → ℕ → Type 0

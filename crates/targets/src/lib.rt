@@ -2,19 +2,21 @@
 ghost use mathlib.Core.Path.{_≡_};
 ghost use mathlib.Core.Bool.{true};
 ghost use Prim.Native.Nat.{ℕ, suc, _+_, _*_, _/_, _%_, _<_, _≤_};
-ghost use lib.ListN.{getD};
+ghost use lib.ListN.{length};
 ghost use Rattle.theory.specs.Pool.{words};
 ghost use Rattle.words.specs.Rights.{pack};
 ghost use Rattle.table.specs.Map.{block};
 ghost use Rattle.table.specs.Wants.{saidOf};
 ghost use Rattle.targets.specs.Targets.{entryBlocks, painted, targetOf, virtualOf, given, Gives, GivesLeaf};
-ghost use Rattle.targets.specs.Targets.{Readable};
-ghost use Rattle.targets.specs.Steps.{CoverIs, rightAfter, Plain, OneIs, PartIs, GoodRights, SaysIs, ToldIs};
+ghost use Rattle.targets.specs.Targets.{Readable, Decides};
+ghost use Rattle.targets.specs.Steps.{CoverIs, Before, rightAfter, Plain, OneIs, PartIs, GoodRights, SaysIs};
+ghost use Rattle.targets.specs.Steps.{ToldIs, BlockHas, BlocksHave};
 
 mod leaves; // leaves.rt: whether a leaf as it stands has two rights in a sub-block
 mod wanted; // wanted.rt: whether tables are wanted, and a pool settled
 
 pub use wanted::settled;
+use words::PoolWord;
 
 // The memory words `lo ≤ w < hi` get the right.
 pub struct Paint {
@@ -82,36 +84,31 @@ fn meeting(paint: Paint, s: u32, n: u32) -> Cover
     Cover::Whole
 }
 
-// Right `i` of the leaf entry `w`, whose first memory word is `s`, after the painting.
-fn right_after(paint: Paint, w: u32, s: u32, i: u32) -> u32
-    requires { ⌜ (i < 16) × (s + 16 ≤ 0x40000000) ⌝ }
-    ensures { λ r. ⌜ r ≡ rightAfter paint w s i ⌝ }
+// How many of the sixteen words from `s` on come before word `x`.
+fn words_before(s: u32, x: u32) -> u32
+    ensures { λ r. ⌜ Before s x r ⌝ }
 {
-    let x = s + i;
-    let lo = paint.lo;
-    let hi = paint.hi;
-    if x < lo {
-        return words::right_at(w, i);
+    if x <= s {
+        return 0;
     }
-    if x < hi {
-        return paint.right;
-    }
-    words::right_at(w, i)
+    let k = x - s;
+    if k < 16 { k } else { 16 }
 }
 
-// The leaf entry `w`, which the region parts, right by right from the last one down.
+// The leaf entry `w`, which the region parts: its own rights before and after the region, and the painted one between.
+// A loop over the sixteen would be unrolled, and want a register for each.
 fn repack(paint: Paint, w: u32, s: u32) -> u32
     requires { ⌜ (s + 16 ≤ 0x40000000) × (paint .right < 4) ⌝ }
+    requires { ⌜ paint .lo ≤ paint .hi ⌝ }
     ensures { λ r. ⌜ r ≡ pack 0 16 (rightAfter paint w s) ⌝ }
 {
-    let mut acc: u32 = 0;
-    let mut i: u32 = 16;
-    while 0 < i {
-        i -= 1;
-        let u = right_after(paint, w, s, i);
-        acc = acc * 4 + u;
-    }
-    acc
+    let a = words_before(s, paint.lo);
+    let b = words_before(s, paint.hi);
+    let same = words::sixteen_of(paint.right) as u64;
+    let old = w as u64;
+    let low: u64 = 1 << (2 * a);
+    let high: u64 = 1 << (2 * b);
+    (old % low + (same % high - same % low) + (old - old % high)) as u32
 }
 
 // The leaf entry `w` of the 64 bytes numbered `chunk`, after the painting.
@@ -146,8 +143,7 @@ fn even_part(paint: Paint, o: u32, s: u32, n: u32) -> One
 }
 
 // What the entry of the block numbered `n` should be after the painting, where it is `e`. A block that is covered
-// whole needs no search, nor does one that is not covered and has no table, and a leaf entry never does: the
-// sub-blocks that are searched are mostly made of these.
+// whole needs no search, nor does one that is not covered and has no table, and a leaf entry never does.
 fn at_once(paint: Paint, height: u32, e: u32, n: u32) -> Told
     requires { ⌜ GoodRights height e ⌝ }
     requires { ⌜ (height ≤ 2) × (n < entryBlocks height) × (paint .right < 4) ⌝ }
@@ -192,25 +188,6 @@ fn stands(paint: Paint, height: u32, e: u32, n: u32, same: u32) -> bool
     height == 0
 }
 
-// Whether it is known to be `same`.
-fn says(paint: Paint, height: u32, e: u32, n: u32, same: u32) -> bool
-    requires { ⌜ GoodRights height e ⌝ }
-    requires { ⌜ (height ≤ 2) × (n < entryBlocks height) × (paint .right < 4) ⌝ }
-    ensures { λ r. ⌜ (r ≡ true → SaysIs paint height e n same) ⌝ }
-{
-    if stands(paint, height, e, n, same) {
-        return true;
-    }
-    let known = at_once(paint, height, e, n);
-    let Told::Known(w) = known else {
-        return false;
-    };
-    if w == same {
-        return true;
-    }
-    false
-}
-
 // Whether sub-block `i` of a block whose entry is rights has one right after the painting.
 fn rights_part(paint: Paint, below: u32, e: u32, n: u32, i: u32) -> One
     requires { ⌜ (0x80000000 ≤ e) × (below < 2) × (n < entryBlocks (suc below)) × (i < 8) ⌝ }
@@ -221,24 +198,109 @@ fn rights_part(paint: Paint, below: u32, e: u32, n: u32, i: u32) -> One
     even_part(paint, o, (8 * n + i) * long, long)
 }
 
-// Eight rights in one entry.
-fn pack_eight(work: [u32; 8]) -> u32
-    requires { ⌜ ((k : ℕ) → getD work k 0 < 4) ⌝ }
-    ensures { λ r. ⌜ r ≡ pack 32768 8 (λ k. getD work k 0) ⌝ }
+// Whether a block whose entry is rights has the right on all its words after the painting.
+fn rights_have(paint: Paint, below: u32, e: u32, n: u32, right: u32) -> bool
+    requires { ⌜ (0x80000000 ≤ e) × (below < 2) × (n < entryBlocks (suc below)) ⌝ }
+    ensures { λ r. ⌜ ((P : ℕ → ℕ) → Decides r (BlockHas P paint (suc below) e n right)) ⌝ }
 {
-    let mut acc: u32 = 32768;
-    let mut i: usize = 8;
-    while 0 < i {
-        i -= 1;
-        let u = work[i];
-        acc = acc * 4 + u;
+    let mut i: u32 = 0;
+    while i < 8 {
+        let one = rights_part(paint, below, e, n, i);
+        let One::Right(u) = one else {
+            return false;
+        };
+        if u != right {
+            return false;
+        }
+        i += 1;
     }
-    acc
+    true
 }
 
-// The same of a block with any entry: one that leads is searched entry by entry of its table, whose entries have the
-// height `below`. Most of these are known at once, and so are asked for that first: it is quicker than a call that
-// may come back here.
+// The right of the first word of a block after the painting: found down the first entries, it needs no search.
+fn first_right(pool: &[u32], paint: Paint, height: u32, e: u32, n: u32) -> u32
+    requires { ⌜ Readable (now pool) height e ⌝ }
+    requires { ⌜ (height < 2) × (n < entryBlocks height) ⌝ }
+    ensures { λ r. ⌜ r ≡ painted paint (given (words (now (pool .entry))) height e) (4 * (n * (block height / 4))) ⌝ }
+{
+    let s = n * table::block_words(height);
+    let lo = paint.lo;
+    let hi = paint.hi;
+    if lo <= s {
+        if s < hi {
+            return paint.right;
+        }
+    }
+    if height == 0 {
+        return words::right_at(e, 0);
+    }
+    if e >= words::BIT_31 {
+        return words::right_at(e, 0);
+    }
+    let table = words::pool_word(e);
+    let k = words::pool_index(table);
+    let w = pool[k];
+    words::right_at(w, 0)
+}
+
+// Whether a block with any entry has the right on all its words after the painting. This and `entries_have` call each
+// other, the height falling.
+fn has_all(pool: &[u32], paint: Paint, height: u32, e: u32, n: u32, right: u32) -> bool
+    requires { ⌜ Readable (now pool) height e ⌝ }
+    requires { ⌜ (height ≤ 2) × (n < entryBlocks height) × (paint .right < 4) × (right < 4) ⌝ }
+    ensures { λ r. ⌜ Decides r (BlockHas (words (now (pool .entry))) paint height e n right) ⌝ }
+{
+    let same = table::same_entry(height, right);
+    if stands(paint, height, e, n, same) {
+        return true;
+    }
+    if height == 0 {
+        let w = paint_word(paint, e, n);
+        return w == same;
+    }
+    let long = table::block_words(height);
+    let c = meeting(paint, n * long, long);
+    if let Cover::Whole = c {
+        return paint.right == right;
+    }
+    if e >= words::BIT_31 {
+        return rights_have(paint, height - 1, e, n, right);
+    }
+    let table = words::pool_word(e);
+    let size = table::size_of(height - 1);
+    entries_have(pool, paint, height - 1, table, size, size * n, right)
+}
+
+// Whether the blocks of the `count` entries from pool word `from` on, which are numbered from `number` on, all have it.
+fn entries_have(
+    pool: &[u32],
+    paint: Paint,
+    height: u32,
+    from: PoolWord,
+    count: u32,
+    number: u32,
+    right: u32,
+) -> bool
+    requires { ⌜ (from .0 + count ≤ length (now pool)) × (number + count ≤ entryBlocks height) ⌝ }
+    requires { ⌜ ((j : ℕ) → j < count → Readable (now pool) height (words (now pool) (from .0 + j))) ⌝ }
+    requires { ⌜ (height ≤ 2) × (paint .right < 4) × (right < 4) ⌝ }
+    ensures { λ r. ⌜ Decides r (BlocksHave (words (now (pool .entry))) paint height (from .0) count number right) ⌝ }
+{
+    let start = words::pool_index(from);
+    let mut j: u32 = 0;
+    while j < count {
+        let w = pool[start + j as usize];
+        let all = has_all(pool, paint, height, w, number + j, right);
+        if !all {
+            return false;
+        }
+        j += 1;
+    }
+    true
+}
+
+// Whether sub-block `i` of a block with any entry has one right: of one that leads, the entries of its table, which
+// have the height `below`, are asked for the right of the first word.
 fn part(pool: &[u32], paint: Paint, below: u32, e: u32, n: u32, i: u32) -> One
     requires { ⌜ Readable (now pool) (suc below) e ⌝ }
     requires { ⌜ (below < 2) × (n < entryBlocks (suc below)) × (i < 8) × (paint .right < 4) ⌝ }
@@ -253,53 +315,38 @@ fn part(pool: &[u32], paint: Paint, below: u32, e: u32, n: u32, i: u32) -> One
     let from = words::pool_index(word);
     let number = (8 * n + i) * count;
     let e0 = pool[from];
-    let first = entry_target(pool, paint, below, e0, number);
-    let Target::Says(x) = first else {
+    let right = first_right(pool, paint, below, e0, number);
+    let all = entries_have(pool, paint, below, word, count, number, right);
+    if !all {
         return One::Two;
-    };
-    let right = words::right_at(x, 0);
-    let same = table::same_entry(below, right);
-    let mut j: u32 = 0;
-    while j < count {
-        let w = pool[from + j as usize];
-        let m = number + j;
-        j += 1;
-        let known = says(paint, below, w, m, same);
-        if !known {
-            let t = entry_target(pool, paint, below, w, m);
-            let Target::Says(y) = t else {
-                return One::Two;
-            };
-            if y != same {
-                return One::Two;
-            }
-        }
     }
     One::Right(right)
 }
 
-// The block's target, sub-block by sub-block.
+// The block's target, sub-block by sub-block. Each right is added to the entry as it comes, in the place that `unit`
+// is worth: an array to gather them in would stand on the stack.
 fn search(pool: &[u32], paint: Paint, below: u32, e: u32, n: u32) -> Target
     requires { ⌜ Readable (now pool) (suc below) e ⌝ }
     requires { ⌜ (below < 2) × (n < entryBlocks (suc below)) × (paint .right < 4) ⌝ }
     ensures { λ r. ⌜ r ≡ targetOf (painted paint (given (words (now (pool .entry))) (suc below) e)) (suc below)
         (n * block (suc below)) ⌝ }
 {
-    let mut work = [0u32; 8];
+    let mut said: u32 = words::BIT_31;
+    let mut unit: u32 = 1;
     let mut i: u32 = 0;
     while i < 8 {
         let one = part(pool, paint, below, e, n, i);
         let One::Right(u) = one else {
             return Target::Mixed;
         };
-        work[i as usize] = u;
+        said += u * unit;
+        unit *= 4;
         i += 1;
     }
-    Target::Says(pack_eight(work))
+    Target::Says(said)
 }
 
-// What the entry of the block numbered `n` should be after the painting, where it is `e`. This, `search` and `part`
-// call each other, the height falling.
+// What the entry of the block numbered `n` should be after the painting, where it is `e`.
 pub fn entry_target(pool: &[u32], paint: Paint, height: u32, e: u32, n: u32) -> Target
     requires { ⌜ Readable (now pool) height e ⌝ }
     requires { ⌜ (height ≤ 2) × (n < entryBlocks height) × (paint .right < 4) ⌝ }

@@ -3,7 +3,7 @@ use Prim.Native.Nat.{_*_}
 use mathlib.Core.Path.{sym, _∙_}
 use native.Mathlib.Omega.{arith}
 use borrow.Author.Needs.{needs}
-use Rattle.targets.proofs.PaintLaws.{said-after, after-apart, after-whole}
+use Rattle.targets.proofs.PaintLaws.{half-some, said-after, after-apart, after-whole}
 use Rattle.targets.proofs.paint_word.Statement.{statement}
 use Rattle.targets.proofs.paint_word.Tie as tie
 
@@ -26,7 +26,12 @@ enum-told-3 : tie.Need-enum-told-3
 enum-told-3 c = search needs
 
 repack-requires : tie.Need-repack-requires
-repack-requires c κs = search needs
+repack-requires c κs =
+    let s = c .before .before .before in (
+      (omega arith, s .pre .1),
+      half-some (s .args .paint) _ 16 (rw (c .enum-told3 .given .1)
+          at (c .before .before .meeting .ensures)),
+    )
 
 returns : tie.Need-returns
 returns c = λ R g.

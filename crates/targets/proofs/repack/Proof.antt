@@ -1,70 +1,137 @@
--- `targets::repack` meets its contract. The loop's invariant: what is packed are the rights from the `i`-th on.
-use Prim.Native.Nat.{ℕ, _-_, _<_, _≤_}
-use mathlib.Core.Path.{_≡_, sym, _∙_}
+-- `targets::repack` meets its contract.
+use Prim.Native.Nat.{ℕ, _+_, _*_, _-_, _%_, _^_, _≤_, _<_}
+use mathlib.Core.Path.{_≡_, _∙_}
 use native.Mathlib.Omega.{arith}
+use native.Mathlib.Nat.{one-mul, mod-le}
+use lib.Pow.{pow-pos, shl-exact}
 use borrow.Author.Needs.{needs}
-use Rattle.targets.specs.Steps.{rightAfter}
-use Rattle.targets.proofs.PackLaws.{packedFrom, packed-none, packed-room, packed-more, packed-all}
-use Rattle.targets.proofs.PaintLaws.{after-small}
+use Rattle.words.specs.Rights.{pack}
+use Rattle.words.proofs.RightsLaws.{pack-range}
+use Rattle.targets.specs.Steps.{Before, rightAfter}
+use Rattle.targets.proofs.PackLaws.{low-grows}
+use Rattle.targets.proofs.PaintLaws.{before-order, after-small, after-partly}
 use Rattle.targets.proofs.repack.Statement.{statement}
 use Rattle.targets.proofs.repack.Tie as tie
 
-abbrev Inv-loop : tie.InvT-loop
-Inv-loop paint w s acc₀ i₀ acc i = (i ≤ 16) × (acc ≡ packedFrom 0 16 (rightAfter paint w s) i)
+-- A divisor: the shift loses no bit, so it is not 0.
+unit : (s x k : ℕ) → Before s x k → 1 * 2 ^ (2 * k) % 18446744073709551616 ≡ 2 ^ (2 * k)
+unit s x k b = shl-exact 1 (2 * k) 64 (omega arith) (omega (arith, b .upto)) ∙ one-mul (2 ^ (2 * k))
 
-abbrev μ-loop : tie.MeasureT-loop
-μ-loop paint w s acc₀ i₀ acc i = i
+some : (s x k : ℕ) → Before s x k → 0 < 1 * 2 ^ (2 * k) % 18446744073709551616
+some s x k b = rw (unit s x k b) (pow-pos (2 * k))
 
-loop-holds : tie.Need-loop-holds Inv-loop μ-loop
-loop-holds c = (omega arith, sym (packed-none 0 16 _))
+words-before-requires : tie.Need-words-before-requires
+words-before-requires c κs = search needs
 
-sub-i : tie.Need-sub-i Inv-loop μ-loop
-sub-i c = search needs
+words-before-requires-2 : tie.Need-words-before-requires-2
+words-before-requires-2 c κs = search needs
 
-right-after-requires : tie.Need-right-after-requires Inv-loop μ-loop
-right-after-requires c κs = search needs
+sixteen-of-requires : tie.Need-sixteen-of-requires
+sixteen-of-requires c κs = search needs
 
--- What is packed so far leaves room for one right.
-room : (c : tie.After-right-after Inv-loop μ-loop) → (c .before .before .loop .acc < 1073741824)
-    × (c .right-after .result < 4)
-room c =
-    let l = c .before .before .loop in
-    let a = c .before .before .before .args in
-    let s : (i : ℕ) → rightAfter (a .paint) (a .w) (a .s) i < 4 = λ i. after-small (a .paint) (a .w) (a .s) i
-    (c .before .before .before .pre .1) in
-    let z = packed-room 0 16 (rightAfter (a .paint) (a .w) (a .s)) (l .i) s (c .before .loop-test .taken) in
-    (omega (arith, l .inv .1), rw (c .right-after .ensures) (s (l .i - 1)))
+cast-same : tie.Need-cast-same
+cast-same c = search needs
 
-mul-acc : tie.Need-mul-acc Inv-loop μ-loop
-mul-acc c = let z = room c in omega arith
+mul-low : tie.Need-mul-low
+mul-low c = search needs
 
-add-acc : tie.Need-add-acc Inv-loop μ-loop
-add-acc c = let z = room c in omega arith
+cast-low : tie.Need-cast-low
+cast-low c = search needs
 
-loop-less : tie.Need-loop-less Inv-loop μ-loop
-loop-less c = search needs
+shl-low : tie.Need-shl-low
+shl-low c = search needs
 
-loop-again : tie.Need-loop-again Inv-loop μ-loop
-loop-again c =
-    let l = c .before .before .loop in (
-      omega arith,
-      rw (c .right-after .ensures, l .inv .1) (packed-more _ _ _ _ (c .before .loop-test .taken) (l .inv .0)),
-    )
+mul-high : tie.Need-mul-high
+mul-high c = search needs
 
-returns : tie.Need-returns Inv-loop μ-loop
-returns c = c .before .loop .inv .1 ∙ packed-all _ _ _ _ (c .loop-test .left)
+cast-high : tie.Need-cast-high
+cast-high c = search needs
+
+shl-high : tie.Need-shl-high
+shl-high c = search needs
+
+rem-result : tie.Need-rem-result
+rem-result c = some _ _ _ (c .before .before .words-before .ensures)
+
+rem-result-2 : tie.Need-rem-result-2
+rem-result-2 c = some _ _ _ (c .before .words-before2 .ensures)
+
+rem-result-3 : tie.Need-rem-result-3
+rem-result-3 c = some _ _ _ (c .before .before .words-before .ensures)
+
+sub-result : tie.Need-sub-result
+sub-result c =
+    let a = c .before .before .words-before in
+    let b = c .before .words-before2 in
+    let s = c .before .before .before in
+    rw (unit _ _ _ (a .ensures), unit _ _ _ (b .ensures))
+    (low-grows (c .sixteen-of .result) (a .result) (b .result)
+    (before-order (s .args .paint) (s .args .s) _ _ (s .pre .1) (a .ensures) (b .ensures)))
+
+-- What is added is no more than the words that it is taken from.
+fits : (c : tie.After-sixteen-of) → let w = c .before .before .before .args .w in
+    (w % (1 * 2 ^ (2 * c .before .before .words-before .result) % 18446744073709551616) ≤ w)
+    × (c .sixteen-of .result % (1 * 2 ^ (2 * c .before .words-before2 .result) % 18446744073709551616)
+    ≤ c .sixteen-of .result)
+fits c = (mod-le (c .before .before .before .args .w) _, mod-le (c .sixteen-of .result) _)
+
+add-result : tie.Need-add-result
+add-result c = let z = fits c in omega arith
+
+rem-result-4 : tie.Need-rem-result-4
+rem-result-4 c = some _ _ _ (c .before .words-before2 .ensures)
+
+sub-result-2 : tie.Need-sub-result-2
+sub-result-2 c = mod-le (c .before .before .before .args .w) _
+
+add-result-2 : tie.Need-add-result-2
+add-result-2 c = let z = fits c in omega arith
+
+-- What is put together.
+whole : (c : tie.After-sixteen-of) → let s = c .before .before .before .args in
+    let low = 1 * 2 ^ (2 * c .before .before .words-before .result) % 18446744073709551616 in
+    let high = 1 * 2 ^ (2 * c .before .words-before2 .result) % 18446744073709551616 in
+    let same = c .sixteen-of .result in
+    s .w % low + (same % high - same % low) + (s .w - s .w % high) ≡ pack 0 16 (rightAfter (s .paint) (s .w) (s .s))
+whole c =
+    let a = c .before .before .words-before in
+    let b = c .before .words-before2 in
+    let s = c .before .before .before in
+    rw (unit _ _ _ (a .ensures), unit _ _ _ (b .ensures), c .sixteen-of .ensures)
+    (after-partly (s .args .paint) (s .args .s) _ _ (s .pre .1) (a .ensures) (b .ensures) (s .args .w) (omega arith)
+    (s .pre .0 .1))
+
+cast-result : tie.Need-cast-result
+cast-result c =
+    let s = c .before .before .before in
+    let r = pack-range 0 16 (rightAfter (s .args .paint) (s .args .w) (s .args .s)) (λ j l.
+    after-small (s .args .paint) (s .args .w) (s .args .s) j (s .pre .0 .1)) in
+    omega (arith, whole c)
+
+returns : tie.Need-returns
+returns c = whole c
 
 pub repack-spec : {M : Type 1} → statement M
 repack-spec =
     tie.close
     (tie.spec
-    Inv-loop
-    μ-loop
-    loop-holds
-    sub-i
-    right-after-requires
-    mul-acc
-    add-acc
-    loop-less
-    loop-again
+    words-before-requires
+    words-before-requires-2
+    sixteen-of-requires
+    cast-same
+    mul-low
+    cast-low
+    shl-low
+    mul-high
+    cast-high
+    shl-high
+    rem-result
+    rem-result-2
+    rem-result-3
+    sub-result
+    add-result
+    rem-result-4
+    sub-result-2
+    add-result-2
+    cast-result
     returns)
