@@ -1,24 +1,18 @@
 -- What a sound pool gives to whoever walks it: each word reached is good and lies in the pool, and so does every
 -- table that one leads to.
-use Prim.Native.Nat.{ℕ, zero, suc, _+_, _*_, _-_, _/_, _%_, _≤_, _<_}
-use mathlib.Core.Path.{_≡_, refl, sym, ap, _∙_}
-use mathlib.Core.Bool.{true, false, true≢false}
+use Prim.Native.Nat.{ℕ, suc, _+_, _*_, _/_, _%_, _≤_, _<_}
+use mathlib.Core.Path.{_≡_, refl}
+use mathlib.Core.Bool.{true}
 use mathlib.Core.List.{List}
 use native.Mathlib.Omega.{arith}
 use lib.ListN.{length}
-use Rattle.theory.specs.Pool.{words, Reach, start, step, SoundPool, Roots, right}
+use Rattle.theory.specs.Pool.{words, Reach, start, step, SoundPool, Roots}
 use Rattle.theory.proofs.ReachLaws.{reach-low}
-use Rattle.theory.proofs.RightLaws.{right-down, right-says}
-use Rattle.words.specs.declared.PoolWord.{PoolWord}
-use Rattle.words.specs.Rights.{rightAt}
 use Rattle.table.specs.declared.Shape.{Shape}
-use Rattle.table.specs.declared.Entry.the-variants.{Rights, Leads, Bad}
 use Rattle.table.specs.Shape.{Fits, size}
-use Rattle.table.specs.Map.{index, part, parts, leads, formOf}
-use Rattle.table.specs.Entries.{decodeOf}
-use Rattle.table.proofs.EntryLaws.{index-below, decoded-bad, decoded-rights, decoded-leads}
-use Rattle.census.specs.Places.{InUse}
-use Rattle.census.proofs.PlaceLaws.{PlaceAt, decoded-place, led-room}
+use Rattle.table.specs.Map.{index, leads, formOf}
+use Rattle.table.proofs.EntryLaws.{index-below}
+use Rattle.census.proofs.PlaceLaws.{led-room}
 
 -- The roots reach word `k`, as an entry of the height `h`.
 abbrev pub Reached : List ℕ → Shape → ℕ → ℕ → Type 0
@@ -65,18 +59,6 @@ module _ (p : List ℕ) (s : Shape) (fits : Fits s (length p)) (sound : SoundPoo
     once = λ m l n o e. sound .once m l n o e;
   }
 
--- Word `k` of the height `h` decodes to a pointer to the table at `t`, one height below, in the place `n`: what a
--- walker may then do.
-pub record Below (p : List ℕ) (s : Shape) (h k : ℕ) (t : PoolWord) (n : ℕ) : Type 0 where
-  pub word : t .0 ≡ words p k
-  pub goes : leads h (words p k) ≡ true
-  pub room : t .0 + size (h - 1) ≤ length p
-  pub reached : (i : ℕ) → i < size (h - 1) → Reached p s (h - 1) (t .0 + i)
-  pub place : PlaceAt s h (t .0) n
-  pub used : InUse p s n
-  pub rights : (a : ℕ) → right (formOf s) (words p) h k a ≡ right (formOf s) (words p) (h - 1)
-      (t .0 + index (h - 1) a) a
-
 module _ (p : List ℕ) (s : Shape) (r : Walkable p s) where
   -- The words of all roots, in one count; and the words by which an address goes.
   pub root-reached : (k : ℕ) → k < 1024 * s .domains → Reached p s 2 k
@@ -90,44 +72,6 @@ module _ (p : List ℕ) (s : Shape) (r : Walkable p s) where
   pub index-reached : {h k : ℕ} (a : ℕ) → Reached p s (suc h) k → leads (suc h) (words p k) ≡ true
       → Reached p s h (words p k + index h a)
   index-reached {h} a m l = r .down m l (index h a) (index-below h a)
-
-  -- A reached word, by what it decodes to at a height above the leaves.
-  module _ {h k : ℕ} (m : Reached p s h k) (up : 0 < h) where
-    pub reached-not-bad : decodeOf s h (words p k) ≡ Bad → ⊥
-    reached-not-bad e = true≢false (sym (r .good m) ∙ decoded-bad s h (words p k) up (r .low m) e)
-
-    pub reached-rights : {w : ℕ} → decodeOf s h (words p k) ≡ Rights w → (w ≡ words p k) × (leads h (words p k) ≡ false)
-    reached-rights {w} e = let (f, g, l) = decoded-rights s h (words p k) w up (r .low m) e in (f, l)
-
-    pub reached-rights-right : {w : ℕ} (a : ℕ) → decodeOf s h (words p k) ≡ Rights w
-        → right (formOf s) (words p) h k a ≡ rightAt w (a / part h % parts h)
-    reached-rights-right a e =
-        let (f, l) = reached-rights e in
-        right-says (formOf s) (words p) h k a l ∙ ap (λ v. rightAt v (a / part h % parts h)) (sym f)
-
-  -- .. and where it leads, all that lies below it.
-  below : {h k : ℕ} → Reached p s (suc h) k → leads (suc h) (words p k) ≡ true → {n : ℕ}
-      → PlaceAt s (suc h) (words p k) n
-      → Below p s (suc h) k (record { 0 = words p k }) n
-  below {h} {k} m l {n} x =
-      let z : suc h - 1 ≡ h = omega arith in
-      record {
-        word = refl;
-        goes = l;
-        room = rw z (r .room m l);
-        reached = rw z (r .down m l);
-        place = x;
-        used = (k, rw (x .height) m, l, sym (x .word));
-        rights = λ a. rw z (right-down (formOf s) (words p) h k a l);
-      }
-
-  pub reached-leads : {h k : ℕ} → Reached p s h k → 0 < h → {t : PoolWord} {n : ℕ} → decodeOf s h (words p k)
-      ≡ Leads t n → Below p s h k t n
-  reached-leads {h = zero} m up e = absurd (omega arith)
-  reached-leads {h = suc h} {k} m up {t} {n} e =
-      let (f, g, l, b) = decoded-leads s (suc h) (words p k) t n up (r .low m) e in
-      let x = decoded-place s (r .fits .range) (suc h) (words p k) t n up (r .low m) e in
-      rw f (below m l x)
 
   -- The same in the paper's levels: roots and the middle tables that they lead to.
   pub root-good : (k : ℕ) → k < 1024 * s .domains → formOf s .good 2 (words p k) ≡ true

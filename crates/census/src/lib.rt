@@ -120,7 +120,7 @@ pub fn plain_ahead(pool: &[u32], word: PoolWord, i: u32) -> u32
     n as u32
 }
 
-// The table of a height that begins at `base`, of a block. Leaves are not read: there every value is good.
+// The table of a height above the leaves that begins at `base`, of a block.
 fn table_check(
     pool: &[u32],
     shape: Shape,
@@ -130,15 +130,12 @@ fn table_check(
     owners: &mut [u32],
 ) -> bool
     requires { ⌜ Fits shape (length (now pool)) ⌝ }
-    requires { ⌜ (height ≤ 2) × (block < tables (shape .domains) height) ⌝ }
+    requires { ⌜ (0 < height) × (height ≤ 2) × (block < tables (shape .domains) height) ⌝ }
     requires { ⌜ base .0 + size height ≤ length (now pool) ⌝ }
     requires { ⌜ length (now owners) ≡ maxPlaces ⌝ }
     ensures { λ r. ⌜ Answers (tableTally shape (now (pool .entry)) height (base .0) block (now (owners .entry))) r
         (now (owners .exit)) ⌝ }
 {
-    if height == 0 {
-        return true;
-    }
     let first = TABLE_WORDS * block;
     let mut i: u32 = 0;
     while i < TABLE_WORDS {
@@ -181,6 +178,10 @@ fn entry_check(
         Entry::Leads(t, n) => {
             let first = give_place(n, block, owners);
             if first {
+                // A leaf is not read: there every value is good.
+                if height == 1 {
+                    return true;
+                }
                 table_check(pool, shape, height - 1, t, block, owners)
             } else {
                 false

@@ -104,8 +104,7 @@ pub extern "C" fn gol_list(
         return rows::WRONG_LENGTH;
     }
     let by = shapes::read_shape(shape);
-    let first = from as usize;
-    let listed = listing::list_runs(pool, by, first, runs);
+    let listed = listing::list_runs(pool, by, from, runs);
     results::give_listed(listed, out)
 }
 

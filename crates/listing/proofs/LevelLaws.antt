@@ -5,21 +5,21 @@ use native.Mathlib.Omega.{arith}
 use native.Mathlib.Nat.{add-zero, add-assoc}
 use mathlib.Core.Path.{_≡_, refl, sym, ap, _∙_}
 use mathlib.Core.Logic.{_≢_}
+use mathlib.Core.Bool.{true, false}
 use mathlib.Core.List.{List}
 use lib.ListN.{length}
-use Rattle.theory.specs.Pool.{words, SoundPool, right}
+use borrow.Author.Tests.{lt-ltb, le-ltb}
+use Rattle.theory.specs.Pool.{words, step, SoundPool}
+use Rattle.theory.proofs.RightLaws.{right-down, right-says}
 use Rattle.words.specs.Rights.{rightAt}
-use Rattle.words.specs.declared.PoolWord.{PoolWord}
-use Rattle.words.proofs.RightsLaws.{eight-right, eight-good, sixteen-right, right-small}
+use Rattle.words.proofs.RightsLaws.{eight-right, sixteen-right, right-small}
 use Rattle.table.specs.declared.Shape.{Shape}
-use Rattle.table.specs.declared.Entry.the-variants.{Rights, Leads, Bad}
 use Rattle.table.specs.Shape.{Fits, size}
-use Rattle.table.specs.Map.{part, parts, index, formOf}
+use Rattle.table.specs.Map.{part, parts, index, leads, formOf}
 use Rattle.table.specs.Wants.{wordsIn}
-use Rattle.table.specs.Entries.{decodeOf, levelOf, blockWords, sameOf}
+use Rattle.table.specs.Entries.{levelOf, blockWords, sameOf}
 use Rattle.table.proofs.BlockLaws.{first-word, some-bytes, few-parts as parts-few}
-use Rattle.table.proofs.EntryLaws.{decode-rights, bad-rights, rights-leads}
-use Rattle.census.proofs.ReadableLaws.{Walkable, sound-readable, reached-not-bad, reached-rights-right, reached-leads}
+use Rattle.census.proofs.ReadableLaws.{Reached, Walkable, sound-readable}
 use Rattle.table.specs.declared.geometry.Level.{Level}
 use Rattle.listing.specs.Runs.{memoryWords}
 use Rattle.listing.specs.Sheets.{Sheet, feed, fed}
@@ -111,15 +111,14 @@ same-said (suc h) w j e =
     ap (λ v. rightAt v (4 * j / part (suc h) % 8)) e ∙ eight-right (rightAt w 0) (4 * j / part (suc h) % 8)
     (right-small w 0) (omega arith)
 
--- Its first right, and what it decodes to.
+-- Its first right, and that it leads nowhere.
 same-first : (h w q : ℕ) → w ≡ sameOf h q → q < 4 → rightAt w 0 ≡ q
 same-first zero w q e b = ap (λ v. rightAt v 0) e ∙ sixteen-right q 0 b (omega arith)
 same-first (suc h) w q e b = ap (λ v. rightAt v 0) e ∙ eight-right q 0 b (omega arith)
 
-same-decoded : (s : Shape) (h w q : ℕ) → w ≡ sameOf h q → q < 4 → decodeOf s h w ≡ Rights w
-same-decoded s zero w q e b = refl
-same-decoded s (suc h) w q e b =
-    decode-rights s (suc h) w (λ z. omega arith) (omega arith) ∙ simp (e, eight-good q b)
+same-stays : (h w q : ℕ) → w ≡ sameOf h q → leads h w ≡ false
+same-stays zero w q e = refl
+same-stays (suc h) w q e = le-ltb w 2147483648 (omega arith)
 
 -- .. is fed at once.
 pub same-fed : (h w a : ℕ) (s : Sheet) → w ≡ sameOf h (rightAt w 0) → fed (blockWords h) (entrySays h w) a s
@@ -163,8 +162,15 @@ sub-blocks (suc zero) a i lo hi e b c = (omega arith, omega arith)
 sub-blocks (suc (suc zero)) a i lo hi e b c = (omega arith, omega arith)
 sub-blocks (suc (suc (suc h))) a i lo hi e b c = absurd (omega arith)
 
-same-rights : {w x : ℕ} → Rights w ≡ Rights x → w ≡ x
-same-rights e = cc
+-- Above the leaves an entry leads where bit 31 is clear,
+pub word-leads : (h w : ℕ) → 0 < h → w < 2147483648 → leads h w ≡ true
+word-leads zero w up b = absurd (omega arith)
+word-leads (suc h) w up b = lt-ltb w 2147483648 b
+
+-- and is rights where it is set.
+pub word-stays : (h w : ℕ) → 0 < h → 2147483648 ≤ w → leads h w ≡ false
+word-stays zero w up b = absurd (omega arith)
+word-stays (suc h) w up b = le-ltb w 2147483648 b
 
 module _ (p : List ℕ) (s : Shape) where
   readable : {h k a : ℕ} → EntryAt p s h k a → Walkable p s
@@ -176,58 +182,51 @@ module _ (p : List ℕ) (s : Shape) where
   pub entry-inside : {h k a : ℕ} → EntryAt p s h k a → k < length p
   entry-inside x = readable x .inside (x .reached)
 
-  -- An entry, by what it decodes to: it is not bad,
-  pub entry-not-bad : (h k a : ℕ) → EntryAt p s h k a → decodeOf s h (words p k) ≡ Bad → ⊥
-  entry-not-bad zero k a x e = bad-rights (sym e)
-  entry-not-bad (suc h) k a x e = reached-not-bad p s (readable x) (x .reached) (omega arith) e
+  -- Through an entry that leads the table there is reached,
+  reached-down : (h k : ℕ) → Reached p s h k → 0 < h → leads h (words p k) ≡ true → (i : ℕ) → i < size (h - 1)
+      → Reached p s (h - 1) (words p k + i)
+  reached-down zero k m up l = absurd (omega arith)
+  reached-down (suc h) k m up l = let z : suc h - 1 ≡ h = omega arith in rw z (λ i c. step i m l c)
 
-  -- its rights are those that it says,
-  entry-said : (h k a w : ℕ) → EntryAt p s h k a → decodeOf s h (words p k) ≡ Rights w → (j : ℕ)
-      → entryRight s p h k j ≡ entrySays h w j
-  unfolding right
-  entry-said zero k a w x e j = ap (λ v. entrySays zero v j) (same-rights e)
-  entry-said (suc h) k a w x e j = reached-rights-right p s (readable x) (x .reached) (omega arith) (4 * j) e
+  -- and it gives the table's rights.
+  entry-leads : (h k : ℕ) → 0 < h → leads h (words p k) ≡ true → (j : ℕ)
+      → entryRight s p h k j ≡ tableRight s p (h - 1) (words p k) j
+  entry-leads zero k up l j = absurd (omega arith)
+  entry-leads (suc h) k up l j =
+      let z : suc h - 1 ≡ h = omega arith in
+      rw z (right-down (formOf s) (words p) h k (4 * j) l)
 
-  -- and it leads to a table for the same words.
-  pub entry-up : (h k a n : ℕ) (t : PoolWord) → EntryAt p s h k a → decodeOf s h (words p k) ≡ Leads t n → 0 < h
-  entry-up zero k a n t x e = absurd (rights-leads e)
-  entry-up (suc h) k a n t x e = omega arith
-
-  module _ (h k a n : ℕ) (t : PoolWord) (x : EntryAt p s h k a) (e : decodeOf s h (words p k) ≡ Leads t n) where
-    entry-leads : (j : ℕ) → entryRight s p h k j ≡ tableRight s p (h - 1) (t .0) j
-    entry-leads j = reached-leads p s (readable x) (x .reached) (entry-up h k a n t x e) e .rights (4 * j)
-
-    pub entry-table : TableAt p s (h - 1) (t .0) a
+  module _ (h k a : ℕ) (x : EntryAt p s h k a) (up : 0 < h) (l : leads h (words p k) ≡ true) where
+    -- The table is for the same words,
+    pub entry-table : TableAt p s (h - 1) (words p k) a
     entry-table =
-        let b = reached-leads p s (readable x) (x .reached) (entry-up h k a n t x e) e in
-        let up = entry-up h k a n t x e in
         let low = entry-low x in
         record {
           entries = λ i c.
               let (al, ins) = sub-blocks h a i up low (x .aligned) (x .inside) c in
-              record { fits = x .fits; sound = x .sound; reached = b .reached i c; aligned = al; inside = ins };
+              record {
+                fits = x .fits;
+                sound = x .sound;
+                reached = reached-down h k (x .reached) up l i c;
+                aligned = al;
+                inside = ins;
+              };
           aligned = rw (table-block h up low) (x .aligned);
         }
 
-  -- So the words of an entry are fed by its rights, or by the table that it leads to.
-  pub rights-fed : (h k a w : ℕ) (u : Sheet) → EntryAt p s h k a → decodeOf s h (words p k) ≡ Rights w
-      → fed (blockWords h) (entrySays h w) a u ≡ fed (blockWords h) (entryRight s p h k) a u
-  rights-fed h k a w u x e = fed-alike (blockWords h) (entrySays h w) (entryRight s p h k) a u
-      (λ j lo hi. sym (entry-said h k a w x e j))
+    -- and they are fed by it.
+    pub leads-fed : (u : Sheet) → fed (tableWords (h - 1)) (tableRight s p (h - 1) (words p k)) a u
+        ≡ fed (blockWords h) (entryRight s p h k) a u
+    leads-fed u =
+        ap (λ m. fed m (tableRight s p (h - 1) (words p k)) a u) (table-block h up (entry-low x))
+        ∙ fed-alike (blockWords h) (tableRight s p (h - 1) (words p k)) (entryRight s p h k) a u
+        (λ j lo hi. sym (entry-leads h k up l j))
 
-  pub leads-fed : (h k a n : ℕ) (t : PoolWord) (u : Sheet) → EntryAt p s h k a → decodeOf s h (words p k) ≡ Leads t n
-      → fed (tableWords (h - 1)) (tableRight s p (h - 1) (t .0)) a u ≡ fed (blockWords h) (entryRight s p h k) a u
-  leads-fed h k a n t u x e =
-      ap (λ m. fed m (tableRight s p (h - 1) (t .0)) a u) (table-block h (entry-up h k a n t x e) (entry-low x))
-      ∙ fed-alike (blockWords h) (tableRight s p (h - 1) (t .0)) (entryRight s p h k) a u
-      (λ j lo hi. sym (entry-leads h k a n t x e j))
-
-  pub leaf-fed : (h k a n : ℕ) (t : PoolWord) (u : Sheet) → EntryAt p s h k a → decodeOf s h (words p k) ≡ Leads t n
-      → h ≡ 1
-      → fed (tableWords 0) (tableRight s p 0 (t .0)) a u ≡ fed (blockWords h) (entryRight s p h k) a u
-  leaf-fed h k a n t u x e o =
-      let z : 0 ≡ h - 1 = omega arith in
-      ap (λ m. fed (tableWords m) (tableRight s p m (t .0)) a u) z ∙ leads-fed h k a n t u x e
+  -- The words of an entry that does not lead are fed by its rights.
+  pub rights-fed : (h k a : ℕ) (u : Sheet) → leads h (words p k) ≡ false
+      → fed (blockWords h) (entrySays h (words p k)) a u ≡ fed (blockWords h) (entryRight s p h k) a u
+  rights-fed h k a u l = fed-alike (blockWords h) (entrySays h (words p k)) (entryRight s p h k) a u
+      (λ j lo hi. sym (right-says (formOf s) (words p) h k (4 * j) l))
 
   -- One entry of a table further.
   module _ (h b a : ℕ) (x : TableAt p s h b a) (v : Level) (e : v ≡ levelOf h) (i : ℕ) (c : i < v .entries) where
@@ -249,12 +248,12 @@ module _ (p : List ℕ) (s : Shape) where
         (k ∙ ap (λ m. fed m (entryRight s p h (b + i)) (a + i * v .block) u) (sym eu))
 
   -- An entry that says the open run's right feeds nothing,
-  same-none : (h k a q : ℕ) (u : Sheet) → EntryAt p s h k a → words p k ≡ sameOf h q → q < 4 → u .run .right ≡ q
+  same-none : (h k a q : ℕ) (u : Sheet) → words p k ≡ sameOf h q → q < 4 → u .run .right ≡ q
       → fed (blockWords h) (entryRight s p h k) a u ≡ u
-  same-none h k a q u x e b r =
+  same-none h k a q u e b r =
       let w = words p k in
       let f = same-first h w q e b in
-      sym (rights-fed h k a w u x (same-decoded s h w q e b))
+      sym (rights-fed h k a u (same-stays h w q e))
       ∙ same-fed h w a u (e ∙ ap (sameOf h) (sym f))
       ∙ feed-again (rightAt w 0) a u (r ∙ sym f)
 
@@ -269,8 +268,7 @@ module _ (p : List ℕ) (s : Shape) where
         let d : i + n < v .entries = omega arith in
         let (w, m) = f n (omega arith) in
         rw o (entry-next h b a x v e (i + n) d s₀ u u (same-next n (omega arith) (λ j y. f j (omega arith)) r l)
-        (sym (same-none h (b + (i + n)) (a + (i + n) * v .block) q u (entry-at h b a x v e (i + n) d)
-        (rw add-assoc at w) m r)))
+        (sym (same-none h (b + (i + n)) (a + (i + n) * v .block) q u (rw add-assoc at w) m r)))
 
   -- The root of a domain is a table for the whole memory.
   pub root-table : (d : ℕ) → Fits s (length p) → SoundPool (formOf s) (words p) → d < s .domains

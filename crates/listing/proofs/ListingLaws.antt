@@ -111,24 +111,24 @@ ended-few d at s = go (eqb (s .right) 0)
     go true = omega arith
     go false = simp length-append (omega arith)
 
-scan-few : (d n : ℕ) (f : ℕ → ℕ) → length (scan d n f .done) ≤ n
-unfolding scan next
-scan-few d zero f = omega arith
-scan-few d (suc n) f = go (eqb (f n) (scan d n f .right)) (scan-few d n f)
+-- `n` words have at most `n`, the open run among them, wherever it ends.
+scan-few : (d n : ℕ) (f : ℕ → ℕ) (at : ℕ) → length (ended d at (scan d n f)) ≤ n
+unfolding scan next ended
+scan-few d zero f at = omega arith
+scan-few d (suc n) f at = go (scan d n f) (scan-few d n f) (eqb (f n) (scan d n f .right))
   where
-    go : (t : Bool) → length (scan d n f .done) ≤ n
-        → length (cond t (scan d n f) (record { right = f n; first = n; done = ended d n (scan d n f) }) .done) ≤ suc n
-    go true h = omega arith
-    go false h = omega (arith, ended-few d n (scan d n f))
+    go : (s : Scan) → ((e : ℕ) → length (ended d e s) ≤ n) → (t : Bool)
+        → length (ended d at (cond t s (record { right = f n; first = n; done = ended d n s }))) ≤ suc n
+    go s h true = omega (arith, h at)
+    go s h false = omega (arith, h n, ended-few d at (record { right = f n; first = n; done = ended d n s }))
 
-runs-few : (d n : ℕ) (f : ℕ → ℕ) → length (runsOf d n f) ≤ n + 1
-unfolding runsOf
-runs-few d n f = omega (arith, ended-few d n (scan d n f), scan-few d n f)
-
-listing-few : (D : ℕ) (R : ℕ → ℕ → ℕ) → length (listingOf D memoryWords R) ≤ (memoryWords + 1) * D
-unfolding listingOf
-listing-few zero R = omega arith
-listing-few (suc D) R = simp length-append (omega (arith, listing-few D R, runs-few D memoryWords (R D)))
+-- .. and so have `D` domains, of their words.
+pub listing-few : (D n : ℕ) (R : ℕ → ℕ → ℕ) → length (listingOf D n R) ≤ D * n
+unfolding listingOf runsOf
+listing-few zero n R = omega arith
+listing-few (suc D) n R =
+    let e : suc D * n ≡ D * n + n = omega arith in
+    simp length-append (omega (arith, listing-few D n R, scan-few D n (R D) n))
 
 -- The runs of the first `k` of `D` domains are made: `n` of them, in the words `out`, which were `l`.
 pub record Upto (D : ℕ) (R : ℕ → ℕ → ℕ) (from : ℕ) (l : List ℕ) (k n : ℕ) (out : List ℕ) : Type 0 where
@@ -142,7 +142,7 @@ module _ (D : ℕ) (R : ℕ → ℕ → ℕ) (from : ℕ) (l : List ℕ) where
   upto-start = record { high = omega arith; count = refl; words = refl }
 
   pub upto-few : (k n : ℕ) (out : List ℕ) → Upto D R from l k n out → n ≤ (memoryWords + 1) * k
-  upto-few k n out u = omega (arith, u .count, listing-few k R)
+  upto-few k n out u = omega (arith, u .count, listing-few k memoryWords R)
 
   pub upto-next : (k n m : ℕ) (out end : List ℕ) → Upto D R from l k n out → k < D
       → _≡_ {A = Count} (record { count = m; out = end })

@@ -44,3 +44,13 @@ pub record EntryAt (p : List ℕ) (s : Shape) (h k a : ℕ) : Type 0 where
 pub record TableAt (p : List ℕ) (s : Shape) (h b a : ℕ) : Type 0 where
   pub entries : (i : ℕ) → i < size h → EntryAt p s h (b + i) (a + i * blockWords h)
   pub aligned : a % tableWords h ≡ 0
+
+-- The entry is so in some shape: a walker of a sound pool need not be told which.
+pub record SomeEntry (p : List ℕ) (h k a : ℕ) : Type 0 where
+  pub shape : Shape
+  pub entry : EntryAt p shape h k a
+
+-- The table is so in some shape.
+pub record SomeTable (p : List ℕ) (h b a : ℕ) : Type 0 where
+  pub shape : Shape
+  pub table : TableAt p shape h b a

@@ -5,6 +5,7 @@ ghost use mathlib.Core.Path.{_≡_};
 ghost use Prim.Native.Nat.{_+_, _*_, _%_, _<_, _≤_};
 ghost use lib.ListN.{length};
 ghost use Rattle.theory.specs.Pool.{words, SoundPool};
+ghost use Rattle.table.specs.declared.Shape.{Shape};
 ghost use Rattle.table.specs.Shape.{Fits};
 ghost use Rattle.table.specs.Map.{formOf};
 ghost use Rattle.listing.specs.Runs.{memoryWords};
@@ -13,9 +14,8 @@ ghost use Rattle.listing.specs.Sheets.{putRun, sheet, counted, closed, t
 ghost use Rattle.listing.specs.Sheets.{written, opening, countOf};
 ghost use Rattle.listing.specs.Levels.{tableWords, entrySays, entryRight};
 ghost use Rattle.table.specs.Entries.{blockWords};
-ghost use Rattle.listing.specs.Levels.{tableRight, AllSay, EntryAt, TableAt};
+ghost use Rattle.listing.specs.Levels.{tableRight, AllSay, EntryAt, TableAt, SomeEntry, SomeTable};
 ghost use Rattle.listing.specs.Listing.{wordRight, Lists};
-use table::Entry;
 use table::Shape;
 use words::PoolWord;
 
@@ -30,13 +30,14 @@ pub struct Run {
     pub right: u32,
 }
 
-// The open run, how many were closed before it, and the number of the first that the caller wants.
+// The open run, the number of the first that the caller wants, and how many were closed before it: in this order there
+// is no gap in what is passed and returned.
 pub struct Open {
     pub domain: u32,
     pub right: u32,
     pub first: u32,
+    pub from: u32,
     pub count: usize,
-    pub from: usize,
 }
 
 // How many runs there are in all; or the number of the refusal.
@@ -47,14 +48,15 @@ pub enum Listed {
 
 // Run number `n`, at its place in the lent words, where it has one. The last byte is reckoned so that no sum reaches
 // 2^32.
-fn put_run(run: Run, n: usize, from: usize, runs: &mut [u32])
+fn put_run(run: Run, n: usize, from: u32, runs: &mut [u32])
     requires { ⌜ (run .first < run .past) × (run .past ≤ memoryWords) ⌝ }
     ensures { λ r. ⌜ now (runs .exit) ≡ putRun from n run (now (runs .entry)) ⌝ }
 {
-    if n < from {
+    let start = from as usize;
+    if n < start {
         return;
     }
-    let k = n - from;
+    let k = n - start;
     if k < runs.len() / 4 {
         let p = 4 * k;
         runs[p] = run.domain;
@@ -149,18 +151,11 @@ fn feed_rights(height: u32, w: u32, at: u32, run: Open, runs: &mut [u32]) -> Ope
 
 // The leaf that begins at pool word `base`, for the memory from word `at` on. Most runs are in leaves; here the
 // numbers of the height are known.
-fn feed_leaf(
-    pool: &[u32],
-    shape: Shape,
-    base: PoolWord,
-    at: u32,
-    run: Open,
-    runs: &mut [u32],
-) -> Open
-    requires { ⌜ TableAt (now pool) shape 0 (base .0) at ⌝ }
+fn feed_leaf(pool: &[u32], base: PoolWord, at: u32, run: Open, runs: &mut [u32]) -> Open
+    requires { ⌜ SomeTable (now pool) 0 (base .0) at ⌝ }
     requires { ⌜ OpenAt run at ⌝ }
-    ensures { λ r. ⌜ sheet r (now (runs .exit))
-        ≡ fed (tableWords 0) (tableRight shape (now (pool .entry)) 0 (base .0)) at (sheet run (now (runs .entry))) ⌝ }
+    ensures { λ r. ⌜ ((s : Shape) → TableAt (now (pool .entry)) s 0 (base .0) at → sheet r (now (runs .exit))
+        ≡ fed (tableWords 0) (tableRight s (now (pool .entry)) 0 (base .0)) at (sheet run (now (runs .entry)))) ⌝ }
 {
     let start = words::pool_index(base);
     let mut s = run;
@@ -204,22 +199,21 @@ fn same_ahead(pool: &[u32], height: u32, word: PoolWord, rest: u32, right: u32) 
     4
 }
 
-// The table of a height that begins at pool word `base`, for the memory from word `at` on. Entries that say what the
-// open run's right is already have nothing to feed.
+// The table of a height above the leaves that begins at pool word `base`, for the memory from word `at` on. Entries
+// that say what the open run's right is already have nothing to feed.
 fn feed_table(
     pool: &[u32],
-    shape: Shape,
     height: u32,
     base: PoolWord,
     at: u32,
     run: Open,
     runs: &mut [u32],
 ) -> Open
-    requires { ⌜ TableAt (now pool) shape height (base .0) at ⌝ }
+    requires { ⌜ (0 < height) × SomeTable (now pool) height (base .0) at ⌝ }
     requires { ⌜ OpenAt run at ⌝ }
-    ensures { λ r. ⌜ sheet r (now (runs .exit))
-        ≡ fed (tableWords height) (tableRight shape (now (pool .entry)) height (base .0))
-        at (sheet run (now (runs .entry))) ⌝ }
+    ensures { λ r. ⌜ ((s : Shape) → TableAt (now (pool .entry)) s height (base .0) at → sheet r (now (runs .exit))
+        ≡ fed (tableWords height) (tableRight s (now (pool .entry)) height (base .0))
+        at (sheet run (now (runs .entry)))) ⌝ }
 {
     let level = table::level_of(height);
     let entries = level.entries;
@@ -233,7 +227,7 @@ fn feed_table(
         let n = same_ahead(pool, height, entry, rest, right);
         if n == 0 {
             let from = at + i * block;
-            s = feed_entry(pool, shape, height, entry, from, s, runs);
+            s = feed_entry(pool, height, entry, from, s, runs);
             i += 1;
         } else {
             i += n;
@@ -242,36 +236,32 @@ fn feed_table(
     s
 }
 
-// The entry of a height at pool word `entry`, whose block begins at word `at`.
+// The entry of a height above the leaves at pool word `entry`, whose block begins at word `at`. In a sound pool bit 31
+// alone tells whether it is rights or leads.
 fn feed_entry(
     pool: &[u32],
-    shape: Shape,
     height: u32,
     entry: PoolWord,
     at: u32,
     run: Open,
     runs: &mut [u32],
 ) -> Open
-    requires { ⌜ EntryAt (now pool) shape height (entry .0) at ⌝ }
+    requires { ⌜ (0 < height) × SomeEntry (now pool) height (entry .0) at ⌝ }
     requires { ⌜ OpenAt run at ⌝ }
-    ensures { λ r. ⌜ sheet r (now (runs .exit))
-        ≡ fed (blockWords height) (entryRight shape (now (pool .entry)) height (entry .0))
-        at (sheet run (now (runs .entry))) ⌝ }
+    ensures { λ r. ⌜ ((s : Shape) → EntryAt (now (pool .entry)) s height (entry .0) at → sheet r (now (runs .exit))
+        ≡ fed (blockWords height) (entryRight s (now (pool .entry)) height (entry .0))
+        at (sheet run (now (runs .entry)))) ⌝ }
 {
     let k = words::pool_index(entry);
     let w = pool[k];
-    let e = table::decode(shape, height, w);
-    match e {
-        Entry::Rights(r) => feed_rights(height, r, at, run, runs),
-        Entry::Leads(t, _) => {
-            if height == 1 {
-                feed_leaf(pool, shape, t, at, run, runs)
-            } else {
-                feed_table(pool, shape, height - 1, t, at, run, runs)
-            }
-        }
-        // A sound pool has no such entry.
-        Entry::Bad => run,
+    if w >= words::BIT_31 {
+        return feed_rights(height, w, at, run, runs);
+    }
+    let t = words::pool_word(w);
+    if height == 1 {
+        feed_leaf(pool, t, at, run, runs)
+    } else {
+        feed_table(pool, height - 1, t, at, run, runs)
     }
 }
 
@@ -280,7 +270,7 @@ fn list_domain(
     pool: &[u32],
     shape: Shape,
     domain: u32,
-    from: usize,
+    from: u32,
     count: usize,
     runs: &mut [u32],
 ) -> usize
@@ -300,12 +290,12 @@ fn list_domain(
         from,
     };
     let root = words::pool_word(table::TABLE_WORDS * domain);
-    let s = feed_table(pool, shape, 2, root, 0, run, runs);
+    let s = feed_table(pool, 2, root, 0, run, runs);
     close(s, MEMORY_WORDS, runs)
 }
 
 // The runs of all domains of a sound pool.
-fn list_domains(pool: &[u32], shape: Shape, from: usize, runs: &mut [u32]) -> usize
+fn list_domains(pool: &[u32], shape: Shape, from: u32, runs: &mut [u32]) -> usize
     requires { ⌜ Fits shape (length (now pool)) ⌝ }
     requires { ⌜ SoundPool (formOf shape) (words (now pool)) ⌝ }
     ensures count { λ r. ⌜ r ≡ length (listingOf (shape .domains) memoryWords (wordRight shape (now (pool .entry)))) ⌝ }
@@ -324,7 +314,7 @@ fn list_domains(pool: &[u32], shape: Shape, from: usize, runs: &mut [u32]) -> us
 }
 
 // The runs of a pool from number `from` on, as many as fit, four words each: domain, first byte, last byte, right.
-pub fn list_runs(pool: &[u32], shape: Shape, from: usize, runs: &mut [u32]) -> Listed
+pub fn list_runs(pool: &[u32], shape: Shape, from: u32, runs: &mut [u32]) -> Listed
     ensures { λ r. ⌜ Lists (now (pool .entry)) shape from (now (runs .entry)) r (now (runs .exit)) ⌝ }
 {
     let long = pool.len();

@@ -1,23 +1,22 @@
 -- The pages of the listing one after the other: they end, and their text is the listing's.
-use Prim.Native.Nat.{ℕ, zero, suc, _+_, _*_, _-_, _≤_, _<_}
+use Prim.Native.Nat.{ℕ, _+_, _*_, _-_, _≤_, _<_}
 use native.Mathlib.Omega.{arith}
 use native.Mathlib.Nat.{zero-add}
 use mathlib.Core.Path.{_≡_, refl, sym, ap, _∙_}
 use mathlib.Core.Logic.{_≢_}
-use mathlib.Core.Bool.{Bool, true, false, cond}
-use mathlib.Core.List.{List, [], _∷_, _++_, append-assoc}
-use lib.Dec.{eqb}
-use lib.ListN.{length, take, drop, length-append, length-drop}
+use mathlib.Core.List.{List, [], _++_, append-assoc}
+use lib.ListN.{length, take, drop, length-drop}
 use lib.Seq.{take-all, drop-drop}
 use Rattle.theory.specs.Pool.{words, SoundPool}
 use Rattle.table.specs.Shape.{Fits}
 use Rattle.table.specs.Map.{formOf}
 use Rattle.listing.specs.declared.Run.{Run}
 use Rattle.listing.specs.Runs.{memoryWords, AllRuns, flat}
-use Rattle.listing.specs.Scan.{Scan, openRun, ended, next, scan, runsOf, listingOf}
+use Rattle.listing.specs.Scan.{listingOf}
 use Rattle.listing.specs.Listing.{wordRight}
 use Rattle.listing.proofs.RunLaws.{one-all-runs}
 use Rattle.listing.proofs.ScanLaws.{listing-all}
+use Rattle.listing.proofs.ListingLaws.{listing-few}
 use Rattle.rights_listing.specs.declared.Shown.{Shown}
 use Rattle.rights_listing.specs.declared.pages.Page.{Page}
 use Rattle.rights_listing.specs.Text.{text}
@@ -26,48 +25,14 @@ use Rattle.rights_listing.specs.Pages.{ShowsPage, no-listing, page, Hand
 use Rattle.rights_listing.specs.Pages as pages
 use Rattle.rights_listing.proofs.PageLaws.{one-page, page-then}
 
--- ---- How many runs there are at most.
-
--- A run that ends is one run more at most.
-ended-few : (d at : ℕ) (s : Scan) → length (ended d at s) ≤ length (s .done) + 1
-unfolding ended
-ended-few d at s = go (eqb (s .right) 0)
-  where
-    go : (b : Bool) → length (cond b (s .done) (s .done ++ openRun d at s ∷ [])) ≤ length (s .done) + 1
-    go true = omega arith
-    go false = let z = length-append (s .done) (openRun d at s ∷ []) in omega arith
-
--- Each word closes at most one run.
-scan-few : (d n : ℕ) (f : ℕ → ℕ) → length (scan d n f .done) ≤ n
-unfolding scan next
-scan-few d zero f = omega arith
-scan-few d (suc n) f = go (scan d n f) (scan-few d n f) (eqb (f n) (scan d n f .right))
-  where
-    go : (s : Scan) → length (s .done) ≤ n → (b : Bool)
-        → length (cond b s (record { right = f n; first = n; done = ended d n s }) .done) ≤ suc n
-    go s h true = omega arith
-    go s h false = let z = ended-few d n s in omega arith
-
--- A domain of `n` words has at most `n + 1`.
-listing-few : (D n : ℕ) (R : ℕ → ℕ → ℕ) → length (listingOf D n R) ≤ D * (n + 1)
-unfolding listingOf runsOf
-listing-few zero n R = omega arith
-listing-few (suc D) n R =
-    let h = listing-few D n R in
-    let e = ended-few D n (scan D n (R D)) in
-    let s = scan-few D n (R D) in
-    let z = length-append (listingOf D n R) (ended D n (scan D n (R D))) in
-    let y : suc D * (n + 1) ≡ D * (n + 1) + (n + 1) = omega arith in
-    omega arith
-
 -- ---- One page after another.
 
 -- The runs of a pool.
 abbrev pub runs : List ℕ → List Run
 runs p = listingOf 4 memoryWords (wordRight whole p)
 
--- Their number fits a number of the machine, by far.
-pub runs-few : (p : List ℕ) → length (runs p) ≤ 4294967300
+-- There are no more than words, so that the number of each fits 32 bits.
+runs-few : (p : List ℕ) → length (runs p) ≤ 4294967296
 runs-few p = listing-few 4 memoryWords (wordRight whole p)
 
 -- Where runs are left after a page, it ends before the last.
@@ -86,11 +51,12 @@ pub record Showing (p : List ℕ) (count : ℕ) : Type 0 where
   pub bytes : List ℕ
   pub rest : (k : ℕ) (more : List ℕ) → ShowsPages p (count * 1024) k more
       → ShowsPages p 0 (count + k) (bytes ++ more)
-  pub within : count * 1024 ≤ length (runs p)
+  -- The number of the next page's first run fits 32 bits.
+  pub fits : count * 1024 < 4294967296
 
 -- Nothing was handed over yet.
 pub showing-begins : (p : List ℕ) → Showing p 0
-showing-begins p = record { bytes = []; rest = λ k more h. rw (zero-add k) h; within = omega arith }
+showing-begins p = record { bytes = []; rest = λ k more h. rw (zero-add k) h; fits = omega arith }
 
 module _ {p : List ℕ} {count : ℕ} {r : Shown} (g : Showing p count) (h : HandsOver p (count * 1024) r) where
   -- Nothing is left after this page.
@@ -112,7 +78,7 @@ module _ {p : List ℕ} {count : ℕ} {r : Shown} (g : Showing p count) (h : Han
           let w : (count + 1) * 1024 ≡ count * 1024 + 1024 = omega arith in
           let y : count + (k + 1) ≡ count + 1 + k = omega arith in
           rw (append-assoc, ← y) (g .rest (k + 1) _ (pages.next (h .shows) real (rw w at s)));
-      within = let z = showing-less in omega arith;
+      fits = let z = showing-less in let f = runs-few p in omega arith;
     }
 
 -- ---- The pages are the listing.

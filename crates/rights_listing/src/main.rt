@@ -114,7 +114,7 @@ fn hear_all(pool: &mut [u32]) -> Ending
 }
 
 // Hands a page over to be written.
-fn show(pool: &[u32], from: usize) -> Shown
+fn show(pool: &[u32], from: u32) -> Shown
     ensures { λ r. ⌜ HandsOver (now (pool .entry)) from r ⌝ }
 {
     let mut out = io::large_buffer();
@@ -131,7 +131,7 @@ fn show_all(pool: &[u32]) -> usize
 {
     let mut count = 0;
     loop {
-        let shown = show(pool, count * pages::RUNS);
+        let shown = show(pool, (count * pages::RUNS) as u32);
         let left = shown.left;
         let written = shown.written;
         if !written {

@@ -39,7 +39,7 @@ fn write_fours(out: &mut [u8], runs: &[u32], n: usize) -> usize
 }
 
 // Writes the runs from number `from` on, as many as a page has.
-pub fn write_page(pool: &[u32], from: usize, out: &mut [u8]) -> Page
+pub fn write_page(pool: &[u32], from: u32, out: &mut [u8]) -> Page
     requires { ⌜ 45056 ≤ length (now out) ⌝ }
     ensures { λ r. ⌜ ShowsPage (now (pool .entry)) from r (now (out .exit)) ⌝ }
 {
@@ -48,10 +48,11 @@ pub fn write_page(pool: &[u32], from: usize, out: &mut [u8]) -> Page
     let Listed::Runs(n) = listed else {
         return Page { len: 0, left: 0 };
     };
-    if n <= from {
+    let first = from as usize;
+    if n <= first {
         return Page { len: 0, left: 0 };
     }
-    let rest = n - from;
+    let rest = n - first;
     if rest <= RUNS {
         let len = write_fours(out, &runs, 4 * rest);
         return Page { len, left: 0 };

@@ -4,7 +4,6 @@
 use Prim.Native.Nat.{ℕ, _+_, _*_, _-_, _<_, _≤_}
 use mathlib.Core.Path.{_≡_, refl, sym, ap, _∙_}
 use native.Mathlib.Omega.{arith}
-use native.Mathlib.Nat.{pos-of-ne-zero}
 use borrow.Author.Needs.{needs}
 use borrow.Author.Tests.{not-false, not-true}
 use borrow.Fn.Kinds.{In}
@@ -109,12 +108,30 @@ module _ (t : ℕ) where
       let x = decoded-place _ (s .pre .1 .0 .range) _ _ _ _ (s .pre .1 .1 .0 .0) (s .pre .1 .1 .0 .1) (led d) in
       omega (arith, x .below, s .pre .1 .1 .1)
 
+  e-same-length : e.Need-same-length (e-calls t) (e-at t) entry-check.Post
+  e-same-length c = search needs
+
+  -- The owners once the entry's place is given.
+  given : (c : e.Then1 (e-calls t) (e-at t) entry-check.Post)
+      → let d = c .before .before .before .before .before .before in
+      let a = d .before .before .before .before .before .args in
+      entryTally (a .shape) (a .pool .now) (a .height) (a .w) (a .block) (a .owners .now)
+      ≡ tableTally (a .shape) (a .pool .now) (a .height - 1) (d .e .given .0 .0 .0) (a .block)
+      (c .before .before .before .give-place .last .1 .1 .0)
+  given c =
+      let g = c .before .before .before in
+      enter-given _ _ _ (led (g .before .before .before))
+      (answers-owned _ _ _ (g .give-place .ensures) (c .if1 .taken))
+
+  e-returns : e.Need-returns (e-calls t) (e-at t) entry-check.Post
+  e-returns c = owned-answers _ _ (given (c .before) ∙ table-leaf _ _ _ _ _ _ (omega (arith, c .if2 .taken)))
+
   e-sub-table-check : e.Need-sub-table-check (e-calls t) (e-at t) entry-check.Post
   e-sub-table-check c = search needs
 
   e-table-check-requires : e.Need-table-check-requires (e-calls t) (e-at t) entry-check.Post
   e-table-check-requires c κs =
-      let d = c .before .before .before .before .before .before .before in
+      let d = c .before .before .before .before .before .before .before .before in
       let s = d .before .before .before .before .before in
       let h : s .args .height - 1 ≤ 2 = omega arith in
       let (u, g, l, room) = decoded-leads _ _ _ _ _ (s .pre .1 .1 .0 .0) (s .pre .1 .1 .0 .1) (led d) in (
@@ -122,59 +139,55 @@ module _ (t : ℕ) where
         (
           s .pre .1 .0,
           (
-            (h, s .pre .1 .1 .0 .2),
+            (omega (arith, c .before .if2 .left), h, s .pre .1 .1 .0 .2),
             (omega (arith, s .pre .1 .0 .long), omega (arith, s .pre .1 .1 .1)),
           ),
         ),
       )
 
-  e-returns : e.Need-returns (e-calls t) (e-at t) entry-check.Post
-  e-returns c = owned-answers _ _
+  e-returns-2 : e.Need-returns-2 (e-calls t) (e-at t) entry-check.Post
+  e-returns-2 c = owned-answers _ _
       (enter-rights _ _ _ (sym (c .before .before .decode .ensures) ∙ c .enum-told .given .1))
 
-  e-returns-2 : e.Need-returns-2 (e-calls t) (e-at t) entry-check.Post
-  e-returns-2 c = refused-answers _ _
-      (enter-bad _ _ _ (sym (c .before .before .decode .ensures) ∙ c .enum-told2 .given .1))
-
-  e-same-length : e.Need-same-length (e-calls t) (e-at t) entry-check.Post
-  e-same-length c = search needs
-
   e-returns-3 : e.Need-returns-3 (e-calls t) (e-at t) entry-check.Post
-  e-returns-3 c =
-      let g = c .before .before .before .before .before .before .before in
-      let d = g .before .before .before in
-      same-answers _ _ _ _ (enter-given _ _ _ (led d)
-      (answers-owned _ _ _ (g .give-place .ensures) (c .before .before .before .before .if1 .taken)))
-      (c .before .before .table-check .ensures)
+  e-returns-3 c = refused-answers _ _
+      (enter-bad _ _ _ (sym (c .before .before .decode .ensures) ∙ c .enum-told2 .given .1))
 
   e-same-length-2 : e.Need-same-length-2 (e-calls t) (e-at t) entry-check.Post
   e-same-length-2 c = search needs
 
   e-returns-4 : e.Need-returns-4 (e-calls t) (e-at t) entry-check.Post
   e-returns-4 c =
+      let k = c .before .before in
+      same-answers _ _ _ _ (given (k .before .before .before)) (k .table-check .ensures)
+
+  e-same-length-3 : e.Need-same-length-3 (e-calls t) (e-at t) entry-check.Post
+  e-same-length-3 c = search needs
+
+  e-returns-5 : e.Need-returns-5 (e-calls t) (e-at t) entry-check.Post
+  e-returns-5 c =
       let g = c .before .before .before in
       refused-answers _ _ (enter-again _ _ _ (led (g .before .before .before))
       (answers-refused _ _ _ (g .give-place .ensures) (c .if1 .left)))
 
   -- Root or middle table: what its entries are checked by.
-  abbrev check : (c : b.Else1 (b-calls t) (b-at t) table-check.Post Inv μ-loop) → ℕ → ℕ → List ℕ → Tally
-  check c k = let a = c .before .before .before .args in
+  abbrev check : (c : b.After-slice-known (b-calls t) (b-at t) table-check.Post Inv μ-loop) → ℕ → ℕ → List ℕ → Tally
+  check c k = let a = c .before .before .args in
       entryTally (a .shape) (a .pool .now) (a .height) (words (a .pool .now) k)
 
-  above : (c : b.Else1 (b-calls t) (b-at t) table-check.Post Inv μ-loop) → 0 < c .before .before .before .args .height
-  above c = pos-of-ne-zero (c .if1 .left)
-
-  b-returns : b.Need-returns (b-calls t) (b-at t) table-check.Post Inv μ-loop
-  b-returns c = owned-answers _ _ (table-leaf _ _ _ _ _ _ (c .if1 .taken))
+  -- Its height.
+  above : (c : b.After-slice-known (b-calls t) (b-at t) table-check.Post Inv μ-loop)
+      → 0 < c .before .before .args .height
+  above c = c .before .before .pre .1 .1 .0 .0
 
   b-mul-first : b.Need-mul-first (b-calls t) (b-at t) table-check.Post Inv μ-loop
   b-mul-first c =
-      let s = c .before .before .before in
-      omega (arith, few-numbers _ (s .args .height) _ (s .pre .1 .0 .range .domains) (s .pre .1 .1 .0 .1))
+      let s = c .before .before in
+      omega (arith, few-numbers _ (s .args .height) _ (s .pre .1 .0 .range .domains) (s .pre .1 .1 .0 .2))
 
   b-loop-holds : b.Need-loop-holds (b-calls t) (b-at t) table-check.Post Inv μ-loop
   b-loop-holds c =
-      let s = c .before .before .before in
+      let s = c .before .before in
       let a = s .args in
       let size = upper-size (a .height) (above c) in (
         omega arith,
@@ -191,13 +204,13 @@ module _ (t : ℕ) where
   b-word-after-requires : b.Need-word-after-requires (b-calls t) (b-at t) table-check.Post Inv μ-loop
   b-word-after-requires c κs =
       let l = c .before in
-      let f = l .before .before .before .before .pre .1 .0 in
+      let f = l .before .before .before .pre .1 .0 in
       let r = f .range in
       omega (arith, l .loop .inv .1, f .long)
 
   -- The word of entry `i`.
   here : (c : b.After-word-after (b-calls t) (b-at t) table-check.Post Inv μ-loop) → let l = c .before .before in
-      c .word-after .result .0 ≡ l .before .before .before .before .args .base .0 + l .loop .i
+      c .word-after .result .0 ≡ l .before .before .before .args .base .0 + l .loop .i
   here c = ap (λ w. w .0) (c .word-after .ensures)
 
   b-plain-ahead-requires : b.Need-plain-ahead-requires (b-calls t) (b-at t) table-check.Post Inv μ-loop
@@ -209,7 +222,7 @@ module _ (t : ℕ) where
   -- Where it stands in the pool.
   index : (c : b.After-pool-index (b-calls t) (b-at t) table-check.Post Inv μ-loop)
       → let l = c .before .before .before .before .before in
-      c .pool-index .result ≡ l .before .before .before .before .args .base .0 + l .loop .i
+      c .pool-index .result ≡ l .before .before .before .args .base .0 + l .loop .i
   index c = c .pool-index .ensures ∙ here (c .before .before .before)
 
   b-mul-w : b.Need-mul-w (b-calls t) (b-at t) table-check.Post Inv μ-loop
@@ -222,21 +235,21 @@ module _ (t : ℕ) where
   b-add-entry-check : b.Need-add-entry-check (b-calls t) (b-at t) table-check.Post Inv μ-loop
   b-add-entry-check c =
       let l = c .before .before .before .before .before .before in
-      let s = l .before .before .before .before in
-      omega (arith, few-numbers _ (s .args .height) _ (s .pre .1 .0 .range .domains) (s .pre .1 .1 .0 .1))
+      let s = l .before .before .before in
+      omega (arith, few-numbers _ (s .args .height) _ (s .pre .1 .0 .range .domains) (s .pre .1 .1 .0 .2))
 
   b-entry-check-requires : b.Need-entry-check-requires (b-calls t) (b-at t) table-check.Post Inv μ-loop
   b-entry-check-requires c κs =
       let l = c .before .before .before .before .before .before .before in
-      let s = l .before .before .before .before in
+      let s = l .before .before .before in
       let a = s .args in
       let few = entry-number (a .shape .domains) (a .height) (a .block) (l .loop .i) (above (l .before))
-      (s .pre .1 .1 .0 .0) (s .pre .1 .1 .0 .1) (omega arith) in (
+      (s .pre .1 .1 .0 .1) (s .pre .1 .1 .0 .2) (omega arith) in (
         omega arith,
         (
           s .pre .1 .0,
           (
-            (above (l .before), s .pre .1 .1 .0 .0, few),
+            (above (l .before), s .pre .1 .1 .0 .1, few),
             omega (arith, l .loop .inv .2, s .pre .1 .1 .1 .1),
           ),
         ),
@@ -246,13 +259,13 @@ module _ (t : ℕ) where
   checked : (c : b.After-entry-check (b-calls t) (b-at t) table-check.Post Inv μ-loop)
       → let i = c .before .before .before in
       let l = i .before .before .before .before .before in
-      let a = l .before .before .before .before .args in
+      let a = l .before .before .before .args in
       check (l .before) (a .base .0 + l .loop .i) (1024 * a .block + l .loop .i) (l .loop .owners)
       ≡ check (l .before) (i .pool-index .result) (1024 * a .block + l .loop .i) (l .loop .owners)
   checked c =
       let i = c .before .before .before in
       let l = i .before .before .before .before .before in
-      let a = l .before .before .before .before .args in
+      let a = l .before .before .before .args in
       ap (λ x. check (l .before) x (1024 * a .block + l .loop .i) (l .loop .owners)) (sym (index i))
 
   b-same-length : b.Need-same-length (b-calls t) (b-at t) table-check.Post Inv μ-loop
@@ -261,15 +274,15 @@ module _ (t : ℕ) where
     c .before .before .before .before .before .before .before .before .before .before .before .loop .inv .2,
   )
 
-  b-returns-2 : b.Need-returns-2 (b-calls t) (b-at t) table-check.Post Inv μ-loop
-  b-returns-2 c =
+  b-returns : b.Need-returns (b-calls t) (b-at t) table-check.Post Inv μ-loop
+  b-returns c =
       let k = c .before .before .before in
       let l = k .before .before .before .before .before .before .before .before in
-      let a = l .before .before .before .before .args in
+      let a = l .before .before .before .args in
       refused-answers _ _ (sym (l .loop .inv .3)
       ∙ through-stop (check (l .before)) 1024 (a .base .0) (1024 * a .block) (l .loop .i) (l .loop .owners)
       (omega arith)
-      (checked k ∙ answers-refused _ _ _ (k .entry-check .ensures) (not-true _ (c .if3 .taken))))
+      (checked k ∙ answers-refused _ _ _ (k .entry-check .ensures) (not-true _ (c .if2 .taken))))
 
   b-add-i : b.Need-add-i (b-calls t) (b-at t) table-check.Post Inv μ-loop
   b-add-i c = search needs
@@ -281,13 +294,13 @@ module _ (t : ℕ) where
   b-loop-again c =
       let k = c .before .before .before in
       let l = k .before .before .before .before .before .before .before .before in
-      let a = l .before .before .before .before .args in (
+      let a = l .before .before .before .args in (
         omega arith,
         l .loop .inv .1,
         omega (arith, l .loop .inv .2),
         sym (through-step (check (l .before)) 1024 (a .base .0) (1024 * a .block) (l .loop .i) (l .loop .owners)
             (omega arith) _
-            (checked k ∙ answers-owned _ _ _ (k .entry-check .ensures) (not-false _ (c .if3 .left))))
+            (checked k ∙ answers-owned _ _ _ (k .entry-check .ensures) (not-false _ (c .if2 .left))))
             ∙ l .loop .inv .3,
       )
 
@@ -301,7 +314,7 @@ module _ (t : ℕ) where
   b-loop-again-2 c =
       let p = c .before in
       let l = p .before .before .before in
-      let known = l .before .before .before in
+      let known = l .before .before in
       let a = known .before .args in
       let P = words (a .pool .now) in
       let at = a .base .0 in (
@@ -321,10 +334,10 @@ module _ (t : ℕ) where
   b-same-length-2 : b.Need-same-length-2 (b-calls t) (b-at t) table-check.Post Inv μ-loop
   b-same-length-2 c = c .before .loop .inv .2
 
-  b-returns-3 : b.Need-returns-3 (b-calls t) (b-at t) table-check.Post Inv μ-loop
-  b-returns-3 c =
+  b-returns-2 : b.Need-returns-2 (b-calls t) (b-at t) table-check.Post Inv μ-loop
+  b-returns-2 c =
       let l = c .before in
-      let a = l .before .before .before .before .args in
+      let a = l .before .before .before .args in
       owned-answers _ _ (sym (l .loop .inv .3)
       ∙ through-end (check (l .before)) (1024 - l .loop .i) (a .base .0 + l .loop .i) (1024 * a .block + l .loop .i)
       (l .loop .owners) (omega arith))
@@ -338,16 +351,17 @@ pub +entry-check+table-check-spec : {M : Type 1} → statement M
     (e-enum-told-2 t)
     (e-enum-known-e t)
     (e-give-place-requires t)
+    (e-same-length t)
+    (e-returns t)
     (e-sub-table-check t)
     (e-table-check-requires t)
-    (e-returns t)
     (e-returns-2 t)
-    (e-same-length t)
     (e-returns-3 t)
     (e-same-length-2 t)
-    (e-returns-4 t))
+    (e-returns-4 t)
+    (e-same-length-3 t)
+    (e-returns-5 t))
     (λ t. b.spec (b-calls t) (b-at t) table-check.Post Inv μ-loop
-    (b-returns t)
     (b-mul-first t)
     (b-loop-holds t)
     (b-cast-word-after t)
@@ -359,7 +373,7 @@ pub +entry-check+table-check-spec : {M : Type 1} → statement M
     (b-add-entry-check t)
     (b-entry-check-requires t)
     (b-same-length t)
-    (b-returns-2 t)
+    (b-returns t)
     (b-add-i t)
     (b-loop-less t)
     (b-loop-again t)
@@ -367,4 +381,4 @@ pub +entry-check+table-check-spec : {M : Type 1} → statement M
     (b-loop-less-2 t)
     (b-loop-again-2 t)
     (b-same-length-2 t)
-    (b-returns-3 t))
+    (b-returns-2 t))

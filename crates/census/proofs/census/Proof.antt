@@ -42,7 +42,7 @@ table-check-requires c κs =
     let l = c .before .before .before in
     let s = l .before .before .before .before .before .before .before in
     let e : c .before .pool-word .result .0 ≡ 1024 * l .loop .d = ap (λ w. w .0) (c .before .pool-word .ensures) in
-    (s .pre .0, ((omega arith, omega arith), (omega (arith, s .pre .0 .long), l .loop .inv .1)))
+    (s .pre .0, ((omega arith, omega arith, omega arith), (omega (arith, s .pre .0 .long), l .loop .inv .1)))
 
 -- What the roots tell, with the one at which the loop stands.
 next : (c : tie.After-table-check Inv-loop μ-loop) → let l = c .before .before .before .before in

@@ -7,7 +7,7 @@ use lib.ListN.{length}
 use Rattle.table.specs.declared.Shape.{Shape}
 use Rattle.table.specs.Entries.{levelOf}
 use Rattle.listing.specs.Sheets.{sheet}
-use Rattle.listing.specs.Levels.{tableRight, EntryAt, TableAt}
+use Rattle.listing.specs.Levels.{tableRight, EntryAt, TableAt, SomeTable}
 use Rattle.listing.proofs.SheetLaws.{Along, along-start, along-end}
 use Rattle.listing.proofs.LevelLaws.{entry-inside, rights-fed, entry-at, entry-next}
 use Rattle.listing.proofs.feed_leaf.Statement.{statement}
@@ -31,15 +31,15 @@ cast-w : tie.Need-cast-w Inv-loop μ-loop
 cast-w c = search needs
 
 -- The leaf, from where its first word stands.
-leaf : (c : tie.After-pool-index Inv-loop μ-loop) → let a = c .before .before .before .args in TableAt (a .pool .now)
-    (a .shape) 0 (c .pool-index .result) (a .at)
+leaf : (c : tie.After-pool-index Inv-loop μ-loop) → let a = c .before .before .before .args in
+    SomeTable (a .pool .now) 0 (c .pool-index .result) (a .at)
 leaf c = rw (c .pool-index .ensures) (c .before .before .before .pre .0)
 
 -- Entry `i` is for its block, which lies in the memory.
 stands : (c : tie.In-loop Inv-loop μ-loop) → let a = c .before .before .before .before .before .args in
-    EntryAt (a .pool .now) (a .shape) 0 (c .before .before .pool-index .result + c .before .loop .i)
-    (a .at + c .before .loop .i * 16)
-stands c = entry-at _ _ _ _ _ (leaf (c .before .before)) (levelOf 0) refl _ (c .loop-test .taken)
+    EntryAt (a .pool .now) (leaf (c .before .before) .shape) 0
+    (c .before .before .pool-index .result + c .before .loop .i) (a .at + c .before .loop .i * 16)
+stands c = entry-at _ _ _ _ _ (leaf (c .before .before) .table) (levelOf 0) refl _ (c .loop-test .taken)
 
 add-w : tie.Need-add-w Inv-loop μ-loop
 add-w c = let x = stands c in omega (arith, entry-inside _ _ x, x .fits .long, x .fits .range)
@@ -60,7 +60,7 @@ feed-rights-requires : tie.Need-feed-rights-requires Inv-loop μ-loop
 feed-rights-requires c κs =
     let i = c .before .before in
     let x = stands i in
-    ((x .aligned, x .inside), i .before .loop .inv .0 _ (leaf (i .before .before)) .numbers)
+    ((x .aligned, x .inside), i .before .loop .inv .0 _ (leaf (i .before .before) .table) .numbers)
 
 add-i : tie.Need-add-i Inv-loop μ-loop
 add-i c = search needs
@@ -71,10 +71,12 @@ loop-less c = search needs
 loop-again : tie.Need-loop-again Inv-loop μ-loop
 loop-again c =
     let f = c .before .before in
-    let i = f .before .before .before in (
-      (λ x k. entry-next _ x _ _ _ k (levelOf 0) refl _ (i .loop-test .taken) _ _ _ (i .before .loop .inv .0 x k)
-          (f .feed-rights .ensures ∙ rights-fed _ _ _ _ _ _ _
-          (entry-at _ x _ _ _ k (levelOf 0) refl _ (i .loop-test .taken)) refl)),
+    let i = f .before .before .before in
+    let b = i .before .before in
+    let a = b .before .before .before .args in
+    let l = i .before .loop in (
+      (λ x k. entry-next _ x _ _ _ k (levelOf 0) refl _ (i .loop-test .taken) _ _ _ (l .inv .0 x k)
+          (f .feed-rights .ensures ∙ rights-fed (a .pool .now) x 0 (b .pool-index .result + l .i) _ _ refl)),
       omega arith,
     )
 
@@ -82,10 +84,9 @@ same-length : tie.Need-same-length Inv-loop μ-loop
 same-length c = search needs
 
 returns : tie.Need-returns Inv-loop μ-loop
-returns c =
+returns c x k =
     let b = c .before .before in
-    let a = b .before .before .before .args in
-    along-end _ _ _ _ _ _ _ (c .before .loop .inv .0 (a .shape) (leaf b)) (c .loop-test .left)
+    along-end _ _ _ _ _ _ _ (c .before .loop .inv .0 x (rw (b .pool-index .ensures) k)) (c .loop-test .left)
     ∙ rw (b .pool-index .ensures) refl
 
 pub feed-leaf-spec : {M : Type 1} → statement M

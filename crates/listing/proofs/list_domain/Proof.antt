@@ -3,7 +3,7 @@ use mathlib.Core.Path.{ap, _∙_}
 use native.Mathlib.Omega.{arith}
 use Rattle.listing.specs.Runs.{memoryWords}
 use Rattle.listing.specs.Sheets.{sheet, closed, fed, opening, countOf}
-use Rattle.listing.specs.Levels.{tableRight}
+use Rattle.listing.specs.Levels.{tableRight, TableAt}
 use Rattle.listing.proofs.LevelLaws.{root-table}
 use Rattle.listing.proofs.ListingLaws.{open-begin, open-end}
 use borrow.Author.Needs.{needs}
@@ -16,20 +16,28 @@ mul-pool-word c = search needs
 pool-word-requires : tie.Need-pool-word-requires
 pool-word-requires c κs = search needs
 
+-- The root of the domain.
+root : (c : tie.After-pool-word) → let a = c .before .before .before .args in
+    TableAt (a .pool .now) (a .shape) 2 (c .pool-word .result .0) 0
+root c =
+    let p = c .before .before .before .pre in
+    rw (c .pool-word .ensures) (root-table _ _ _ (p .0) (p .1 .0) (p .1 .1 .0))
+
 feed-table-requires : tie.Need-feed-table-requires
 feed-table-requires c κs =
-    let s = c .before .before .before .before in
-    let e = c .before .pool-word .ensures in (
-      rw e (root-table _ _ _ (s .pre .0) (s .pre .1 .0) (s .pre .1 .1 .0)),
+    let s = c .before .before .before .before in (
+      (omega arith, record { shape = s .args .shape; table = root (c .before) }),
       open-begin _ _ _ (omega (arith, s .pre .0 .range .domains)) (s .pre .1 .1 .1),
     )
 
 close-requires : tie.Need-close-requires
 close-requires c κs =
-    let s = c .before .before .before .before .before .before .before .before in (
+    let f = c .before .before .before in
+    let b = f .before .before in
+    let s = b .before .before .before in (
       omega arith,
       open-end _ _ _ (open-begin _ _ _ (omega (arith, s .pre .0 .range .domains)) (s .pre .1 .1 .1))
-          (ap (λ u. u .run) (c .before .before .before .feed-table .ensures)),
+          (ap (λ u. u .run) (f .feed-table .ensures _ (root b))),
     )
 
 same-length : tie.Need-same-length
@@ -38,13 +46,13 @@ same-length c = search needs
 returns : tie.Need-returns
 returns c =
     let a = c .before .before .before .before .before .before .before .before .before .before .before .args in
-    let root = c .before .before .before .before .before .before .before .before .pool-word .ensures in
+    let b = c .before .before .before .before .before .before .before .before in
     ap countOf
     (c .before .before .close .ensures
     ∙ ap (closed memoryWords)
-    (c .before .before .before .before .before .before .feed-table .ensures
+    (c .before .before .before .before .before .before .feed-table .ensures _ (root b)
     ∙ ap (λ b. fed memoryWords (tableRight (a .shape) (a .pool .now) 2 (b .0)) 0
-    (sheet (opening (a .domain) (a .count) (a .from)) (a .runs .now))) root))
+    (sheet (opening (a .domain) (a .count) (a .from)) (a .runs .now))) (b .pool-word .ensures)))
 
 pub list-domain-spec : {M : Type 1} → statement M
 list-domain-spec =

@@ -3,7 +3,7 @@ use Prim.Native.Nat.{_*_, _-_}
 use native.Mathlib.Omega.{arith}
 use lib.ListN.{length}
 use Rattle.rights_listing.specs.Pages.{not-written}
-use Rattle.rights_listing.proofs.ShowLaws.{runs, runs-few, Showing}
+use Rattle.rights_listing.proofs.ShowLaws.{runs, Showing}
 use Rattle.rights_listing.proofs.ShowLaws.{showing-begins, showing-ends, showing-less, showing-on}
 use borrow.Author.Needs.{needs}
 use Rattle.rights_listing.proofs.show_all.Statement.{statement}
@@ -19,10 +19,10 @@ loop-holds : tie.Need-loop-holds Inv-loop μ-loop
 loop-holds c = showing-begins _
 
 mul-show : tie.Need-mul-show Inv-loop μ-loop
-mul-show c =
-    let w = c .loop .inv .within in
-    let f = runs-few (c .before .before .args .pool .now) in
-    search needs
+mul-show c = let f = c .loop .inv .fits in search needs
+
+cast-show : tie.Need-cast-show Inv-loop μ-loop
+cast-show c = let f = c .loop .inv .fits in search needs
 
 show-requires : tie.Need-show-requires Inv-loop μ-loop
 show-requires c κs = search needs
@@ -32,8 +32,7 @@ returns c = not-written
 
 add-count : tie.Need-add-count Inv-loop μ-loop
 add-count c =
-    let w = c .before .before .loop .inv .within in
-    let f = runs-few (c .before .before .before .before .args .pool .now) in
+    let f = c .before .before .loop .inv .fits in
     search needs
 
 returns-2 : tie.Need-returns-2 Inv-loop μ-loop
@@ -61,6 +60,7 @@ show-all-spec =
     μ-loop
     loop-holds
     mul-show
+    cast-show
     show-requires
     returns
     add-count
