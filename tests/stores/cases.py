@@ -2,17 +2,19 @@
 import re
 
 CHANGE, TIDYING, AHEAD = (f"crates/change/src/{name}.rt" for name in ("lib", "tidying", "ahead"))
-FACE, TABLE, CENSUS = (f"crates/{name}/src/lib.rt" for name in ("goleuthan", "table", "census"))
+FACE, TABLE, CENSUS, PLAN = (f"crates/{name}/src/lib.rt" for name in ("goleuthan", "table", "census", "plan"))
 BUFFER, STEPS = "crates/lookaside/src/lib.rt", "crates/gates/src/steps.rt"
 OWNERS, REGIONS = (f"crates/owners/src/{name}.rt" for name in ("lib", "calls"))
 MAIN, SERVING = (f"crates/rights_listing/src/{name}.rt" for name in ("main", "serving"))
 
 ASKED = "let request = plan_request("
 STORE = "    pool[i] = value;"
-NEXT = "let next = next_store(pool, shape, owners, work, from);"
+SEARCH = "fn next_store(\n    tidies: bool,\n    pool: &[u32]"
+PLANNED = "let ready = plan::plan_change("
+NEXT = "let next = next_store(tidies, pool, shape, owners, plan, from);"
 PUT = "put(pool, shape, domain, paint, at, value);"
-CHANGED = "make_stores(pool, shape, &owners, to, paint, work, allowance)"
-TIDIED = "make_stores(pool, shape, &owners, 0, UNPAINTED, Work::Tidying, allowance)"
+CHANGED = "make_stores(pool, shape, &owners, &plan, false, allowance)"
+TIDIED = "make_stores(pool, shape, &owners, &plan, true, allowance)"
 FRESH = "table::fresh(&mut pool, serving::shape());"
 LOAD = "let got = load(pool, at, loads);"
 WALK = "let walked = decide(pool, shape, domain, address);"
@@ -48,10 +50,10 @@ WRONG = [
     ("has a second loop of stores", "the loop",
      [before(CHANGE, "let mut from = START;", "while left == 1 { left -= 1; }")]),
     ("stores another value", "the loop", [(CHANGE, PUT, PUT.replace("value", "value + 1"))]),
-    ("asks for the next store by what is left", "the loop", [(CHANGE, NEXT, NEXT.replace("work,", "work, left,"))]),
+    ("asks for the next store by what is left", "the loop", [(CHANGE, NEXT, NEXT.replace("plan,", "plan, left,"))]),
     ("tells the search for the next store the allowance", "the allowance",
-     [(CHANGE, NEXT, NEXT.replace("work,", "work, allowance,")),
-      (CHANGE, "work: Work, from: Cursor) -> Next", "work: Work, allowance: u32, from: Cursor) -> Next")]),
+     [(CHANGE, NEXT, NEXT.replace("plan,", "plan, allowance,")),
+      (CHANGE, "    from: Cursor,\n) -> Next", "    allowance: u32,\n    from: Cursor,\n) -> Next")]),
     ("tells the one store what is left", "the allowance",
      [(CHANGE, PUT, PUT.replace("value", "value, left")),
       (CHANGE, "at: PoolWord, value: u32)", "at: PoolWord, value: u32, left: u32)")]),
@@ -59,7 +61,7 @@ WRONG = [
      [before(CHANGE, ASKED, "if allowance == 7 { return Answer::Cut; }")]),
     ("knows the allowance by another name", "the allowance", [before(CHANGE, ASKED, "let n = allowance;")]),
     ("stores in the search for the next store", "held",
-     [lent(CHANGE, "next_store"), before(CHANGE, "    match work {", "pool[0] = 0;")]),
+     [(CHANGE, SEARCH, SEARCH.replace("&[u32]", "&mut [u32]")), before(CHANGE, "    if tidies {", "pool[0] = 0;")]),
     ("stores in a search of another file", "one store",
      [lent(AHEAD, "next_here"), before(AHEAD, "let turn = phase_of(", "pool[0] += 0;")]),
     ("writes by way of a part of the pool", "held",
@@ -74,6 +76,11 @@ WRONG = [
     ("writes the pool in the census", "below",
      [lent(CENSUS, "census"), before(CENSUS, "    clear(owners);", "pool[0] = 7;")]),
     ("lends the pool to one more function of the census", "below", [lent(CENSUS, "plain_ahead")]),
+    ("writes the pool while it plans", "below",
+     [(PLAN, "pub fn plan_change(\n    pool: &[u32]", "pub fn plan_change(\n    pool: &mut [u32]")]),
+    ("alters a plan that is made", "one store", [before(CHANGE, PLANNED, "plan[1] = 0;")]),
+    ("lends a plan to be altered once more", "held",
+     [before(CHANGE, "    match request {", "plan::put_edge(&mut plan, 4, edge);")]),
     ("fills a part of the pool twice", "below",
      [before(TABLE, "fill(&mut pool[roots..], 0);", "fill(&mut pool[roots..], 7);")]),
     ("makes a pool fresh in a tidying", "nobody else", [before(TIDYING, TIDIED, "table::fresh(pool, shape);")]),
@@ -117,7 +124,7 @@ WRONG += [
      [(STEPS, "fn frames_below(ws: &[u32]", "fn frames_below(ws: &mut [u32]")]),
     ("makes the change of a caller twice", "above", [before(OWNERS, BY, BY + ";")]),
     ("stores in the pool before the list is asked", "above",
-     [before(OWNERS, "let allowed = rules::allowed(", "pool[0] = 7;")]),
+     [before(OWNERS, "let leave = leave_of(", "pool[0] = 7;")]),
     ("knows the allowance of a caller by another name", "the allowance", [before(OWNERS, BY, "let n = allowance;")]),
     ("writes a word of a list and writes it back before a region is made", "states",
      [before(REGIONS, MET, "let was = ws[0]; ws[0] = 7; ws[0] = was;")]),

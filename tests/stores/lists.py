@@ -26,6 +26,23 @@ HOLDERS = {
     },
 }
 
+# Who in crate change is lent the two arrays that a change makes, the owners of places and the plan, and what each does
+# with them: neither stores in them itself.
+FILLERS = {
+    "plan_request": {"owners": ["to plan_region"], "plan": ["to plan_region"]},
+    "plan_region": {
+        "owners": ["to census::census", "to targets::settled", "to plan::plan_change"],
+        "plan": ["to plan::plan_change"],
+    },
+}
+
+# Which of a call's own arrays it lends to be filled, and to whom.
+ARRAYS = {
+    ("change", "owners"): "lent to plan_request",
+    ("change", "plan"): "lent to plan_request",
+    ("tidy", "owners"): "lent to census::census",
+}
+
 # The program's pool is an array of its main function.
 MAIN = ["new", "lent to table::fresh", "lent to hear_all", "shown to show_all"]
 
@@ -40,9 +57,12 @@ TOLD = {
     ("goleuthan", "gol_change_by"): ["to owners::change_by"],
 }
 
-# The crates below `change`; in the census the owners of places are lent to write in.
+# The crates below `change`; in the census the owners of places are lent to write in, and in the plan its words.
 BELOW = next(line.split()[1:] for line in open("crates.txt") if line.startswith("change:"))
 OWNERS = {name: ["owners"] for name in ("clear", "give_place", "table_check", "entry_check", "census")}
+PLANNERS = {
+    name: ["plan"] for name in ("put_edge", "copy_edge", "draft_edge", "take_place", "plan_ends", "plan_change")
+}
 
 # What the functions that C calls are lent to write in.
 EXPORTED = {
@@ -136,6 +156,7 @@ READERS = {
 # The one loop, token by token, whatever its locals are called. What it asks and gives are names.
 NAMES = r"[\w ,]+"
 LOOP = (
+    r"(?:let \w+ = plan :: \w+_in \( plan \) ; )*"
     r"let mut (?P<left>\w+) = allowance ; let mut (?P<at>\w+) = START ; loop \{ "
     r"let (?P<next>\w+) = next_store \( (?P<asked>" + NAMES + r") , (?P=at) \) ; "
     r"let Next :: Store \( (?P<word>\w+) , (?P<value>\w+) , (?P<on>\w+) \) = (?P=next) else \{ "

@@ -1,7 +1,8 @@
 """The rules of one loop of stores: each gives what is wrong with a source."""
 import re
 
-from lists import BELOW, CALLERS, EXPORTED, HOLDERS, LOOP, MAIN, OWNERS, READERS, STATES, TOLD
+from lists import ARRAYS, BELOW, CALLERS, EXPORTED, FILLERS, HOLDERS, LOOP, MAIN, OWNERS, PLANNERS, READERS, STATES
+from lists import TOLD
 from source import assigned, use, uses
 
 
@@ -18,17 +19,23 @@ def handed_on(house, crate):
 
 
 def held(house):
-    """In crate change four functions hold words to write in, the pool's; and arrays are lent to the census alone."""
+    """In crate change four functions hold the pool to write in, and two fill the arrays of a change."""
     lent = house.lent("change")
-    wrong = [f"change: {name} holds words to write in, or must" for name in set(lent) ^ set(HOLDERS["change"])]
-    wrong += [f"change: {name} holds {names}" for name, names in lent.items() if len(names) != 1]
+    known = set(HOLDERS["change"]) | set(FILLERS)
+    wrong = [f"change: {name} holds words to write in, or must" for name in set(lent) ^ known]
+    wrong += [f"change: {name} holds {names}" for name, names in lent.items() if name not in FILLERS and len(names) != 1]
+    for name, listed in FILLERS.items():
+        function = house.named("change", name)
+        done = {array: uses(function.body, array) for array in function.lent()} if function else {}
+        if done != listed:
+            wrong.append(f"change: {name} does with its arrays {done}, and may do {listed}")
     if "mut" in house.outside["change"]:
         wrong.append("change: something that is no function holds words to write in")
     for f in house.functions["change"]:
         for i in [i for i in range(len(f.body)) if f.body[i:i + 2] == ["&", "mut"]]:
             name = f.body[i + 2]
             local = f"let mut {name} = [ 0u32 ;" in " ".join(f.body) and name not in f.parameters
-            if not local or use(f.body, i + 2) != "lent to census::census":
+            if not local or use(f.body, i + 2) != ARRAYS.get((f.name, name)):
                 wrong.append(f"change: {f.name} lends {name} to write in")
         if "fn" in f.body:
             wrong.append(f"change: {f.name} holds a function")
@@ -89,10 +96,11 @@ def allowance(house):
 
 
 def below(house):
-    """Below crate change words are lent to be made fresh and to count the owners, and for nothing else."""
+    """Below crate change words are lent to be made fresh, to count the owners and to plan, and for nothing else."""
     wrong = handed_on(house, "table")
     for crate in BELOW:
-        listed = {"table": {"fresh": ["pool"], "fill": ["part"]}, "census": OWNERS}.get(crate, {})
+        may = {"table": {"fresh": ["pool"], "fill": ["part"]}, "census": OWNERS, "plan": PLANNERS}
+        listed = may.get(crate, {})
         if house.lent(crate) != listed:
             wrong.append(f"{crate}: words to write in are {house.lent(crate)}, and may be {listed}")
         if "mut" in house.outside[crate]:

@@ -137,7 +137,9 @@ def use(body, i):
 
 
 def uses(body, name):
-    return [use(body, i) for i, t in enumerate(body) if t == name and (i == 0 or body[i - 1] not in (".", "::"))]
+    """All that is done with a name, which is no field, no part of a path and no module."""
+    places = [i for i, token in enumerate(body) if token == name and body[i + 1:i + 2] != ["::"]]
+    return [use(body, i) for i in places if i == 0 or body[i - 1] not in (".", "::")]
 
 
 def assigned(body):

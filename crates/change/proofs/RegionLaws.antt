@@ -1,7 +1,7 @@
 -- From a request to its plan, and from the end of the loop to the answer of a change.
 use Prim.Native.Nat.{ℕ, _≤_, _<_}
 use mathlib.Core.Path.{_≡_, sym, subst, ap, _∙_}
-use mathlib.Core.Bool.{Bool}
+use mathlib.Core.Bool.{Bool, true, false}
 use mathlib.Core.List.{List}
 use native.Mathlib.Omega.{arith}
 use lib.ListN.{length}
@@ -17,8 +17,6 @@ use Rattle.words.specs.declared.Region.{Region}
 use Rattle.words.specs.declared.Rounded.the-variants.{Covers}
 use Rattle.words.proofs.RegionLaws.{region-covering}
 use Rattle.plan.specs.declared.Plan.{Plan}
-use Rattle.plan.specs.declared.Planning.{Planning}
-use Rattle.plan.specs.declared.Planning.the-variants.{Ready as Planned-as, NoRoom}
 use Rattle.plan.specs.Plan.{PlanFits}
 use Rattle.plan.specs.Planning.{Regular, firstOf, lastOf}
 use Rattle.plan.specs.Goals.{Planned}
@@ -56,22 +54,21 @@ plan-ready p s d paint q f t small bd g r =
     })
     (planned s d paint p f t small bd g (r .free) (r .placed) q e)
 
-pub planning-ready : (p : List ℕ) (s : Shape) (d : ℕ) (paint : Paint) (r : Planning) (q : Plan)
-    → PlansChange s d paint (words p) r → r ≡ Planned-as q
-    → PlanReady s d paint (words p) q
-planning-ready p s d paint r q z e = rw e at z
+-- What the planning says, where it is ready, and where there is no room.
+module _ (p : List ℕ) (s : Shape) (d : ℕ) (paint : Paint) (r : Bool) (q : Plan)
+    (z : PlansChange s d paint (words p) r q) where
+  pub planning-ready : r ≡ true → PlanReady s d paint (words p) q
+  planning-ready e = rw e at z
 
-pub planning-none : (p : List ℕ) (s : Shape) (d : ℕ) (paint : Paint) (r : Planning)
-    → PlansChange s d paint (words p) r → r ≡ NoRoom
-    → Room s (aimedAt s (aimOf d paint) (words p)) → ⊥
-planning-none p s d paint r z e = rw e at z
+  pub planning-none : r ≡ false → Room s (aimedAt s (aimOf d paint) (words p)) → ⊥
+  planning-none e = rw e at z
 
 -- The request of a region that is in order.
-pub request-is : (p : List ℕ) (s : Shape) (d start len r : ℕ) {g : Region} (q : Request) → Asked p s d start len r g
-    → RegionIs p s (changeAim d g r) q
-    → RequestIs p s d start len r q
-request-is p s d start len r {g} (Refused k) a f = λ n. in-order g a (f n)
-request-is p s d start len r {g} (Known q) a (t, y) = (g, a, t, y)
+pub request-is : (p : List ℕ) (s : Shape) (d start len r : ℕ) {g : Region} (q : Plan) (t : Request)
+    → Asked p s d start len r g → RegionIs p s (changeAim d g r) q t
+    → RequestIs p s d start len r q t
+request-is p s d start len r {g} q (Refused k) a f = λ n. in-order g a (f n)
+request-is p s d start len r {g} q Known a (t, y) = (g, a, t, y)
 
 -- What the end of the loop says of the change.
 pub region-answers : {s : Shape} {A : Aim} {p : List ℕ} {n : ℕ} {a : Answer} {y : List ℕ}
@@ -82,19 +79,19 @@ region-answers t (cut-short x c) = cut t x c
 
 -- A request that was refused, and one that was planned.
 module _ {p : List ℕ} {s : Shape} {d start len r : ℕ} where
-  pub request-refused : {q : Request} {k : ℕ} → RequestIs p s d start len r q → q ≡ Refused k → (n : ℕ)
+  pub request-refused : (q : Plan) {t : Request} {k : ℕ} → RequestIs p s d start len r q t → t ≡ Refused k → (n : ℕ)
       → Changes p s d start len r n (No k) p
-  request-refused f e = rw e at f
+  request-refused q f e = rw e at f
 
-  pub request-planned : {t : Request} {q : Plan} → RequestIs p s d start len r t → t ≡ Known q
-      → RequestIs p s d start len r (Known q)
+  pub request-planned : {q : Plan} {t : Request} → RequestIs p s d start len r q t → t ≡ Known
+      → RequestIs p s d start len r q Known
   request-planned f e = rw e at f
 
-  pub request-ready : {q : Plan} → RequestIs p s d start len r (Known q) → Ready s
+  pub request-ready : {q : Plan} → RequestIs p s d start len r q Known → Ready s
       (aimOf (q .domain) (q .paint)) (Change q) p
   request-ready {q} (g, a, t, y) = subst (λ (z : Aim). Ready s z (Change q) p) (y .meant .aim) y
 
-  pub request-answers : {q : Plan} {n : ℕ} {a : Answer} {y : List ℕ} → RequestIs p s d start len r (Known q)
+  pub request-answers : {q : Plan} {n : ℕ} {a : Answer} {y : List ℕ} → RequestIs p s d start len r q Known
       → Ends p s (aimOf (q .domain) (q .paint)) n a y
       → Changes p s d start len r n a y
   request-answers (g, a, t, y) e = in-order g a (region-answers t (rw (← y .meant .aim) at e))

@@ -11,17 +11,18 @@ use Rattle.change.specs.declared.Answer.the-variants.{Refused as No}
 use Rattle.change.specs.declared.Request.{Request}
 use Rattle.change.specs.declared.Request.the-variants.{Refused, Planned}
 use Rattle.change.specs.declared.Work.the-variants.{Change}
+use Rattle.plan.specs.declared.Plan.{Plan}
 use Rattle.plan.specs.Aims.{Aim, changeAim}
 use Rattle.change.specs.Answers.{Asked, ChangesRegion, Changes}
 use Rattle.change.specs.Runs.{Ready}
 
 -- From refusal 6 on.
-abbrev pub RegionIs : List ℕ → Shape → Aim → Request → Type 0
-RegionIs p s A (Refused k) = (n : ℕ) → ChangesRegion p s A n (No k) p
-RegionIs p s A (Planned q) = Settled (formOf s) (words p) × Ready s A (Change q) p
+abbrev pub RegionIs : List ℕ → Shape → Aim → Plan → Request → Type 0
+RegionIs p s A q (Refused k) = (n : ℕ) → ChangesRegion p s A n (No k) p
+RegionIs p s A q Planned = Settled (formOf s) (words p) × Ready s A (Change q) p
 
 -- From refusal 1 on.
-abbrev pub RequestIs : List ℕ → Shape → ℕ → ℕ → ℕ → ℕ → Request → Type 0
-RequestIs p s d start len r (Refused k) = (n : ℕ) → Changes p s d start len r n (No k) p
-RequestIs p s d start len r (Planned q) = (g : Region) × Asked p s d start len r g × Settled (formOf s) (words p)
+abbrev pub RequestIs : List ℕ → Shape → ℕ → ℕ → ℕ → ℕ → Plan → Request → Type 0
+RequestIs p s d start len r q (Refused k) = (n : ℕ) → Changes p s d start len r n (No k) p
+RequestIs p s d start len r q Planned = (g : Region) × Asked p s d start len r g × Settled (formOf s) (words p)
     × Ready s (changeAim d g r) (Change q) p

@@ -3,7 +3,7 @@
 use Prim.Native.Nat.{ℕ, _+_, _*_, _≤_, _<_}
 use mathlib.Core.Path.{_≡_}
 use mathlib.Core.Logic.{_≢_}
-use mathlib.Core.Bool.{Bool}
+use mathlib.Core.Bool.{Bool, true, false}
 use mathlib.Core.List.{List}
 use lib.ListN.{length, getD}
 use Rattle.theory.specs.Pool.{words, SoundPool}
@@ -12,7 +12,7 @@ use Rattle.table.specs.declared.Shape.{Shape}
 use Rattle.table.specs.Shape.{Fits, firstMiddle}
 use Rattle.table.specs.Map.{formOf}
 use Rattle.census.specs.Places.{maxPlaces}
-use Rattle.plan.specs.Plan.{PlanFits}
+use Rattle.plan.specs.Plan.{PlanFits, planIn}
 use Rattle.plan.specs.Aims.{Aim, noAim, Goal}
 use Rattle.plan.specs.Goals.{Planned}
 use Rattle.change.specs.declared.Answer.{Answer}
@@ -38,6 +38,11 @@ pub record At (s : Shape) (A : Aim) (old : List ℕ) (Q : ℕ → ℕ) (kept : �
   pub done : ℕ
   pub sum : left + done ≡ n
   pub cut : CutAt s A old done x
+
+-- The work that is made: a tidying, or the change whose plan the words say.
+abbrev pub workIn : Bool → List ℕ → Work
+workIn true l = Tidying
+workIn false l = Change (planIn l)
 
 -- The work is that of the aim and the goal: a change by its plan, and a tidying aims at nothing.
 abbrev pub Meant : Shape → Aim → Work → List ℕ → (ℕ → ℕ) → (ℕ → Bool) → Type 0

@@ -2,7 +2,7 @@
 ghost use Prim.Native.Nat.{_+_, _<_, _≤_};
 ghost use lib.ListN.{length};
 ghost use Rattle.places.specs.Count.{heights, blocks};
-ghost use Rattle.plan.specs.Plan.{PlanFits};
+ghost use Rattle.plan.specs.Plan.{PlanFits, planIn};
 ghost use Rattle.change.specs.Runs.{Looks, NextIs, NextIn};
 ghost use Rattle.change.specs.Ahead.{Ahead, Outside, EntriesIdle, TableIdle, NotNew, HighIdle, LowIdle, NewIdle};
 ghost use Rattle.change.specs.Ahead.{Idle, EntriesBefore, NextRow, PlainWords};
@@ -12,7 +12,7 @@ use crate::Work;
 use crate::final_word;
 use crate::phase_of;
 use plan::Edge;
-use plan::Plan;
+use plan::PLAN_WORDS;
 use table::ROOT;
 use table::Shape;
 use table::TABLE_WORDS;
@@ -62,18 +62,18 @@ fn entries_before(size: u32, begin: u32, n: u32) -> u32
 
 // Of a table that stays, whose first entry has the number `begin` in the domain, the entries that the region meets.
 fn near_entries(
-    plan: Plan,
+    plan: &[u32; PLAN_WORDS],
     height: u32,
     begin: u32,
     table: PoolWord,
     k: PoolWord,
     best: Span,
 ) -> Span
-    requires { ⌜ PlanFits plan × (k .0 ≤ best .from .0) ⌝ }
+    requires { ⌜ PlanFits (planIn (now plan)) × (k .0 ≤ best .from .0) ⌝ }
     requires { ⌜ (height ≤ 2) × (table .0 < 2147483648) ⌝ }
-    ensures { λ r. ⌜ Ahead (k .0) best (EntriesIdle plan height begin (table .0)) r ⌝ }
+    ensures { λ r. ⌜ Ahead (k .0) best (EntriesIdle (planIn (now (plan .entry))) height begin (table .0)) r ⌝ }
 {
-    let paint = plan.paint;
+    let paint = plan::paint_in(plan);
     let lo = paint.lo;
     let hi = paint.hi;
     let size = table::size_of(height);
@@ -88,10 +88,10 @@ fn near_entries(
 }
 
 // Of the table of an edge, if it stays.
-fn near_table(plan: Plan, height: u32, edge: Edge, k: PoolWord, best: Span) -> Span
-    requires { ⌜ PlanFits plan × (k .0 ≤ best .from .0) ⌝ }
+fn near_table(plan: &[u32; PLAN_WORDS], height: u32, edge: Edge, k: PoolWord, best: Span) -> Span
+    requires { ⌜ PlanFits (planIn (now plan)) × (k .0 ≤ best .from .0) ⌝ }
     requires { ⌜ (height < heights) × (edge .number < blocks height) ⌝ }
-    ensures { λ r. ⌜ Ahead (k .0) best (TableIdle plan height edge) r ⌝ }
+    ensures { λ r. ⌜ Ahead (k .0) best (TableIdle (planIn (now (plan .entry))) height edge) r ⌝ }
 {
     let number = edge.number;
     let last = edge.last;
@@ -128,34 +128,34 @@ fn near_new(height: u32, edge: Edge, k: PoolWord, best: Span) -> Span
 }
 
 // The first row from `k` on, and before `best`, of the root and the middle tables that stay.
-fn next_high(plan: Plan, k: PoolWord, best: Span) -> Span
-    requires { ⌜ PlanFits plan × (k .0 ≤ best .from .0) ⌝ }
-    ensures { λ r. ⌜ Ahead (k .0) best (HighIdle plan) r ⌝ }
+fn next_high(plan: &[u32; PLAN_WORDS], k: PoolWord, best: Span) -> Span
+    requires { ⌜ PlanFits (planIn (now plan)) × (k .0 ≤ best .from .0) ⌝ }
+    ensures { λ r. ⌜ Ahead (k .0) best (HighIdle (planIn (now (plan .entry)))) r ⌝ }
 {
-    let blocks = plan.blocks;
-    let root = words::pool_word(TABLE_WORDS * plan.domain);
+    let blocks = plan::ends_in(plan, 1);
+    let root = words::pool_word(TABLE_WORDS * plan::domain_in(plan));
     let one = near_entries(plan, ROOT, 0, root, k, best);
     let two = near_table(plan, 1, blocks.first, k, one);
     near_table(plan, 1, blocks.last, k, two)
 }
 
 // The same of the leaves that stay.
-fn next_low(plan: Plan, k: PoolWord, best: Span) -> Span
-    requires { ⌜ PlanFits plan × (k .0 ≤ best .from .0) ⌝ }
-    ensures { λ r. ⌜ Ahead (k .0) best (LowIdle plan) r ⌝ }
+fn next_low(plan: &[u32; PLAN_WORDS], k: PoolWord, best: Span) -> Span
+    requires { ⌜ PlanFits (planIn (now plan)) × (k .0 ≤ best .from .0) ⌝ }
+    ensures { λ r. ⌜ Ahead (k .0) best (LowIdle (planIn (now (plan .entry)))) r ⌝ }
 {
-    let pages = plan.pages;
+    let pages = plan::ends_in(plan, 0);
     let one = near_table(plan, 0, pages.first, k, best);
     near_table(plan, 0, pages.last, k, one)
 }
 
 // The same of the new tables.
-fn next_new(plan: Plan, k: PoolWord, best: Span) -> Span
+fn next_new(plan: &[u32; PLAN_WORDS], k: PoolWord, best: Span) -> Span
     requires { ⌜ k .0 ≤ best .from .0 ⌝ }
-    ensures { λ r. ⌜ Ahead (k .0) best (NewIdle plan) r ⌝ }
+    ensures { λ r. ⌜ Ahead (k .0) best (NewIdle (planIn (now (plan .entry)))) r ⌝ }
 {
-    let blocks = plan.blocks;
-    let pages = plan.pages;
+    let blocks = plan::ends_in(plan, 1);
+    let pages = plan::ends_in(plan, 0);
     let one = near_new(1, blocks.first, k, best);
     let two = near_new(1, blocks.last, k, one);
     let three = near_new(0, pages.first, k, two);
@@ -164,9 +164,9 @@ fn next_new(plan: Plan, k: PoolWord, best: Span) -> Span
 
 // By the phase: in the first only words that lead are given up, and no word of a leaf leads; new tables are filled in
 // the second.
-fn next_in(plan: Plan, c: u32, k: PoolWord, none: Span) -> Span
-    requires { ⌜ PlanFits plan × (k .0 ≤ none .from .0) ⌝ }
-    ensures { λ r. ⌜ Ahead (k .0) none (Idle plan c) r ⌝ }
+fn next_in(plan: &[u32; PLAN_WORDS], c: u32, k: PoolWord, none: Span) -> Span
+    requires { ⌜ PlanFits (planIn (now plan)) × (k .0 ≤ none .from .0) ⌝ }
+    ensures { λ r. ⌜ Ahead (k .0) none (Idle (planIn (now (plan .entry))) c) r ⌝ }
 {
     if c == 2 {
         return next_new(plan, k, none);
@@ -179,9 +179,9 @@ fn next_in(plan: Plan, c: u32, k: PoolWord, none: Span) -> Span
 }
 
 // The row after the cursor's that has something to do; past the last word, which `end` follows, the next phase begins.
-fn next_row(plan: Plan, at: Cursor, end: PoolWord) -> Cursor
-    requires { ⌜ PlanFits plan × (at .past .0 ≤ end .0) × (end .0 < 4294967296) × (at .phase < 4) ⌝ }
-    ensures { λ r. ⌜ NextRow plan at (end .0) r ⌝ }
+fn next_row(plan: &[u32; PLAN_WORDS], at: Cursor, end: PoolWord) -> Cursor
+    requires { ⌜ PlanFits (planIn (now plan)) × (at .past .0 ≤ end .0) × (end .0 < 4294967296) × (at .phase < 4) ⌝ }
+    ensures { λ r. ⌜ NextRow (planIn (now (plan .entry))) at (end .0) r ⌝ }
 {
     let phase = at.phase;
     let k = at.past;
@@ -217,22 +217,23 @@ fn next_row(plan: Plan, at: Cursor, end: PoolWord) -> Cursor
 }
 
 // The store at the cursor's word, if the word changes in this phase.
-fn next_here(pool: &[u32], shape: Shape, plan: Plan, at: Cursor) -> Next
-    requires { ⌜ Looks shape (Work.Change plan) at (now pool) × (at .word .0 < at .past .0) ⌝ }
-    ensures { λ r. ⌜ NextIn shape (Work.Change plan) (now (pool .entry)) (at .phase) (at .word .0) (at .word .0 + 1)
-        r ⌝ }
+fn next_here(pool: &[u32], shape: Shape, plan: &[u32; PLAN_WORDS], at: Cursor) -> Next
+    requires { ⌜ Looks shape (Work.Change (planIn (now plan))) at (now pool) × (at .word .0 < at .past .0) ⌝ }
+    ensures { λ r. ⌜ NextIn shape (Work.Change (planIn (now (plan .entry)))) (now (pool .entry)) (at .phase)
+        (at .word .0) (at .word .0 + 1) r ⌝ }
 {
     let phase = at.phase;
     let k = at.word;
     let past = at.past;
     let i = words::pool_index(k);
     let x = pool[i];
-    let turn = phase_of(shape, plan, k, x);
-    if turn != phase {
-        return Next::None;
-    }
+    // The phase is asked last: it looks for new tables at all four edges, and most words stay as they are.
     let value = final_word(plan, k, x);
     if value == x {
+        return Next::None;
+    }
+    let turn = phase_of(shape, plan, k, x);
+    if turn != phase {
         return Next::None;
     }
     let word = words::word_after(k, 1);
@@ -252,9 +253,10 @@ fn plain_words(pool: &[u32], phase: u32, from: PoolWord, count: usize) -> usize
 }
 
 // The next store in the cursor's row.
-fn next_in_row(pool: &[u32], shape: Shape, plan: Plan, at: Cursor) -> Next
-    requires { ⌜ Looks shape (Work.Change plan) at (now pool) ⌝ }
-    ensures { λ r. ⌜ NextIn shape (Work.Change plan) (now (pool .entry)) (at .phase) (at .word .0) (at .past .0) r ⌝ }
+fn next_in_row(pool: &[u32], shape: Shape, plan: &[u32; PLAN_WORDS], at: Cursor) -> Next
+    requires { ⌜ Looks shape (Work.Change (planIn (now plan))) at (now pool) ⌝ }
+    ensures { λ r. ⌜ NextIn shape (Work.Change (planIn (now (plan .entry)))) (now (pool .entry)) (at .phase)
+        (at .word .0) (at .past .0) r ⌝ }
 {
     let phase = at.phase;
     let past = at.past;
@@ -275,9 +277,10 @@ fn next_in_row(pool: &[u32], shape: Shape, plan: Plan, at: Cursor) -> Next
 }
 
 // The next store of a change: row by row, and phase by phase.
-pub fn next_change(pool: &[u32], shape: Shape, plan: Plan, from: Cursor) -> Next
-    requires { ⌜ Looks shape (Work.Change plan) from (now pool) ⌝ }
-    ensures { λ r. ⌜ NextIs shape (Work.Change plan) (now (pool .entry)) (from .phase) (from .word .0) r ⌝ }
+pub fn next_change(pool: &[u32], shape: Shape, plan: &[u32; PLAN_WORDS], from: Cursor) -> Next
+    requires { ⌜ Looks shape (Work.Change (planIn (now plan))) from (now pool) ⌝ }
+    ensures { λ r. ⌜ NextIs shape (Work.Change (planIn (now (plan .entry)))) (now (pool .entry)) (from .phase)
+        (from .word .0) r ⌝ }
 {
     let end = words::pool_word(pool.len() as u32);
     let mut at = from;

@@ -1,23 +1,24 @@
-// Changes and tidyings: a plan by value, stores that each leave a safe pool, and a cut wherever the allowance ends.
+// Changes and tidyings: a plan in lent words, stores that each leave a safe pool, a cut wherever the allowance ends.
 ghost use mathlib.Core.Path.{_≡_};
 ghost use Prim.Native.Nat.{ℕ, _+_, _-_, _<_, _≤_};
 ghost use mathlib.Core.List.{List};
 ghost use mathlib.Core.Bool.{true};
 ghost use lib.ListN.{length, set};
 ghost use Rattle.table.specs.Shape.{Fits, InRange};
+ghost use Rattle.census.specs.Places.{maxPlaces};
 ghost use Rattle.places.specs.Count.{heights, blocks};
 ghost use Rattle.targets.specs.Targets.{entryBlocks};
 ghost use Rattle.plan.specs.Plan.{InTable, ofTable, ofNew, entryAfter, entryBefore, tableAfter, after, newAt, newWord};
-ghost use Rattle.plan.specs.Plan.{phaseOf, PlanFits};
+ghost use Rattle.plan.specs.Plan.{phaseOf, PlanFits, planIn};
 ghost use Rattle.plan.specs.Planning.{Regular};
 ghost use Rattle.plan.specs.Aims.{aimOf};
 ghost use Rattle.change.specs.Answers.{Changes};
 ghost use Rattle.change.specs.Cuts.{CutAt, Due};
 ghost use Rattle.change.specs.Requests.{RegionIs, RequestIs};
-ghost use Rattle.change.specs.Runs.{Looks, NextIs, Ready, Told, Ends};
+ghost use Rattle.change.specs.Runs.{Looks, NextIs, Ready, Told, Ends, workIn};
 use plan::Edge;
+use plan::PLAN_WORDS;
 use plan::Plan;
-use plan::Planning;
 use table::ROOT;
 use table::Shape;
 use table::TABLE_WORDS;
@@ -38,7 +39,8 @@ pub enum Answer {
     Refused(u32),
 }
 
-// What is to be made: a change, by its plan; or a tidying, which is the change of the empty region.
+// What is to be made, for the contracts, since the code is told a bool and lent the plan's words: a change, by its
+// plan; or a tidying, which is the change of the empty region.
 pub enum Work {
     Change(Plan),
     Tidying,
@@ -64,10 +66,10 @@ pub enum Next {
     None,
 }
 
-// A request that is refused with the paper's number, or planned.
+// A request that is refused with the paper's number, or planned: its plan is then in the words that were lent for it.
 pub enum Request {
     Refused(u32),
-    Planned(Plan),
+    Planned,
 }
 
 // Whether word `k` is one of the `n` words from `t` on.
@@ -118,16 +120,16 @@ fn entry_before(height: u32, old: u32, n: u32, x: u32) -> u32
 
 // What the entry of a height is to hold that has the number `n` in the domain, where the word holds `x` and the entry
 // above it was `old`.
-fn entry_after(plan: Plan, height: u32, old: u32, n: u32, x: u32) -> u32
-    requires { ⌜ (plan .paint .right < 4) × (n < entryBlocks height) ⌝ }
-    ensures { λ r. ⌜ r ≡ entryAfter plan height n (entryBefore height old n x) ⌝ }
+fn entry_after(plan: &[u32; PLAN_WORDS], height: u32, old: u32, n: u32, x: u32) -> u32
+    requires { ⌜ (planIn (now plan) .paint .right < 4) × (n < entryBlocks height) ⌝ }
+    ensures { λ r. ⌜ r ≡ entryAfter (planIn (now (plan .entry))) height n (entryBefore height old n x) ⌝ }
 {
-    let paint = plan.paint;
+    let paint = plan::paint_in(plan);
     if height == 0 {
         let was = entry_before(height, old, n, x);
         return targets::paint_word(paint, was, n);
     }
-    let ends = plan::ends_of(plan, height - 1);
+    let ends = plan::ends_in(plan, height - 1);
     let first = ends.first;
     let last = ends.last;
     let f = first.number;
@@ -148,10 +150,10 @@ fn entry_after(plan: Plan, height: u32, old: u32, n: u32, x: u32) -> u32
 }
 
 // What word `k` of the table of an edge is to hold.
-fn table_after(plan: Plan, height: u32, edge: Edge, k: PoolWord, x: u32) -> u32
-    requires { ⌜ (plan .paint .right < 4) × (height < heights) ⌝ }
+fn table_after(plan: &[u32; PLAN_WORDS], height: u32, edge: Edge, k: PoolWord, x: u32) -> u32
+    requires { ⌜ (planIn (now plan) .paint .right < 4) × (height < heights) ⌝ }
     requires { ⌜ (edge .number < blocks height) × (ofTable height edge (k .0) ≡ true) ⌝ }
-    ensures { λ r. ⌜ r ≡ tableAfter plan height edge (k .0 - edge .last) x ⌝ }
+    ensures { λ r. ⌜ r ≡ tableAfter (planIn (now (plan .entry))) height edge (k .0 - edge .last) x ⌝ }
 {
     let number = edge.number;
     let old = edge.old;
@@ -163,16 +165,16 @@ fn table_after(plan: Plan, height: u32, edge: Edge, k: PoolWord, x: u32) -> u32
 }
 
 // What word `k`, which holds `x`, is to hold. A word that the plan does not know stays as it is.
-fn final_word(plan: Plan, k: PoolWord, x: u32) -> u32
-    requires { ⌜ PlanFits plan ⌝ }
-    ensures { λ r. ⌜ r ≡ after plan (k .0) x ⌝ }
+fn final_word(plan: &[u32; PLAN_WORDS], k: PoolWord, x: u32) -> u32
+    requires { ⌜ PlanFits (planIn (now plan)) ⌝ }
+    ensures { λ r. ⌜ r ≡ after (planIn (now (plan .entry))) (k .0) x ⌝ }
 {
-    let root = words::pool_word(TABLE_WORDS * plan.domain);
+    let root = words::pool_word(TABLE_WORDS * plan::domain_in(plan));
     if in_table(root, TABLE_WORDS as usize, k) {
         // What stands above a root always leads to it.
         return entry_after(plan, ROOT, 0, entry_number(root, k), x);
     }
-    let blocks = plan.blocks;
+    let blocks = plan::ends_in(plan, 1);
     let block = blocks.first;
     if of_table(1, block, k) {
         return table_after(plan, 1, block, k, x);
@@ -181,7 +183,7 @@ fn final_word(plan: Plan, k: PoolWord, x: u32) -> u32
     if of_table(1, block2, k) {
         return table_after(plan, 1, block2, k, x);
     }
-    let pages = plan.pages;
+    let pages = plan::ends_in(plan, 0);
     let page = pages.first;
     if of_table(0, page, k) {
         return table_after(plan, 0, page, k, x);
@@ -211,10 +213,10 @@ fn of_new_table(height: u32, edge: Edge, k: PoolWord) -> bool
 }
 
 // Whether word `k` is of a new table of a height.
-fn new_at(plan: Plan, height: u32, k: PoolWord) -> bool
-    ensures { λ r. ⌜ r ≡ newAt plan height (k .0) ⌝ }
+fn new_at(plan: &[u32; PLAN_WORDS], height: u32, k: PoolWord) -> bool
+    ensures { λ r. ⌜ r ≡ newAt (planIn (now (plan .entry))) height (k .0) ⌝ }
 {
-    let ends = plan::ends_of(plan, height);
+    let ends = plan::ends_in(plan, height);
     let first = ends.first;
     let last = ends.last;
     if of_new_table(height, first, k) {
@@ -223,8 +225,8 @@ fn new_at(plan: Plan, height: u32, k: PoolWord) -> bool
     of_new_table(height, last, k)
 }
 
-fn new_word(plan: Plan, k: PoolWord) -> bool
-    ensures { λ r. ⌜ r ≡ newWord plan (k .0) ⌝ }
+fn new_word(plan: &[u32; PLAN_WORDS], k: PoolWord) -> bool
+    ensures { λ r. ⌜ r ≡ newWord (planIn (now (plan .entry))) (k .0) ⌝ }
 {
     if new_at(plan, 1, k) {
         return true;
@@ -234,12 +236,16 @@ fn new_word(plan: Plan, k: PoolWord) -> bool
 
 // The phase in which word `k`, which holds `x`, is stored: words that lead are given up first, then new tables are
 // filled, then the rest is linked.
-fn phase_of(shape: Shape, plan: Plan, k: PoolWord, x: u32) -> u32
+fn phase_of(shape: Shape, plan: &[u32; PLAN_WORDS], k: PoolWord, x: u32) -> u32
     requires { ⌜ InRange shape ⌝ }
-    ensures { λ r. ⌜ r ≡ phaseOf shape plan (k .0) x ⌝ }
+    ensures { λ r. ⌜ r ≡ phaseOf shape (planIn (now (plan .entry))) (k .0) x ⌝ }
 {
     if new_word(plan, k) {
         return 2;
+    }
+    // Most words do not lead, and then it does not matter where the leaves begin.
+    if x >= words::BIT_31 {
+        return 3;
     }
     let leaves = table::first_place(shape, 0);
     let from = words::pool_index(leaves);
@@ -247,10 +253,7 @@ fn phase_of(shape: Shape, plan: Plan, k: PoolWord, x: u32) -> u32
     if i >= from {
         return 3;
     }
-    if x < words::BIT_31 {
-        return 1;
-    }
-    3
+    1
 }
 
 // The one store. All stores of a change and of a tidying are made here, and none but one that is due: the pool is
@@ -266,15 +269,23 @@ fn put(pool: &mut [u32], shape: Shape, domain: u32, paint: Paint, at: PoolWord, 
 }
 
 // Which store the work makes next, from the cursor on. A tidying goes by the owners of the places as they were.
-fn next_store(pool: &[u32], shape: Shape, owners: &[u32], work: Work, from: Cursor) -> Next
-    requires { ⌜ Looks shape work from (now pool) ⌝ }
-    requires { ⌜ Told shape work (now owners) (now pool) ⌝ }
-    ensures { λ r. ⌜ NextIs shape work (now (pool .entry)) (from .phase) (from .word .0) r ⌝ }
+fn next_store(
+    tidies: bool,
+    pool: &[u32],
+    shape: Shape,
+    owners: &[u32],
+    plan: &[u32; PLAN_WORDS],
+    from: Cursor,
+) -> Next
+    requires { ⌜ Looks shape (workIn tidies (now plan)) from (now pool) ⌝ }
+    requires { ⌜ Told shape (workIn tidies (now plan)) (now owners) (now pool) ⌝ }
+    ensures { λ r. ⌜ NextIs shape (workIn tidies (now (plan .entry))) (now (pool .entry)) (from .phase) (from .word .0)
+        r ⌝ }
 {
-    match work {
-        Work::Change(plan) => ahead::next_change(pool, shape, plan, from),
-        Work::Tidying => tidying::next_tidying(pool, shape, owners, from),
+    if tidies {
+        return tidying::next_tidying(pool, shape, owners, from);
     }
+    ahead::next_change(pool, shape, plan, from)
 }
 
 // The one loop: it asks which store comes next, and makes it, until there is none or none is left. Besides `put`, and
@@ -284,19 +295,23 @@ fn make_stores(
     pool: &mut [u32],
     shape: Shape,
     owners: &[u32],
-    domain: u32,
-    paint: Paint,
-    work: Work,
+    plan: &[u32; PLAN_WORDS],
+    tidies: bool,
     allowance: u32,
 ) -> Answer
-    requires { ⌜ Ready shape (aimOf domain paint) work (now pool) ⌝ }
-    requires { ⌜ Told shape work (now owners) (now pool) ⌝ }
-    ensures { λ r. ⌜ Ends (now (pool .entry)) shape (aimOf domain paint) allowance r (now (pool .exit)) ⌝ }
+    requires { ⌜ Ready shape (aimOf (planIn (now plan) .domain) (planIn (now plan) .paint)) (workIn tidies (now plan))
+        (now pool) ⌝ }
+    requires { ⌜ Told shape (workIn tidies (now plan)) (now owners) (now pool) ⌝ }
+    ensures { λ r. ⌜ Ends (now (pool .entry)) shape
+        (aimOf (planIn (now (plan .entry)) .domain) (planIn (now (plan .entry)) .paint)) allowance r
+        (now (pool .exit)) ⌝ }
 {
+    let domain = plan::domain_in(plan);
+    let paint = plan::paint_in(plan);
     let mut left = allowance;
     let mut from = START;
     loop {
-        let next = next_store(pool, shape, owners, work, from);
+        let next = next_store(tidies, pool, shape, owners, plan, from);
         let Next::Store(at, value, on) = next else {
             let made = allowance - left;
             return Answer::Done(made);
@@ -311,37 +326,48 @@ fn make_stores(
 }
 
 // A request that is in order up to refusal 5. All is decided before the first store.
-fn plan_region(pool: &[u32], shape: Shape, domain: u32, paint: Paint) -> Request
+fn plan_region(
+    pool: &[u32],
+    shape: Shape,
+    owners: &mut [u32],
+    domain: u32,
+    paint: Paint,
+    plan: &mut [u32; PLAN_WORDS],
+) -> Request
     requires { ⌜ Fits shape (length (now pool)) ⌝ }
+    requires { ⌜ length (now owners) ≡ maxPlaces ⌝ }
     requires { ⌜ (domain < shape .domains) × Regular paint ⌝ }
-    ensures { λ r. ⌜ RegionIs (now (pool .entry)) shape (aimOf domain paint) r ⌝ }
+    ensures { λ r. ⌜ RegionIs (now (pool .entry)) shape (aimOf domain paint) (planIn (now (plan .exit))) r ⌝ }
 {
-    let mut owners = [0u32; census::PLACES];
-    let sound = census::census(pool, shape, &mut owners);
+    let sound = census::census(pool, shape, owners);
     if !sound {
         return Request::Refused(6);
     }
-    let settled = targets::settled(pool, shape, &owners);
+    let settled = targets::settled(pool, shape, owners);
     if !settled {
         return Request::Refused(7);
     }
-    let planning = plan::plan_change(pool, shape, &owners, domain, paint);
-    let Planning::Ready(plan) = planning else {
+    let ready = plan::plan_change(pool, shape, owners, domain, paint, plan);
+    if !ready {
         return Request::Refused(8);
-    };
-    Request::Planned(plan)
+    }
+    Request::Planned
 }
 
 // What is refused is refused here, in the paper's order.
 fn plan_request(
     pool: &[u32],
     shape: Shape,
+    owners: &mut [u32],
     domain: u32,
     start: ByteAddr,
     length: u32,
     right: u32,
+    plan: &mut [u32; PLAN_WORDS],
 ) -> Request
-    ensures { λ r. ⌜ RequestIs (now (pool .entry)) shape domain (start .0) length right r ⌝ }
+    requires { do ⌜ (← ⟦owners.len()⟧) ≡ maxPlaces ⌝ }
+    ensures { λ r. ⌜ RequestIs (now (pool .entry)) shape domain (start .0) length right (planIn (now (plan .exit)))
+        r ⌝ }
 {
     let n = pool.len();
     if !table::shape_fits(shape, n) {
@@ -363,7 +389,7 @@ fn plan_request(
                 hi: g.hi,
                 right,
             };
-            plan_region(pool, shape, domain, paint)
+            plan_region(pool, shape, owners, domain, paint, plan)
         }
     }
 }
@@ -382,16 +408,20 @@ pub fn change(
 ) -> Answer
     ensures { λ r. ⌜ Changes (now (pool .entry)) shape domain (start .0) length right allowance r (now (pool .exit)) ⌝ }
 {
-    let request = plan_request(pool, shape, domain, start, length, right);
+    let mut owners = [0u32; census::PLACES];
+    let mut plan = [0u32; PLAN_WORDS];
+    let request = plan_request(
+        pool,
+        shape,
+        &mut owners,
+        domain,
+        start,
+        length,
+        right,
+        &mut plan,
+    );
     match request {
         Request::Refused(k) => Answer::Refused(k),
-        Request::Planned(plan) => {
-            let paint = plan.paint;
-            let to = plan.domain;
-            let work = Work::Change(plan);
-            // The plan knows its tables.
-            let owners = [0u32; 0];
-            make_stores(pool, shape, &owners, to, paint, work, allowance)
-        }
+        Request::Planned => make_stores(pool, shape, &owners, &plan, false, allowance),
     }
 }

@@ -13,6 +13,7 @@ use crate::Cursor;
 use crate::Next;
 use crate::Work;
 use crate::make_stores;
+use plan::PLAN_WORDS;
 use table::Shape;
 use table::TABLE_WORDS;
 use targets::Target;
@@ -141,5 +142,7 @@ pub fn tidy(pool: &mut [u32], shape: Shape, allowance: u32) -> Answer
     if settled {
         return Answer::Done(0);
     }
-    make_stores(pool, shape, &owners, 0, UNPAINTED, Work::Tidying, allowance)
+    // A tidying has no plan. These words say the empty region, which is what it aims at.
+    let plan = [0u32; PLAN_WORDS];
+    make_stores(pool, shape, &owners, &plan, true, allowance)
 }

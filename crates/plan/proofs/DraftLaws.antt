@@ -21,18 +21,15 @@ use Rattle.places.specs.Count.{blocks, domainOf, addressOf, want}
 use Rattle.places.proofs.NumberLaws.{in-domain, in-number}
 use Rattle.places.proofs.ChangedLaws.{changed-rights}
 use Rattle.targets.specs.declared.Paint.{Paint}
-use Rattle.targets.specs.declared.Target.{Target}
 use Rattle.targets.specs.declared.Target.the-variants.{Says, Mixed}
 use Rattle.targets.specs.Paints.{region}
-use Rattle.targets.specs.Targets.{painted, targetOf, virtualOf, entryBlocks, Gives, Readable}
+use Rattle.targets.specs.Targets.{painted, virtualOf, entryBlocks, Gives, Readable}
 use Rattle.targets.proofs.TargetLaws.{wanted-mixed, unwanted-said}
 use Rattle.targets.proofs.PoolLaws.{root-gives, middle-gives, virtual-gives, virtual-readable, root-readable}
-use Rattle.plan.specs.declared.Edge.{Edge}
-use Rattle.plan.specs.declared.Ends.{Ends}
 use Rattle.plan.specs.Aims.{aimOf, aimedAt}
 use Rattle.plan.specs.Planning.{Regular, firstOf, lastOf}
-use Rattle.plan.specs.Edges.{entryAt, edgeFor, edgeAt, endsAt, ReadableRoot, RootGives, Told}
-use Rattle.plan.specs.Edges.{EndsTold}
+use Rattle.plan.specs.Edges.{entryAt, edgeFor, edgeAt, ReadableRoot, RootGives}
+use Rattle.plan.proofs.Giving.{endsAt, Told, EndsTold}
 use Rattle.plan.proofs.MeetLaws.{ends-below}
 
 -- The root words of a sound pool are readable, and give the domain's rights.
@@ -174,16 +171,6 @@ drafted-ends s d paint P g h hi =
       last-told = drafted s d paint P (g .right) h (lastOf h paint) hi y;
     }
 
--- An edge has its block's number.
-pub edge-number : (P : ℕ → ℕ) (d : ℕ) (paint : Paint) (R : ℕ → ℕ) (a : Edge) (h n : ℕ) → a ≡ edgeAt P d paint R h n
-    → a ≡ edgeAt P d paint R h (a .number)
-edge-number P d paint R a h n e = e ∙ ap (edgeAt P d paint R h)
-    (sym (ap (λ (x : Edge). x .number) e ∙ number (targetOf (painted paint R) (suc h) (n * block (suc h)))))
-  where
-    number : (t : Target) → edgeFor n (entryAt P h d n) t .number ≡ n
-    number (Says w) = refl
-    number Mixed = refl
-
 -- Memory words are counted in the code, bytes in the definitions.
 pub words-bytes : (paint : Paint) → Regular paint → (h : ℕ) → h < 2
     → (firstOf h paint ≡ paint .lo / (block (suc h) / 4)) × (lastOf h paint ≡ (paint .hi - 1) / (block (suc h) / 4))
@@ -196,9 +183,3 @@ words-bytes paint g (suc zero) hi =
     let y : (4 * paint .hi - 1) / 4194304 ≡ (paint .hi - 1) / 1048576 = omega arith in
     (x, y)
 words-bytes paint g (suc (suc h)) hi = absurd (omega arith)
-
--- Two edges make the draft of a height.
-pub draft-is : (P : ℕ → ℕ) (d : ℕ) (paint : Paint) (R : ℕ → ℕ) (h : ℕ) (a b : Edge)
-    → a ≡ edgeAt P d paint R h (firstOf h paint) → b ≡ edgeAt P d paint R h (lastOf h paint)
-    → _≡_ {A = Ends} (record { first = a; last = b }) (endsAt P d paint R h)
-draft-is P d paint R h a b p q = λ i. record { first = p i; last = q i }

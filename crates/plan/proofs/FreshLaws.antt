@@ -23,7 +23,8 @@ use Rattle.targets.specs.Paints.{region}
 use Rattle.plan.specs.Planning.{firstOf, lastOf, endOf}
 use Rattle.plan.specs.declared.Ends.{Ends}
 use Rattle.plan.specs.Aims.{aimOf, aimedAt}
-use Rattle.plan.specs.Edges.{staysOf, EndsTold}
+use Rattle.plan.specs.Edges.{staysOf}
+use Rattle.plan.proofs.Giving.{EndsTold}
 use Rattle.plan.proofs.AimLaws.{aims-covered}
 use Rattle.plan.proofs.MeetLaws.{between-covered, apart-uncovered}
 use Rattle.plan.proofs.WantedLaws.{plain-want, stays-want, only-edges-fresh}

@@ -2,13 +2,12 @@
 -- tables wanted are too many.
 use Prim.Native.Nat.{ℕ, zero, suc, _+_, _*_, _/_, _%_, _≤_, _<_}
 use mathlib.Core.Path.{_≡_, refl, sym, subst, ap, _∙_}
-use mathlib.Core.Logic.{_≢_, _⊎_, ⊎-elim}
-use mathlib.Core.Bool.{Bool, true, false, cond, _&&_, not, true≢false}
-use mathlib.Core.List.{List}
+use mathlib.Core.Logic.{_≢_, ⊎-elim}
+use mathlib.Core.Bool.{Bool, true, false, cond, _&&_, not, true≢false, false≢true}
 use native.Mathlib.Omega.{arith}
 use native.Mathlib.Decide.{ℕ-discrete}
 use native.Mathlib.Numerals.{add-one}
-use lib.ListN.{getD}
+use lib.Dec.{eqb}
 use borrow.Author.Tests.{eq-eqb, ne-eqb, lt-ltb}
 use Rattle.theory.proofs.Logic.{by-cases, and-both}
 use Rattle.table.specs.declared.Shape.{Shape}
@@ -26,13 +25,12 @@ use Rattle.targets.specs.declared.Paint.{Paint}
 use Rattle.targets.specs.Targets.{virtualOf}
 use Rattle.plan.specs.Planning.{firstOf, lastOf, endOf}
 use Rattle.plan.specs.declared.Edge.{Edge}
-use Rattle.plan.specs.declared.Taken.the-variants.{At, None}
 use Rattle.plan.specs.declared.Ends.{Ends}
-use Rattle.plan.specs.declared.Placing.the-variants.{Both, Full}
 use Rattle.plan.specs.Plan.{isNew}
 use Rattle.plan.specs.Aims.{aimOf, aimedAt}
-use Rattle.plan.specs.Edges.{entryAt, EdgeIs, Told, EndsPlaced, EndsAre, Takes, TakenIs}
-use Rattle.plan.specs.Edges.{GivesOut}
+use Rattle.plan.specs.Edges.{entryAt, EdgeIs, EndsPlaced, EndsAre, Takes, Taken, At, None, takenBy, found}
+use Rattle.plan.specs.Edges.{TakenIs}
+use Rattle.plan.proofs.Giving.{Told, GivesOut}
 use Rattle.plan.proofs.OldEntryLaws.{old-leads}
 use Rattle.plan.proofs.FreshLaws.{apart-not-fresh}
 use Rattle.plan.proofs.MeetLaws.{ends-below}
@@ -51,7 +49,7 @@ entry-word P zero d n hi b o =
 entry-word P (suc zero) d n hi b o = refl
 entry-word P (suc (suc h)) d n hi b o = absurd (omega arith)
 
-module _ {s : Shape} {d : ℕ} {paint : Paint} {P : ℕ → ℕ} {h : ℕ} {f : List Bool} {ends : Ends}
+module _ {s : Shape} {d : ℕ} {paint : Paint} {P : ℕ → ℕ} {h : ℕ} {f : ℕ → Bool} {ends : Ends}
     (G : GivesOut s d paint P h f ends) where
   abbrev first : Edge
   first = ends .first
@@ -127,7 +125,7 @@ module _ {s : Shape} {d : ℕ} {paint : Paint} {P : ℕ → ℕ} {h : ℕ} {f : 
           let (p, bp, x, y) = spot (rw (t .wanted ∙ w, o) refl) in
           y ∙ ap start (sym (owner-seek N M W O free at all p bp (rw x (low n b))) ∙ ap (λ i. seek owner i M) x)
 
-  module _ (free : ℕ → Bool) (is-free : (p : ℕ) → p < M → free p ≡ not (getD f p false)) where
+  module _ (free : ℕ → Bool) (is-free : (p : ℕ) → p < M → free p ≡ not (f p)) where
     abbrev State : ℕ → ℕ → (ℕ → ℕ) → Type 0
     State = Handing N M W O free at
 
@@ -198,11 +196,11 @@ module _ {s : Shape} {d : ℕ} {paint : Paint} {P : ℕ → ℕ} {h : ℕ} {f : 
           led = ap (leads (suc h)) points
               ∙ lt-ltb (placeAt s h (k .place)) 2147483648 (place-low s h (k .place) (G .range) (G .height) below)
 
-      past : (g : Edge) (x : ℕ) → TakenIs f c s h e (At g x) → Past n x g owner
+      past : (g : Edge) (x : ℕ) → TakenIs f c s h e g (At x) → Past n x g owner
       past g x k = ⊎-elim (λ y. rest g x (y .0) (y .1) (y .2)) (take g x) k
 
-      full : TakenIs f c s h e None → M < count W N
-      full (o, gap) = hand-full N M W O free at (nth n) c here (low n b) (sym (new-is b t) ∙ o)
+      full : (g : Edge) → TakenIs f c s h e g None → M < count W N
+      full g (o, gap) = hand-full N M W O free at (nth n) c here (low n b) (sym (new-is b t) ∙ o)
           (λ q lo up. is-free q up ∙ ap not (gap q lo up))
 
   -- Only the edges can be fresh.
@@ -221,24 +219,24 @@ module _ {s : Shape} {d : ℕ} {paint : Paint} {P : ℕ → ℕ} {h : ℕ} {f : 
 
   -- The first edge ..
   module _ (free : ℕ → Bool) (owner : ℕ → ℕ) (S : Handing N M W O free at 0 0 owner)
-      (is-free : (p : ℕ) → p < M → free p ≡ not (getD f p false)) where
+      (is-free : (p : ℕ) → p < M → free p ≡ not (f p)) where
     before-first : (j : ℕ) → 0 ≤ j → j < nth (firstOf h paint) → fresh W O j ≡ false
     before-first j lo up =
         let (x, y) = bounds in
         let z = low (firstOf h paint) first-in in
         plain j (omega arith) (λ u. absurd (omega arith)) (λ u. absurd (omega arith))
 
-    one-past : (g : Edge) (x : ℕ) → TakenIs f 0 s h first (At g x) → Past free is-free (firstOf h paint) x g
+    one-past : (g : Edge) (x : ℕ) → TakenIs f 0 s h first g (At x) → Past free is-free (firstOf h paint) x g
         owner
     one-past = past free is-free 0 0 owner S (firstOf h paint) first-in (omega arith) before-first first
         (G .told .first-told)
 
-    one-full : TakenIs f 0 s h first None → M < count W N
+    one-full : (g : Edge) → TakenIs f 0 s h first g None → M < count W N
     one-full = full free is-free 0 0 owner S (firstOf h paint) first-in (omega arith) before-first first
         (G .told .first-told)
 
     -- .. is the last one too,
-    both-one : (g : Edge) (x : ℕ) → first .number ≡ last .number → TakenIs f 0 s h first (At g x)
+    both-one : (g : Edge) (x : ℕ) → first .number ≡ last .number → TakenIs f 0 s h first g (At x)
         → EndsPlaced s d paint P h (record { first = g; last = g })
     both-one g x e k =
         let r = one-past g x k in
@@ -256,7 +254,7 @@ module _ {s : Shape} {d : ℕ} {paint : Paint} {P : ℕ → ℕ} {h : ℕ} {f : 
         }
 
     -- .. or the last edge comes after it.
-    module _ (apart : first .number ≢ last .number) (g : Edge) (x : ℕ) (k : TakenIs f 0 s h first (At g x))
+    module _ (apart : first .number ≢ last .number) (g : Edge) (x : ℕ) (k : TakenIs f 0 s h first g (At x))
       where
         r : Past free is-free (firstOf h paint) x g owner
         r = one-past g x k
@@ -271,11 +269,11 @@ module _ {s : Shape} {d : ℕ} {paint : Paint} {P : ℕ → ℕ} {h : ℕ} {f : 
         between j lo up = let z = low (lastOf h paint) (bounds .1) in plain j (omega arith) (λ u. absurd (omega arith))
             (λ u. absurd (omega arith))
 
-        two-full : TakenIs f x s h last None → M < count W N
+        two-full : (l : Edge) → TakenIs f x s h last l None → M < count W N
         two-full = full free is-free (suc (nth (firstOf h paint))) x (r .owner) (r .state) (lastOf h paint)
             (bounds .1) less between last (G .told .last-told)
 
-        both-two : (l : Edge) (y : ℕ) → TakenIs f x s h last (At l y)
+        both-two : (l : Edge) (y : ℕ) → TakenIs f x s h last l (At y)
             → EndsPlaced s d paint P h (record { first = g; last = l })
         both-two l y z =
             let t = past free is-free (suc (nth (firstOf h paint))) x (r .owner) (r .state) (lastOf h paint)
@@ -301,33 +299,53 @@ module _ {s : Shape} {d : ℕ} {paint : Paint} {P : ℕ → ℕ} {h : ℕ} {f : 
               };
             }
 
-  -- From the marks on.
-  pub given-none : TakenIs f 0 s h first None → EndsAre s d paint P h Full
-  given-none k =
+  -- From the kept places on.
+  pub given-none : (g : Edge) (ends : Ends) → TakenIs f 0 s h first g None → EndsAre s d paint P h false ends
+  given-none g r k =
       let (free, owner, S, is-free) = kept-free s d paint (G .settled) h (G .height) (G .kept) in
-      one-full free owner S is-free k
+      one-full free owner S is-free g k
 
-  pub given-one : (g : Edge) (x : ℕ) → first .number ≡ last .number → TakenIs f 0 s h first (At g x)
-      → EndsAre s d paint P h (Both (record { first = g; last = g }))
+  pub given-one : (g : Edge) (x : ℕ) → first .number ≡ last .number → TakenIs f 0 s h first g (At x)
+      → EndsAre s d paint P h true (record { first = g; last = g })
   given-one g x e k =
       let (free, owner, S, is-free) = kept-free s d paint (G .settled) h (G .height) (G .kept) in
       both-one free owner S is-free g x e k
 
-  pub given-second-none : (g : Edge) (x : ℕ) → first .number ≢ last .number → TakenIs f 0 s h first (At g x)
-      → TakenIs f x s h last None
-      → EndsAre s d paint P h Full
-  given-second-none g x e k l =
+  pub given-second-none : (g : Edge) (x : ℕ) (l : Edge) (ends : Ends) → first .number ≢ last .number
+      → TakenIs f 0 s h first g (At x)
+      → TakenIs f x s h last l None
+      → EndsAre s d paint P h false ends
+  given-second-none g x l r e k n =
       let (free, owner, S, is-free) = kept-free s d paint (G .settled) h (G .height) (G .kept) in
-      two-full free owner S is-free e g x k l
+      two-full free owner S is-free e g x k l n
 
-  pub given-two : (g : Edge) (x : ℕ) (l : Edge) (y : ℕ) → first .number ≢ last .number → TakenIs f 0 s h first
-      (At g x)
-      → TakenIs f x s h last (At l y) → EndsAre s d paint P h (Both (record { first = g; last = l }))
+  pub given-two : (g : Edge) (x : ℕ) (l : Edge) (y : ℕ) → first .number ≢ last .number
+      → TakenIs f 0 s h first g (At x)
+      → TakenIs f x s h last l (At y) → EndsAre s d paint P h true (record { first = g; last = l })
   given-two g x l y e k z =
       let (free, owner, S, is-free) = kept-free s d paint (G .settled) h (G .height) (G .kept) in
       both-two free owner S is-free e g x k l y z
 
 -- The next place is looked for below the last.
-pub taken-low : {f : List Bool} {c : ℕ} {s : Shape} {h : ℕ} {e g : Edge} {x : ℕ} → c ≤ places s h
-    → TakenIs f c s h e (At g x) → x ≤ places s h
+pub taken-low : {f : ℕ → Bool} {c : ℕ} {s : Shape} {h : ℕ} {e g : Edge} {x : ℕ} → c ≤ places s h
+    → TakenIs f c s h e g (At x) → x ≤ places s h
 taken-low le k = ⊎-elim (λ y. let z = y .2 in omega arith) (λ y. let z = y .next in let b = y .below in omega arith) k
+
+-- The number of a place says that one was found ..
+pub taken-at : (n : ℕ) → n < 4294967295 → takenBy n ≡ At n
+taken-at n l = ap (λ b. cond b None (At n)) (ne-eqb n 4294967295 (λ e. omega arith))
+
+-- .. and where one was found, the number says from where the next is looked for.
+pub found-at : (n : ℕ) → found (takenBy n) ≡ true → takenBy n ≡ At n
+found-at n = cases (eqb n 4294967295)
+  where
+    cases : (b : Bool) → found (cond b None (At n)) ≡ true → cond b None (At n) ≡ At n
+    cases true e = absurd (false≢true e)
+    cases false e = refl
+
+pub found-none : (n : ℕ) → found (takenBy n) ≡ false → takenBy n ≡ None
+found-none n = cases (eqb n 4294967295)
+  where
+    cases : (b : Bool) → found (cond b None (At n)) ≡ false → cond b None (At n) ≡ None
+    cases true e = refl
+    cases false e = absurd (true≢false e)

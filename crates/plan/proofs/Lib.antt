@@ -1,3 +1,4 @@
+pub mod Giving
 pub mod AimLaws
 pub mod BlockRightsLaws
 pub mod MeetLaws
@@ -7,6 +8,8 @@ pub mod FreshLaws
 pub mod KeptLaws
 pub mod DraftLaws
 pub mod GiveLaws
+pub mod LayoutLaws
+pub mod EndsLaws
 pub mod PlanLaws
 pub mod Setting
 pub mod SettingLaws

@@ -1,7 +1,7 @@
 -- There is one plan of a change: what `plan_change` promises leaves one outcome.
 use Prim.Native.Nat.{ℕ, suc, _+_, _*_, _<_}
-use mathlib.Core.Path.{_≡_, refl, sym, fun-ext, ap, _∙_}
-use mathlib.Core.Bool.{Bool, true, false}
+use mathlib.Core.Path.{_≡_, refl, sym, fun-ext, _∙_}
+use mathlib.Core.Bool.{Bool, true, false, true≢false}
 use native.Mathlib.Omega.{arith}
 use Rattle.theory.specs.Pool.{Led}
 use Rattle.theory.specs.Settled.{Settled}
@@ -26,8 +26,6 @@ use Rattle.places.proofs.Exists.{finished-fits}
 use Rattle.targets.specs.declared.Paint.{Paint}
 use Rattle.plan.specs.declared.Edge.{Edge}
 use Rattle.plan.specs.declared.Plan.{Plan}
-use Rattle.plan.specs.declared.Planning.{Planning}
-use Rattle.plan.specs.declared.Planning.the-variants.{Ready, NoRoom}
 use Rattle.plan.specs.Plan.{endsOf}
 use Rattle.plan.specs.Aims.{aimOf, aimedAt}
 use Rattle.plan.specs.Planning.{Regular, firstOf, lastOf}
@@ -130,8 +128,9 @@ module _ (s : Shape) (d : ℕ) (paint : Paint) (P : ℕ → ℕ) (range : InRang
         λ i. record { domain = domain i; paint = paints i; blocks = blocks i; pages = pages i }
 
   -- Ready, with one plan, exactly where there is room.
-  pub one-plan : (q r : Planning) → PlansChange s d paint P q → PlansChange s d paint P r → q ≡ r
-  one-plan (Ready q) (Ready r) x y = ap Ready (same-plan x y)
-  one-plan (Ready q) NoRoom x y = absurd (y (finished-fits s (whole-finished x)))
-  one-plan NoRoom (Ready r) x y = absurd (x (finished-fits s (whole-finished y)))
-  one-plan NoRoom NoRoom x y = refl
+  pub one-plan : (a b : Bool) {q r : Plan} → PlansChange s d paint P a q → PlansChange s d paint P b r
+      → (a ≡ b) × (a ≡ true → q ≡ r)
+  one-plan true true x y = (refl, λ _. same-plan x y)
+  one-plan true false x y = absurd (y (finished-fits s (whole-finished x)))
+  one-plan false true x y = absurd (x (finished-fits s (whole-finished y)))
+  one-plan false false x y = (refl, λ t. absurd (true≢false (sym t)))

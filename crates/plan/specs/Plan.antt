@@ -1,9 +1,11 @@
 -- The plan of a change: what each pool word is to hold, from the plan, the word's number and what it holds; and in
 -- which phase it is stored.
-use Prim.Native.Nat.{ℕ, zero, suc, _+_, _*_, _-_, _/_, _%_, _<_}
+use Prim.Native.Nat.{ℕ, zero, suc, _+_, _*_, _-_, _/_, _%_, _≤_, _<_}
 use mathlib.Core.Path.{_≡_}
-use mathlib.Core.Bool.{Bool, cond, _&&_, _||_, not}
+use mathlib.Core.Bool.{Bool, true, false, cond, _&&_, _||_, not}
+use mathlib.Core.List.{List}
 use lib.Dec.{eqb, leb, ltb}
+use lib.ListN.{length, getD, set}
 use Rattle.words.specs.Rights.{rightAt, eightOf}
 use Rattle.table.specs.declared.Shape.{Shape}
 use Rattle.table.specs.Shape.{size}
@@ -16,6 +18,41 @@ use Rattle.plan.specs.Planning.{Regular, firstOf, lastOf}
 use Rattle.plan.specs.declared.Edge.{Edge}
 use Rattle.plan.specs.declared.Ends.{Ends}
 use Rattle.plan.specs.declared.Plan.{Plan}
+
+-- A plan lies in sixteen words: the domain, the region and its right, then four edges of three words each.
+abbrev pub planWords : ℕ
+planWords = 16
+
+-- Here the words of an edge begin: of the first or the last of a height, that of the tables that may stand for them.
+abbrev pub edgeWord : ℕ → Bool → ℕ
+edgeWord zero first = cond first 10 13
+edgeWord (suc h) first = cond first 4 7
+
+-- The edge whose words begin at `i` ..
+abbrev pub edgeIn : List ℕ → ℕ → Edge
+edgeIn l i = record { number = getD l i 0; old = getD l (i + 1) 0; last = getD l (i + 2) 0 }
+
+-- .. both edges of a height ..
+abbrev pub endsIn : List ℕ → ℕ → Ends
+endsIn l h = record { first = edgeIn l (edgeWord h true); last = edgeIn l (edgeWord h false) }
+
+-- .. the region and its right ..
+abbrev pub paintIn : List ℕ → Paint
+paintIn l = record { lo = getD l 1 0; hi = getD l 2 0; right = getD l 3 0 }
+
+-- .. and the whole plan.
+abbrev pub planIn : List ℕ → Plan
+planIn l = record { domain = getD l 0 0; paint = paintIn l; blocks = endsIn l 1; pages = endsIn l 0 }
+
+-- The words with an edge stored from `i` on.
+abbrev pub putEdge : List ℕ → ℕ → Edge → List ℕ
+putEdge l i e = set (set (set l i (e .number)) (i + 1) (e .old)) (i + 2) (e .last)
+
+-- The words `m` are as many as the words `l`, and the same beside the `n` from `i` on.
+pub record Beside (i n : ℕ) (l m : List ℕ) : Type 0 where
+  pub long : length m ≡ length l
+  pub below : (k : ℕ) → k < i → getD m k 0 ≡ getD l k 0
+  pub above : (k : ℕ) → i + n ≤ k → getD m k 0 ≡ getD l k 0
 
 -- The edges of a height, that of the tables that may stand for them: 0 for pages, 1 for blocks.
 abbrev pub endsOf : Plan → ℕ → Ends

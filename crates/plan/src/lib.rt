@@ -1,4 +1,4 @@
-// The plan of a change, by value: the edges of the region, what they come to, and places for their new tables.
+// The plan of a change, in lent words: the edges of the region, what they come to, and places for their new tables.
 // A height here is that of the tables that may stand for a block: 0 for pages, which may have leaves, 1 for blocks of
 // 4 MB, which may have middle tables.
 ghost use mathlib.Core.Path.{_≡_};
@@ -9,21 +9,31 @@ ghost use Rattle.theory.specs.Settled.{Settled};
 ghost use Rattle.table.specs.Shape.{InRange, Fits, places};
 ghost use Rattle.table.specs.Map.{formOf};
 ghost use Rattle.places.specs.Count.{heights, blocks};
+ghost use Rattle.census.specs.Places.{maxPlaces, firstNumber};
 ghost use Rattle.census.specs.Census.{Owners};
-ghost use Rattle.plan.specs.Plan.{endsOf};
+ghost use Rattle.plan.specs.Plan.{planWords, endsIn, planIn, putEdge};
 ghost use Rattle.plan.specs.Planning.{Regular};
-ghost use Rattle.plan.specs.Edges.{PlansChange, EndsAre, edgeFor, edgeAt, endsAt, entryAt, ReadableRoot};
-ghost use Rattle.plan.specs.Edges.{RootGives, FirstFree, TakenIs, EndsGiven};
+ghost use Rattle.plan.specs.Edges.{PlansChange, PlansEnds, edgeFor, edgeAt, entryAt, ReadableRoot, RootGives};
+ghost use Rattle.plan.specs.Edges.{keptAt, FirstFree, TakesPlace, takenBy, found};
 use table::Shape;
 use table::TABLE_WORDS;
 use targets::Paint;
 use targets::Target;
 
-mod keeping; // keeping.rt: the places of tables that stay
+mod keeping; // keeping.rt: the tables that stay
+mod layout; // layout.rt: how a plan lies in its words
+
+pub use layout::PLAN_WORDS;
+pub use layout::domain_in;
+pub use layout::ends_in;
+pub use layout::paint_in;
 
 // What a pointer holds while the place of its new table is still to be found: it leads, and no pool word has this
 // number.
 pub const PENDING: u32 = 0x7FFF_FFFF;
+
+// What `take_place` answers where no place is left, a number that no place has: an enum would stand on the stack.
+const NO_PLACE: u32 = 0xFFFF_FFFF;
 
 // A block or a page at an end of the region: its number in the domain, the entry that it had, and the entry that it
 // will have. Of a page in a block of eight rights the old entry is the eight rights that stand for it.
@@ -39,49 +49,13 @@ pub struct Ends {
     pub last: Edge,
 }
 
-// All that the stores of a change need to know. The blocks and pages between the two edges are covered whole; those
-// outside stay. An array of edges by height would not fit into the enums that carry a plan.
+// All that the stores of a change need to know: what the words of a plan say. The blocks and pages between the two
+// edges are covered whole; those outside stay.
 pub struct Plan {
     pub domain: u32,
     pub paint: Paint,
     pub blocks: Ends,
     pub pages: Ends,
-}
-
-// The places of one height, each marked where a kept table stands.
-pub struct Marks {
-    pub on: [bool; 64],
-}
-
-// What becomes of the plan of a change: it is ready, or the finished rights need more tables than there are places.
-pub enum Planning {
-    Ready(Plan),
-    NoRoom,
-}
-
-// The edges of one height, once their new tables have places; or a new table finds none.
-pub enum Placing {
-    Both(Ends),
-    Full,
-}
-
-// An edge whose new table, if it needs one, has its place, with the place from which the next is looked for; or none
-// is left.
-pub enum Taken {
-    At(Edge, u32),
-    None,
-}
-
-// The edges of a height.
-pub fn ends_of(plan: Plan, height: u32) -> Ends
-    ensures { λ r. ⌜ r ≡ endsOf plan height ⌝ }
-{
-    let blocks = plan.blocks;
-    let pages = plan.pages;
-    if height == 0 {
-        return pages;
-    }
-    blocks
 }
 
 // An edge before places are given out. A table that it had stays where it is.
@@ -141,60 +115,49 @@ fn old_entry(pool: &[u32], height: u32, domain: u32, n: u32) -> u32
     targets::virtual_entry(1, root, n)
 }
 
-// The edge of a block, before places are given out.
-fn edge_at(pool: &[u32], height: u32, domain: u32, paint: Paint, n: u32) -> Edge
+// The edge of a block, before places are given out: where a new table is wanted, its pointer waits.
+fn draft_edge(
+    pool: &[u32],
+    height: u32,
+    domain: u32,
+    paint: Paint,
+    n: u32,
+    plan: &mut [u32; PLAN_WORDS],
+    i: usize,
+)
     requires { ⌜ ReadableRoot (now pool) domain ⌝ }
-    requires { ⌜ (height < heights) × (domain < 4) × (n < blocks height) × (paint .right < 4) ⌝ }
-    ensures { λ r. ⌜ ((R : ℕ → ℕ) → RootGives (words (now (pool .entry))) domain R
-        → r ≡ edgeAt (words (now (pool .entry))) domain paint R height n) ⌝ }
+    requires { ⌜ (height < heights) × (domain < 4) × (n < blocks height) × (paint .right < 4) × (i < 14) ⌝ }
+    ensures { λ _. ⌜ ((R : ℕ → ℕ) → RootGives (words (now (pool .entry))) domain R → now (plan .exit)
+        ≡ putEdge (now (plan .entry)) i (edgeAt (words (now (pool .entry))) domain paint R height n)) ⌝ }
 {
     let old = old_entry(pool, height, domain, n);
     let target = targets::entry_target(pool, paint, height + 1, old, n);
-    edge_of(n, old, target)
+    let edge = edge_of(n, old, target);
+    layout::put_edge(plan, i, edge);
 }
 
-// The last edge: the first one where they are one, since the search of a block is the longest part of planning.
-fn last_edge(pool: &[u32], height: u32, domain: u32, paint: Paint, first: Edge, n: u32) -> Edge
-    requires { ⌜ ReadableRoot (now pool) domain ⌝ }
-    requires { ⌜ (height < heights) × (domain < 4) × (n < blocks height) × (paint .right < 4) ⌝ }
-    ensures { λ r. ⌜ ((R : ℕ → ℕ) → RootGives (words (now (pool .entry))) domain R
-        → first ≡ edgeAt (words (now (pool .entry))) domain paint R height (first .number)
-        → r ≡ edgeAt (words (now (pool .entry))) domain paint R height n) ⌝ }
+// The first place from `from` on where no kept table stands, or `to`. Places that the change gives up count as free; a
+// place that a table of any domain keeps does not.
+fn next_free(
+    owners: &[u32],
+    height: u32,
+    domain: u32,
+    plan: &[u32; PLAN_WORDS],
+    from: u32,
+    to: u32,
+) -> u32
+    requires { ⌜ length (now owners) ≡ maxPlaces ⌝ }
+    requires { ⌜ (from ≤ to) × (firstNumber height + to ≤ maxPlaces) ⌝ }
+    ensures { λ r. ⌜ FirstFree (keptAt (now (owners .entry)) height domain (endsIn (now (plan .entry)) height)) from to
+        r ⌝ }
 {
-    let number = first.number;
-    if n == number {
-        return first;
-    }
-    edge_at(pool, height, domain, paint, n)
-}
-
-// The edges of a height before places are given out: where a new table is wanted, its pointer waits.
-fn draft_ends(pool: &[u32], height: u32, domain: u32, paint: Paint) -> Ends
-    requires { ⌜ ReadableRoot (now pool) domain ⌝ }
-    requires { ⌜ (height < heights) × (domain < 4) ⌝ }
-    requires { ⌜ Regular paint ⌝ }
-    ensures { λ r. ⌜ ((R : ℕ → ℕ) → RootGives (words (now (pool .entry))) domain R
-        → r ≡ endsAt (words (now (pool .entry))) domain paint R height) ⌝ }
-{
-    let lo = paint.lo;
-    let hi = paint.hi;
-    let long = table::block_words(height + 1);
-    let begin = lo / long;
-    let end = (hi - 1) / long;
-    let first = edge_at(pool, height, domain, paint, begin);
-    let last = last_edge(pool, height, domain, paint, first, end);
-    Ends { first, last }
-}
-
-// The first place from `from` on that is not marked, or `to`.
-fn next_free(kept: Marks, from: u32, to: u32) -> u32
-    requires { ⌜ (from ≤ to) × (to ≤ 64) ⌝ }
-    ensures { λ r. ⌜ FirstFree (kept .on) from to r ⌝ }
-{
+    let base = census::first_number(height);
+    let ends = layout::ends_in(plan, height);
     let mut p = from;
     while p < to {
-        let taken = kept.on[p as usize];
-        if !taken {
+        let owner = owners[(base + p) as usize];
+        let kept = keeping::is_kept(height, domain, ends, owner);
+        if !kept {
             return p;
         }
         p += 1;
@@ -202,64 +165,54 @@ fn next_free(kept: Marks, from: u32, to: u32) -> u32
     p
 }
 
-// A new table takes the lowest place of its height, from `from` on, that no kept table has.
-fn take_place(kept: Marks, shape: Shape, height: u32, from: u32, edge: Edge) -> Taken
+// A new table, of the edge whose words begin at `i`, takes the lowest place of its height, from `from` on, that no
+// kept table has. Answers from which place on the next is looked for, or that none is left.
+fn take_place(
+    owners: &[u32],
+    shape: Shape,
+    height: u32,
+    domain: u32,
+    plan: &mut [u32; PLAN_WORDS],
+    i: usize,
+    from: u32,
+) -> u32
+    requires { ⌜ length (now owners) ≡ maxPlaces ⌝ }
     requires { ⌜ InRange shape ⌝ }
-    requires { ⌜ from ≤ places shape height ⌝ }
-    ensures { λ r. ⌜ TakenIs (kept .on) from shape height edge r ⌝ }
+    requires { ⌜ (from ≤ places shape height) × (i < 14) ⌝ }
+    requires { ⌜ length (now plan) ≡ planWords ⌝ }
+    ensures { λ r. ⌜ TakesPlace (keptAt (now (owners .entry)) height domain (endsIn (now (plan .entry)) height)) from
+        shape height i (now (plan .entry)) (now (plan .exit)) (takenBy r) ⌝ }
 {
-    let number = edge.number;
-    let old = edge.old;
-    let last = edge.last;
+    let old = plan[i + 1];
+    let last = plan[i + 2];
     if last >= words::BIT_31 {
-        return Taken::At(edge, from);
+        return from;
     }
     if old < words::BIT_31 {
-        return Taken::At(edge, from);
+        return from;
     }
     let count = table::places_of(shape, height);
-    let place = next_free(kept, from, count);
+    let place = next_free(owners, height, domain, plan, from, count);
     if place == count {
-        return Taken::None;
+        return NO_PLACE;
     }
     let base = table::first_place(shape, height);
     let long = table::size_of(height);
     let table = words::word_after(base, (long * place) as usize);
     let pointer = words::entry_of(table);
-    let placed = Edge {
-        number,
-        old,
-        last: pointer,
-    };
-    let next = place + 1;
-    Taken::At(placed, next)
+    plan[i + 2] = pointer;
+    place + 1
 }
 
-// Places for the new tables of one height, in the order of their blocks.
-fn place_ends(kept: Marks, shape: Shape, height: u32, ends: Ends) -> Placing
-    requires { ⌜ InRange shape ⌝ }
-    ensures { λ r. ⌜ EndsGiven (kept .on) shape height ends r ⌝ }
+// Whether a new table, if one was needed, has its place.
+fn has_place(next: u32) -> bool
+    ensures { λ r. ⌜ r ≡ found (takenBy next) ⌝ }
 {
-    let first = ends.first;
-    let last = ends.last;
-    let f = first.number;
-    let l = last.number;
-    let one = take_place(kept, shape, height, 0, first);
-    let Taken::At(a, next) = one else {
-        return Placing::Full;
-    };
-    if f == l {
-        return Placing::Both(Ends { first: a, last: a });
-    }
-    let two = take_place(kept, shape, height, next, last);
-    let Taken::At(b, _) = two else {
-        return Placing::Full;
-    };
-    Placing::Both(Ends { first: a, last: b })
+    next != NO_PLACE
 }
 
-// The edges of a height, with places for their new tables. Places that the change gives up count as free; a place
-// that a table of any domain keeps does not.
+// The edges of a height, with places for their new tables in the order of their blocks; or a new table finds none.
+// Where both edges are one, its block is searched once, since that is the longest part of planning.
 fn plan_ends(
     pool: &[u32],
     shape: Shape,
@@ -267,47 +220,69 @@ fn plan_ends(
     height: u32,
     domain: u32,
     paint: Paint,
-) -> Placing
+    plan: &mut [u32; PLAN_WORDS],
+) -> bool
     requires { ⌜ Fits shape (length (now pool)) ⌝ }
     requires { ⌜ Settled (formOf shape) (words (now pool)) ⌝ }
     requires { ⌜ Owners (now pool) shape (now owners) ⌝ }
-    requires { ⌜ (height < heights) × (domain < shape .domains) ⌝ }
-    requires { ⌜ Regular paint ⌝ }
-    ensures { λ r. ⌜ EndsAre shape domain paint (words (now (pool .entry))) height r ⌝ }
+    requires { ⌜ (height < heights) × (domain < shape .domains) × Regular paint ⌝ }
+    requires { ⌜ length (now plan) ≡ planWords ⌝ }
+    ensures { λ r. ⌜ PlansEnds shape domain paint (words (now (pool .entry))) height (now (plan .entry))
+        (now (plan .exit)) r ⌝ }
 {
-    let drafted = draft_ends(pool, height, domain, paint);
-    let kept = keeping::kept_places(owners, shape, height, domain, drafted);
-    place_ends(kept, shape, height, drafted)
+    let lo = paint.lo;
+    let hi = paint.hi;
+    let long = table::block_words(height + 1);
+    let begin = lo / long;
+    let end = (hi - 1) / long;
+    let f = layout::edge_index(height, true);
+    let l = layout::edge_index(height, false);
+    draft_edge(pool, height, domain, paint, begin, plan, f);
+    if begin == end {
+        layout::copy_edge(plan, f, l);
+        let only = take_place(owners, shape, height, domain, plan, f, 0);
+        layout::copy_edge(plan, f, l);
+        return has_place(only);
+    }
+    draft_edge(pool, height, domain, paint, end, plan, l);
+    let one = take_place(owners, shape, height, domain, plan, f, 0);
+    if !has_place(one) {
+        return false;
+    }
+    let two = take_place(owners, shape, height, domain, plan, l, one);
+    has_place(two)
 }
 
-// The plan of a change, before its first store: which entries it ends with, and where its new tables stand.
+// The plan of a change, before its first store: which entries it ends with, and where its new tables stand. False
+// where the finished rights need more tables than there are places; the plan's words then say nothing.
 pub fn plan_change(
     pool: &[u32],
     shape: Shape,
     owners: &[u32],
     domain: u32,
     paint: Paint,
-) -> Planning
+    plan: &mut [u32; PLAN_WORDS],
+) -> bool
     requires { ⌜ Fits shape (length (now pool)) ⌝ }
     requires { ⌜ Settled (formOf shape) (words (now pool)) ⌝ }
     requires { ⌜ Owners (now pool) shape (now owners) ⌝ }
     requires { ⌜ domain < shape .domains ⌝ }
     requires { ⌜ Regular paint ⌝ }
-    ensures { λ r. ⌜ PlansChange shape domain paint (words (now (pool .entry))) r ⌝ }
+    ensures { λ r. ⌜ PlansChange shape domain paint (words (now (pool .entry))) r (planIn (now (plan .exit))) ⌝ }
 {
-    let at_blocks = plan_ends(pool, shape, owners, 1, domain, paint);
-    let Placing::Both(blocks) = at_blocks else {
-        return Planning::NoRoom;
-    };
-    let at_pages = plan_ends(pool, shape, owners, 0, domain, paint);
-    let Placing::Both(pages) = at_pages else {
-        return Planning::NoRoom;
-    };
-    let plan = Plan {
-        domain,
-        paint,
-        blocks,
-        pages,
-    };
-    Planning::Ready(plan)
+    // Only as a slice is an array behind a reference known to have its length: the words that are stored are read back.
+    let whole = &plan[..];
+    plan[0] = domain;
+    plan[1] = paint.lo;
+    plan[2] = paint.hi;
+    plan[3] = paint.right;
+    let mut height: u32 = 2;
+    while 0 < height {
+        height -= 1;
+        let fits = plan_ends(pool, shape, owners, height, domain, paint, plan);
+        if !fits {
+            return false;
+        }
+    }
+    true
 }

@@ -11,20 +11,27 @@ use Rattle.words.specs.Rights.{rightAt, eightOf}
 use Rattle.targets.specs.Targets.{entryBlocks}
 use Rattle.plan.specs.declared.Ends.{Ends}
 use Rattle.plan.specs.declared.Plan.{Plan}
-use Rattle.plan.specs.Plan.{endsOf, entryAfter, entryBefore}
+use Rattle.plan.specs.Plan.{endsOf, entryAfter, entryBefore, planIn}
 use Rattle.change.proofs.entry_after.Statement.{statement}
 use Rattle.change.proofs.entry_after.Tie as tie
 
 leaf-number : (h n : ℕ) → h ≡ 0 → n < entryBlocks h → n < 67108864
 leaf-number h n e b = rw e at b
 
+paint-in-requires : tie.Need-paint-in-requires
+paint-in-requires c κs = search needs
+
 entry-before-requires : tie.Need-entry-before-requires
 entry-before-requires c κs = search needs
+
+-- The right of the paint that was read.
+painted : (c : tie.After-paint-in) → c .paint-in .result .right < 4
+painted c = rw (c .paint-in .ensures) (c .before .pre .0)
 
 paint-word-requires : tie.Need-paint-word-requires
 paint-word-requires c κs =
     let s = c .before .before .before in
-    (leaf-number (s .args .height) (s .args .n) (c .before .if1 .taken) (s .pre .1), s .pre .0)
+    (leaf-number (s .args .height) (s .args .n) (c .before .if1 .taken) (s .pre .1), painted (c .before .before))
 
 -- What the entry was.
 abbrev was : tie.Start → ℕ
@@ -35,15 +42,16 @@ returns c =
     let b = c .before in
     let s = b .before .before .before in
     let a = s .args in
-    c .paint-word .ensures (λ i. rightAt (b .entry-before .result) (i / 4 % 16)) (λ i e. refl)
-    ∙ ap (entryAfter (a .plan) 0 (a .n)) (b .entry-before .ensures)
-    ∙ ap (λ h. entryAfter (a .plan) h (a .n) (was s)) (sym (b .before .if1 .taken))
+    rw (b .before .before .paint-in .ensures) at
+    (c .paint-word .ensures (λ i. rightAt (b .entry-before .result) (i / 4 % 16)) (λ i e. refl))
+    ∙ ap (entryAfter (planIn (a .plan .now)) 0 (a .n)) (b .entry-before .ensures)
+    ∙ ap (λ h. entryAfter (planIn (a .plan .now)) h (a .n) (was s)) (sym (b .before .if1 .taken))
 
-sub-ends-of : tie.Need-sub-ends-of
-sub-ends-of c = search needs
+sub-ends-in : tie.Need-sub-ends-in
+sub-ends-in c = search needs
 
-ends-of-requires : tie.Need-ends-of-requires
-ends-of-requires c κs = search needs
+ends-in-requires : tie.Need-ends-in-requires
+ends-in-requires c κs = search needs
 
 -- Above the leaves, by the edges of the height below.
 module _ (q : Plan) (e : Ends) (n x : ℕ) where
@@ -98,26 +106,28 @@ module _ (q : Plan) (e : Ends) (n x : ℕ) where
         ) refl
 
 -- What the function does above the leaves is right.
-is-high : (c : tie.After-ends-of) → let s = c .before .before .before in
+is-high : (c : tie.After-ends-in) → let s = c .before .before .before in
     let a = s .args in
-    high (a .plan) (c .ends-of .result) (a .n) (was s) ≡ entryAfter (a .plan) (a .height) (a .n) (was s)
+    let q = planIn (a .plan .now) in
+    high q (c .ends-in .result) (a .n) (was s) ≡ entryAfter q (a .height) (a .n) (was s)
 is-high c =
     let s = c .before .before .before in
     let a = s .args in
-    high-is (a .plan) (c .ends-of .result) (a .n) (was s) (a .height) (c .before .if1 .left) (c .ends-of .ensures)
+    high-is (planIn (a .plan .now)) (c .ends-in .result) (a .n) (was s) (a .height) (c .before .if1 .left)
+    (c .ends-in .ensures)
 
 returns-2 : tie.Need-returns-2
 returns-2 c =
     let e = c .before .before .before in
     let s = e .before .before .before in
-    at-first (s .args .plan) (e .ends-of .result) (s .args .n) (was s) (c .if2 .taken) ∙ is-high e
+    at-first (planIn (s .args .plan .now)) (e .ends-in .result) (s .args .n) (was s) (c .if2 .taken) ∙ is-high e
 
 returns-3 : tie.Need-returns-3
 returns-3 c =
     let e = c .before .before .before .before in
     let s = e .before .before .before in
-    at-last (s .args .plan) (e .ends-of .result) (s .args .n) (was s) (c .before .if2 .left) (c .if3 .taken)
-    ∙ is-high e
+    at-last (planIn (s .args .plan .now)) (e .ends-in .result) (s .args .n) (was s) (c .before .if2 .left)
+    (c .if3 .taken) ∙ is-high e
 
 entry-before-requires-2 : tie.Need-entry-before-requires-2
 entry-before-requires-2 c κs = search needs
@@ -128,19 +138,19 @@ returns-4 c =
     let e = l .before .before .before .before .before in
     let s = e .before .before .before in
     c .entry-before2 .ensures
-    ∙ before (s .args .plan) (e .ends-of .result) (s .args .n) (was s) (l .before .before .if2 .left)
+    ∙ before (planIn (s .args .plan .now)) (e .ends-in .result) (s .args .n) (was s) (l .before .before .if2 .left)
     (l .before .if3 .left) (l .if4 .taken) ∙ is-high e
 
 eight-of-requires : tie.Need-eight-of-requires
-eight-of-requires c κs = search needs
+eight-of-requires c κs = painted (c .before .before .before .before .before .before .before .before)
 
 returns-5 : tie.Need-returns-5
 returns-5 c =
     let l = c .before .before in
     let e = l .before .before .before .before .before in
     let s = e .before .before .before in
-    c .eight-of .ensures
-    ∙ between (s .args .plan) (e .ends-of .result) (s .args .n) (was s) (l .before .before .if2 .left)
+    rw (e .before .before .paint-in .ensures) at (c .eight-of .ensures)
+    ∙ between (planIn (s .args .plan .now)) (e .ends-in .result) (s .args .n) (was s) (l .before .before .if2 .left)
     (l .before .if3 .left) (l .if4 .left) (c .before .if5 .taken) ∙ is-high e
 
 entry-before-requires-3 : tie.Need-entry-before-requires-3
@@ -152,18 +162,19 @@ returns-6 c =
     let e = l .before .before .before .before .before in
     let s = e .before .before .before in
     c .entry-before3 .ensures
-    ∙ past (s .args .plan) (e .ends-of .result) (s .args .n) (was s) (l .before .before .if2 .left)
+    ∙ past (planIn (s .args .plan .now)) (e .ends-in .result) (s .args .n) (was s) (l .before .before .if2 .left)
     (l .before .if3 .left) (l .if4 .left) (c .before .if5 .left) ∙ is-high e
 
 pub entry-after-spec : {M : Type 1} → statement M
 entry-after-spec =
     tie.close
     (tie.spec
+    paint-in-requires
     entry-before-requires
     paint-word-requires
     returns
-    sub-ends-of
-    ends-of-requires
+    sub-ends-in
+    ends-in-requires
     returns-2
     returns-3
     entry-before-requires-2

@@ -5,12 +5,12 @@ use mathlib.Core.Bool.{Bool, true, false, _||_}
 use borrow.Author.Needs.{needs}
 use Rattle.plan.specs.declared.Ends.{Ends}
 use Rattle.plan.specs.declared.Plan.{Plan}
-use Rattle.plan.specs.Plan.{endsOf, ofNew, newAt}
+use Rattle.plan.specs.Plan.{endsOf, ofNew, newAt, planIn}
 use Rattle.change.proofs.new_at.Statement.{statement}
 use Rattle.change.proofs.new_at.Tie as tie
 
-ends-of-requires : tie.Need-ends-of-requires
-ends-of-requires c κs = search needs
+ends-in-requires : tie.Need-ends-in-requires
+ends-in-requires c κs = search needs
 
 of-new-table-requires : tie.Need-of-new-table-requires
 of-new-table-requires c κs = search needs
@@ -25,7 +25,7 @@ returns c =
     let e = t .before .before .before in
     let a = e .before .args in
     first _ _ (sym (t .of-new-table .ensures) ∙ c .if1 .taken)
-    ∙ is-new (a .plan) (a .height) (a .k .0) (e .ends-of .result) (e .ends-of .ensures)
+    ∙ is-new (planIn (a .plan .now)) (a .height) (a .k .0) (e .ends-in .result) (e .ends-in .ensures)
   where
     first : (b d : Bool) → b ≡ true → true ≡ (b || d)
     first b d e = rw e refl
@@ -39,11 +39,11 @@ returns-2 c =
     let e = t .before .before .before in
     let a = e .before .args in
     c .of-new-table2 .ensures ∙ last _ _ (sym (t .of-new-table .ensures) ∙ c .before .if1 .left)
-    ∙ is-new (a .plan) (a .height) (a .k .0) (e .ends-of .result) (e .ends-of .ensures)
+    ∙ is-new (planIn (a .plan .now)) (a .height) (a .k .0) (e .ends-in .result) (e .ends-in .ensures)
   where
     last : (b d : Bool) → b ≡ false → d ≡ (b || d)
     last b d e = rw e refl
 
 pub new-at-spec : {M : Type 1} → statement M
 new-at-spec =
-    tie.close (tie.spec ends-of-requires of-new-table-requires returns of-new-table-requires-2 returns-2)
+    tie.close (tie.spec ends-in-requires of-new-table-requires returns of-new-table-requires-2 returns-2)

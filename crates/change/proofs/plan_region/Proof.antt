@@ -12,96 +12,94 @@ use Rattle.change.proofs.RegionLaws.{plan-ready, planning-ready, planni
 use Rattle.change.proofs.plan_region.Statement.{statement}
 use Rattle.change.proofs.plan_region.Tie as tie
 
-slice-aggregate-census : tie.Need-slice-aggregate-census
-slice-aggregate-census c = search needs
-
 census-requires : tie.Need-census-requires
 census-requires c κs = search needs
 
+same-length : tie.Need-same-length
+same-length c = search needs
+
 returns : tie.Need-returns
 returns c = λ n. unsound (λ z. true≢false
-    (sym (c .before .before .census .ensures .whole z) ∙ not-true _ (c .if1 .taken)))
-
-slice-aggregate-settled : tie.Need-slice-aggregate-settled
-slice-aggregate-settled c = search needs
+    (sym (c .before .before .before .census .ensures .whole z) ∙ not-true _ (c .if1 .taken)))
 
 settled-requires : tie.Need-settled-requires
 settled-requires c κs =
     let e = c .before in
-    let k = e .before .before in
+    let k = e .before .before .before in
     let sound = not-false _ (e .if1 .left) in
-    (k .before .before .before .pre .0, (k .census .ensures .sound sound, k .census .ensures .owners sound))
+    (k .before .before .before .before .pre .0, (k .census .ensures .sound sound, k .census .ensures .owners sound))
+
+same-length-2 : tie.Need-same-length-2
+same-length-2 c = search needs
 
 returns-2 : tie.Need-returns-2
 returns-2 c =
     let e = c .before .before .before in
-    λ n. unsettled (e .before .before .census .ensures .sound (not-false _ (e .if1 .left)))
+    λ n. unsettled (e .before .before .before .census .ensures .sound (not-false _ (e .if1 .left)))
     (λ z. true≢false (sym (c .before .settled .ensures .passes z) ∙ not-true _ (c .if2 .taken)))
 
-slice-aggregate-plan-change : tie.Need-slice-aggregate-plan-change
-slice-aggregate-plan-change c = search needs
-
 -- Past the second test the pool is settled.
-settled-here : (c : tie.After-owners4) → let a =
-    c .before .before .before .before .before .before .before .before .before .args in
+settled-here : (c : tie.Else2) → let a =
+    c .before .before .before .before .before .before .before .before .before .before .args in
     Settled (formOf (a .shape)) (words (a .pool .now))
-settled-here c = c .before .before .settled .ensures .holds (not-false _ (c .before .if2 .left))
+settled-here c = c .before .settled .ensures .holds (not-false _ (c .if2 .left))
 
 plan-change-requires : tie.Need-plan-change-requires
 plan-change-requires c κs =
-    let e = c .before .before .before .before in
-    let k = e .before .before in
-    let s = k .before .before .before in (
+    let e = c .before .before .before .before .before in
+    let k = e .before .before .before in
+    let s = k .before .before .before .before in (
       s .pre .0,
       (
-        settled-here c,
+        settled-here (c .before .before),
         (
           k .census .ensures .owners (not-false _ (e .if1 .left)),
-          (s .pre .1 .0, s .pre .1 .1),
+          (s .pre .1 .1 .0, s .pre .1 .1 .1),
         ),
       ),
     )
 
-enum-known-planning : tie.Need-enum-known-planning
-enum-known-planning c = search needs
-
-enum-told : tie.Need-enum-told
-enum-told c = search needs
+same-length-3 : tie.Need-same-length-3
+same-length-3 c = search needs
 
 returns-3 : tie.Need-returns-3
 returns-3 c =
-    let k = c .before .before in
-    let a = k .before .before .before .before .before .before .before .before .before .before .args in
-    λ n. no-room (settled-here (k .before)) (planning-none (a .pool .now) (a .shape) (a .domain) (a .paint) _
-    (k .plan-change .ensures) (c .enum-told .given .1))
+    let k = c .before in
+    let e = k .before .before .before in
+    let a = e .before .before .before .before .before .before .before .before .before .before .args in
+    λ n. no-room (settled-here e) (planning-none (a .pool .now) (a .shape) (a .domain) (a .paint)
+    (k .plan-change .result) _ (k .plan-change .ensures) (not-true _ (c .if3 .taken)))
+
+same-length-4 : tie.Need-same-length-4
+same-length-4 c = search needs
 
 returns-4 : tie.Need-returns-4
 returns-4 c =
-    let k = c .before .before .before in
-    let known = k .before .before .before .before .before .before .before .before .before in
+    let k = c .before in
+    let e = k .before .before .before in
+    let known = e .before .before .before .before .before .before .before .before .before in
     let s = known .before in
     let a = s .args in
-    let t = settled-here (k .before) in (
+    let t = settled-here e in (
       t,
       plan-ready (a .pool .now) (a .shape) (a .domain) (a .paint) _ (s .pre .0) t
-          (λ i. omega (arith, known .shared-slice-known .given i)) (s .pre .1 .0) (s .pre .1 .1)
-          (planning-ready (a .pool .now) (a .shape) (a .domain) (a .paint) _ _ (k .plan-change .ensures)
-          (c .before .planning .given .1)),
+          (λ i. omega (arith, known .shared-slice-known .given i)) (s .pre .1 .1 .0) (s .pre .1 .1 .1)
+          (planning-ready (a .pool .now) (a .shape) (a .domain) (a .paint) (k .plan-change .result) _
+          (k .plan-change .ensures) (not-false _ (c .if3 .left))),
     )
 
 pub plan-region-spec : {M : Type 1} → statement M
 plan-region-spec =
     tie.close
     (tie.spec
-    slice-aggregate-census
     census-requires
+    same-length
     returns
-    slice-aggregate-settled
     settled-requires
+    same-length-2
     returns-2
-    slice-aggregate-plan-change
     plan-change-requires
-    enum-known-planning
-    enum-told
+    same-length-3
     returns-3
+    same-length-4
     returns-4)

@@ -13,7 +13,8 @@ use Rattle.change.proofs.plan_request.Statement.{statement}
 use Rattle.change.proofs.plan_request.Tie as tie
 
 -- Past the first test the shape fits.
-fits-at : (c : tie.Else1) → let a = c .before .before .before .args in Fits (a .shape) (length (a .pool .now))
+fits-at : (c : tie.Else1) → let a = c .before .before .before .before .args in
+    Fits (a .shape) (length (a .pool .now))
 fits-at c = test-fits _ _ (sym (c .before .shape-fits .ensures) ∙ not-false _ (c .if1 .left))
 
 shape-fits-requires : tie.Need-shape-fits-requires
@@ -40,13 +41,19 @@ enum-known-rounded-2 c = search needs
 
 plan-region-requires : tie.Need-plan-region-requires
 plan-region-requires c κs =
-    let a = c .before .before .before .before .before .before .before .before .before .args in (
-      fits-at (c .before .before .before .before .before .before),
+    let g = c .before .before .before in
+    let r = g .before .before in
+    let l = r .before .before .before in
+    let s = l .before .before .before .before in
+    let a = s .args in (
+      fits-at l,
       (
-        omega (arith, c .before .before .before .before .before .if2 .left),
-        covers-regular (a .start .0) (a .length) (a .right) _
-            (omega (arith, c .before .before .before .before .if3 .left))
-            (sym (c .before .before .before .round-region .ensures) ∙ c .before .rounded2 .given .1),
+        s .pre,
+        (
+          omega (arith, r .before .before .if2 .left),
+          covers-regular (a .start .0) (a .length) (a .right) _ (omega (arith, r .before .if3 .left))
+              (sym (r .round-region .ensures) ∙ g .rounded2 .given .1),
+        ),
       ),
     )
 
@@ -57,16 +64,23 @@ returns-4 c =
     (omega (arith, c .before .before .before .before .if3 .left)) _
     (sym (c .before .before .before .round-region .ensures) ∙ c .before .rounded .given .1)
 
+same-length : tie.Need-same-length
+same-length c = search needs
+
 returns-5 : tie.Need-returns-5
 returns-5 c =
-    let a = c .before .before .before .before .before .before .before .before .before .before .args in
-    request-is (a .pool .now) (a .shape) (a .domain) (a .start .0) (a .length) (a .right) (c .plan-region .result)
+    let k = c .before .before in
+    let g = k .before .before .before .before in
+    let r = g .before .before in
+    let l = r .before .before .before in
+    let a = l .before .before .before .before .args in
+    request-is (a .pool .now) (a .shape) (a .domain) (a .start .0) (a .length) (a .right) _ (k .plan-region .result)
     (record {
-      fits = fits-at (c .before .before .before .before .before .before .before);
-      domain = omega (arith, c .before .before .before .before .before .before .if2 .left);
-      right = omega (arith, c .before .before .before .before .before .if3 .left);
-      region = sym (c .before .before .before .before .round-region .ensures) ∙ c .before .before .rounded2 .given .1;
-    }) (c .plan-region .ensures)
+      fits = fits-at l;
+      domain = omega (arith, r .before .before .if2 .left);
+      right = omega (arith, r .before .if3 .left);
+      region = sym (r .round-region .ensures) ∙ g .rounded2 .given .1;
+    }) (k .plan-region .ensures)
 
 pub plan-request-spec : {M : Type 1} → statement M
 plan-request-spec =
@@ -81,4 +95,5 @@ plan-request-spec =
     enum-known-rounded-2
     plan-region-requires
     returns-4
+    same-length
     returns-5)

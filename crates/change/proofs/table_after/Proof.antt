@@ -6,7 +6,7 @@ use borrow.Author.Needs.{needs}
 use Rattle.table.specs.Shape.{size}
 use Rattle.places.specs.Count.{heights, blocks}
 use Rattle.targets.specs.Targets.{entryBlocks}
-use Rattle.plan.specs.Plan.{entryAfter, entryBefore}
+use Rattle.plan.specs.Plan.{entryAfter, entryBefore, planIn}
 use Rattle.change.proofs.TableLaws.{wide, table-within}
 use Rattle.change.proofs.table_after.Statement.{statement}
 use Rattle.change.proofs.table_after.Tie as tie
@@ -77,7 +77,8 @@ returns c =
     let z = c .before in
     let a = z .before .before .before .args in
     c .entry-after .ensures
-    ∙ ap (λ m. entryAfter (a .plan) (a .height) m (entryBefore (a .height) (a .edge .old) m (a .x))) (number z .0)
+    ∙ ap (λ m. entryAfter (planIn (a .plan .now)) (a .height) m (entryBefore (a .height) (a .edge .old) m (a .x)))
+    (number z .0)
 
 pub table-after-spec : {M : Type 1} → statement M
 table-after-spec =

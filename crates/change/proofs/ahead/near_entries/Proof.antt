@@ -5,10 +5,14 @@ use native.Mathlib.Omega.{arith}
 use native.Mathlib.Nat.{div-le-self}
 use borrow.Author.Needs.{needs}
 use Rattle.table.specs.Map.{block}
+use Rattle.plan.specs.Plan.{planIn}
 use Rattle.change.proofs.TableLaws.{wide}
 use Rattle.change.proofs.AheadLaws.{ahead-as, entries-outside}
 use Rattle.change.proofs.ahead.near_entries.Statement.{statement}
 use Rattle.change.proofs.ahead.near_entries.Tie as tie
+
+paint-in-requires : tie.Need-paint-in-requires
+paint-in-requires c κs = search needs
 
 size-of-requires : tie.Need-size-of-requires
 size-of-requires c κs = search needs
@@ -25,7 +29,9 @@ div-met : tie.Need-div-met
 div-met c = let e = c .block-words .ensures in let z = some (c .before .before .before .args .height) in omega arith
 
 sub-last : tie.Need-sub-last
-sub-last c = search needs
+sub-last c =
+    let e = ap (λ p. p .hi) (c .before .before .paint-in .ensures) in
+    omega (arith, c .before .before .before .pre .0 .0 .region .some)
 
 div-last : tie.Need-div-last
 div-last c = let e = c .block-words .ensures in let z = some (c .before .before .before .args .height) in omega arith
@@ -38,7 +44,8 @@ add-entries-before c =
     let w = c .before in
     let s = w .before .before .before in
     let g = s .pre .0 .0 .region in
-    let z = div-le-self (s .args .plan .paint .hi - 1) (w .block-words .result) in
+    let e = ap (λ p. p .hi) (w .before .before .paint-in .ensures) in
+    let z = div-le-self (w .before .before .paint-in .result .hi - 1) (w .block-words .result) in
     omega arith
 
 entries-before-requires-2 : tie.Need-entries-before-requires-2
@@ -81,15 +88,18 @@ returns c =
     let a = s .args in
     let start = ap (λ w. w .0) (c .before .before .word-after .ensures) in
     let past = ap (λ w. w .0) (c .before .word-after2 .ensures) in
+    let paint = z .before .paint-in .ensures in
     ahead-as (rw (past, start) at (c .nearer .ensures))
-    (λ j. entries-outside (a .plan) (s .pre .0 .0) (a .height) (a .begin) (a .table .0) _ _ j (s .pre .1 .0)
-    (rw (z .size-of .ensures, w .block-words .ensures) at (b1 .entries-before .ensures))
-    (rw (z .size-of .ensures, w .block-words .ensures) at (b2 .entries-before2 .ensures)))
+    (λ j. entries-outside (planIn (a .plan .now)) (s .pre .0 .0) (a .height) (a .begin) (a .table .0) _ _ j
+    (s .pre .1 .0)
+    (rw (z .size-of .ensures, w .block-words .ensures, paint) at (b1 .entries-before .ensures))
+    (rw (z .size-of .ensures, w .block-words .ensures, paint) at (b2 .entries-before2 .ensures)))
 
 pub near-entries-spec : {M : Type 1} → statement M
 near-entries-spec =
     tie.close
     (tie.spec
+    paint-in-requires
     size-of-requires
     block-words-requires
     div-met

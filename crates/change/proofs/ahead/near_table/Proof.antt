@@ -7,6 +7,7 @@ use borrow.Author.Needs.{needs}
 use borrow.Author.Tests.{le-ltb}
 use Rattle.table.specs.Shape.{size}
 use Rattle.places.specs.Count.{heights, blocks}
+use Rattle.plan.specs.Plan.{planIn}
 use Rattle.change.proofs.AheadLaws.{ahead-as, ahead-all, no-table, table-idle}
 use Rattle.change.proofs.ahead.near_table.Statement.{statement}
 use Rattle.change.proofs.ahead.near_table.Tie as tie
@@ -52,7 +53,8 @@ returns-3 c =
     let z = p .before in
     let a = z .before .before .before .args in
     let e = ap (λ w. w .0) (p .pool-word .ensures) in
-    ahead-as (rw (z .size-of .ensures, e) at (c .near-entries .ensures)) (table-idle (a .plan) (a .height) (a .edge))
+    ahead-as (rw (z .size-of .ensures, e) at (c .near-entries .ensures))
+    (table-idle (planIn (a .plan .now)) (a .height) (a .edge))
 
 pub near-table-spec : {M : Type 1} → statement M
 near-table-spec =

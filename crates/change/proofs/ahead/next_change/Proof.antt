@@ -4,6 +4,7 @@ use mathlib.Core.Path.{sym, ap}
 use native.Mathlib.Omega.{arith}
 use borrow.Author.Needs.{needs}
 use lib.ListN.{length}
+use Rattle.plan.specs.Plan.{planIn}
 use Rattle.change.specs.declared.Work.the-variants.{Change}
 use Rattle.change.specs.Runs.{Run, Stands}
 use Rattle.change.proofs.AheadLaws.{few-words}
@@ -15,8 +16,8 @@ use Rattle.change.proofs.ahead.next_change.Tie as tie
 abbrev Inv-loop : tie.InvT-loop
 Inv-loop pool shape plan end at₀ at =
     (at .word .0 ≤ at .past .0) × (at .past .0 ≤ length pool)
-    × ((u : Run shape (Change plan)) → Stands shape (Change plan) u (at₀ .phase) (at₀ .word .0) pool
-    → Stands shape (Change plan) u (at .phase) (at .word .0) pool)
+    × ((u : Run shape (Change (planIn plan))) → Stands shape (Change (planIn plan)) u (at₀ .phase) (at₀ .word .0) pool
+    → Stands shape (Change (planIn plan)) u (at .phase) (at .word .0) pool)
 
 abbrev μ-loop : tie.MeasureT-loop
 μ-loop pool shape plan end at₀ at = 21474836480 - (at .phase * 4294967296 + at .past .0)

@@ -4,6 +4,7 @@ use mathlib.Core.Bool.{not}
 use mathlib.Core.Logic.{inl, inr, ⊎-elim}
 use borrow.Author.Needs.{needs}
 use borrow.Author.Tests.{eq-eqb, ne-eqb}
+use Rattle.plan.specs.Plan.{planIn}
 use Rattle.change.proofs.AheadLaws.{ahead-as, ahead-both, kept-idle, given-idle}
 use Rattle.change.proofs.ahead.next_in.Statement.{statement}
 use Rattle.change.proofs.ahead.next_in.Tie as tie
@@ -25,7 +26,7 @@ returns-2 c =
     (λ j z. ⊎-elim
     (⊎-elim inl (λ y. inr (inl (y ∙ sym (ap not (ne-eqb _ 2 (c .before .before .if1 .left)))))))
     (λ y. inr (inr (c .if2 .taken, y)))
-    (given-idle (a .plan) j z))
+    (given-idle (planIn (a .plan .now)) j z))
 
 next-low-requires : tie.Need-next-low-requires
 next-low-requires c κs =
@@ -38,7 +39,7 @@ returns-3 c =
     let a = h .before .before .args in
     ahead-as (ahead-both (h .next-high .ensures) (c .next-low .ensures))
     (λ j z. ⊎-elim inl (λ y. inr (inl (y ∙ sym (ap not (ne-eqb _ 2 (h .before .if1 .left))))))
-    (kept-idle (a .plan) j (z .0) (z .1)))
+    (kept-idle (planIn (a .plan .now)) j (z .0) (z .1)))
 
 pub next-in-spec : {M : Type 1} → statement M
 next-in-spec =

@@ -4,6 +4,7 @@ use Prim.Native.Nat.{_+_}
 use mathlib.Core.Path.{_≡_, ap}
 use native.Mathlib.Omega.{arith}
 use borrow.Author.Needs.{needs}
+use Rattle.plan.specs.Plan.{planIn}
 use Rattle.change.specs.declared.Work.the-variants.{Change}
 use Rattle.change.specs.Runs.{Run, Stands}
 use Rattle.change.proofs.AheadLaws.{few-words, at-plain}
@@ -14,8 +15,8 @@ use Rattle.change.proofs.ahead.next_in_row.Tie as tie
 abbrev Inv-loop : tie.InvT-loop
 Inv-loop pool shape plan phase past count plain left₀ word₀ left word =
     (word .0 + left ≡ past .0)
-    × ((u : Run shape (Change plan)) → Stands shape (Change plan) u phase (word₀ .0) pool
-    → Stands shape (Change plan) u phase (word .0) pool)
+    × ((u : Run shape (Change (planIn plan))) → Stands shape (Change (planIn plan)) u phase (word₀ .0) pool
+    → Stands shape (Change (planIn plan)) u phase (word .0) pool)
 
 abbrev μ-loop : tie.MeasureT-loop
 μ-loop pool shape plan phase past count plain left₀ word₀ left word = left
@@ -49,9 +50,9 @@ loop-holds c =
 -- The loop begins past the words that are plain.
 begins : (c : tie.At-loop Inv-loop μ-loop) → let f = c .before .before in
     let a = f .before .before .before .before .before .before .args in
-    (u : Run (a .shape) (Change (a .plan))) → Stands (a .shape) (Change (a .plan)) u (a .at .phase) (a .at .word .0)
-    (a .pool .now)
-    → Stands (a .shape) (Change (a .plan)) u (a .at .phase) (c .loop .word .0) (a .pool .now)
+    let w = Change (planIn (a .plan .now)) in
+    (u : Run (a .shape) w) → Stands (a .shape) w u (a .at .phase) (a .at .word .0) (a .pool .now)
+    → Stands (a .shape) w u (a .at .phase) (c .loop .word .0) (a .pool .now)
 begins c u y =
     let e = ap (λ w. w .0) (c .before .word-after .ensures) in
     c .loop .inv .1 u (rw e (at-plain (c .before .before .plain-words .ensures) y))

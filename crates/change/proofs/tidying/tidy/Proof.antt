@@ -67,7 +67,7 @@ slice-aggregate-make-stores c = search needs
 
 make-stores-requires : tie.Need-make-stores-requires
 make-stores-requires c κs =
-    let e = c .before .before .before .before .before .before in
+    let e = c .before .before .before .before .before .before .before in
     let fits = fits-at (e .before .before .before .before .before) in (
       tidy-ready _ _ fits (sound-at e),
       owners-begin fits
@@ -79,7 +79,7 @@ same-length-3 c = search needs
 
 returns-4 : tie.Need-returns-4
 returns-4 c =
-    let e = c .before .before .before .before .before .before .before .before .before in
+    let e = c .before .before .before .before .before .before .before .before .before .before in
     tidy-answers (fits-at (e .before .before .before .before .before)) (sound-at e)
     (c .before .before .make-stores .ensures)
 

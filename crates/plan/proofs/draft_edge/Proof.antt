@@ -1,4 +1,4 @@
--- `plan::edge_at` meets its contract.
+-- `plan::draft_edge` meets its contract.
 use Prim.Native.Nat.{suc, _*_, _<_}
 use mathlib.Core.Path.{sym, subst, ap, _∙_}
 use native.Mathlib.Omega.{arith}
@@ -7,10 +7,11 @@ use borrow.Author.Needs.{needs}
 use Rattle.theory.specs.Pool.{words}
 use Rattle.table.specs.Map.{block}
 use Rattle.targets.specs.Targets.{painted, targetOf, entryBlocks, Gives, Readable}
+use Rattle.plan.specs.Plan.{putEdge}
 use Rattle.plan.specs.Edges.{edgeFor}
 use Rattle.plan.proofs.DraftLaws.{entry-blocks, old-readable, old-gives}
-use Rattle.plan.proofs.edge_at.Statement.{statement}
-use Rattle.plan.proofs.edge_at.Tie as tie
+use Rattle.plan.proofs.draft_edge.Statement.{statement}
+use Rattle.plan.proofs.draft_edge.Tie as tie
 
 old-entry-requires : tie.Need-old-entry-requires
 old-entry-requires c κs = search needs
@@ -36,23 +37,34 @@ entry-target-requires c κs =
 edge-of-requires : tie.Need-edge-of-requires
 edge-of-requires c κs = search needs
 
+put-edge-requires : tie.Need-put-edge-requires
+put-edge-requires c κs = search needs
+
 returns : tie.Need-returns
 returns c = λ R g.
-    let o = c .before .before in
+    let k = c .before .before in
+    let o = k .before .before in
     let s = o .before .before in
     let a = s .args in
     let P = words (a .pool .now) in
     let z = add-one (a .height) in
     let e = o .old-entry .ensures in
-    c .edge-of .ensures
-    ∙ ap (edgeFor (a .n) (o .old-entry .result)) (c .before .entry-target .ensures R
+    c .put-edge .ensures ∙ ap (putEdge (a .plan .now) (a .i)) (k .edge-of .ensures
+    ∙ ap (edgeFor (a .n) (o .old-entry .result)) (k .before .entry-target .ensures R
     (subst (λ h. Gives P h (o .old-entry .result) (a .n) R) (sym z)
     (subst (λ x. Gives P (suc (a .height)) x (a .n) R) (sym e)
     (old-gives (a .pool .now) (a .height) (a .domain) (a .n) (s .pre .1 .0) (s .pre .1 .2) R g))))
     ∙ ap (λ h. edgeFor (a .n) (o .old-entry .result) (targetOf (painted (a .paint) R) h (a .n * block h))) z
-    ∙ ap (λ x. edgeFor (a .n) x (targetOf (painted (a .paint) R) (suc (a .height)) (a .n * block (suc (a .height))))) e
+    ∙ ap (λ x. edgeFor (a .n) x (targetOf (painted (a .paint) R) (suc (a .height)) (a .n * block (suc (a .height)))))
+    e)
 
-pub edge-at-spec : {M : Type 1} → statement M
-edge-at-spec =
+pub draft-edge-spec : {M : Type 1} → statement M
+draft-edge-spec =
     tie.close
-    (tie.spec old-entry-requires add-entry-target entry-target-requires edge-of-requires returns)
+    (tie.spec
+    old-entry-requires
+    add-entry-target
+    entry-target-requires
+    edge-of-requires
+    put-edge-requires
+    returns)
