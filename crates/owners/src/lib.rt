@@ -1,7 +1,8 @@
 // Who may hand out rights: owned regions in lent words, which are never copied, and changes by callers whom they allow.
 ghost use mathlib.Core.Path.{_≡_};
-ghost use Rattle.owners.specs.Calls.{outcome, makeOf, passOf, giveOf};
+ghost use Rattle.owners.specs.Calls.{outcome, askedOf, makeOf, passOf, giveOf};
 ghost use Rattle.owners.specs.Changes.{ChangesBy};
+ghost use Rattle.owners.specs.Reach.{LeaveIs};
 use change::Answer;
 use table::Shape;
 use words::ByteAddr;
@@ -48,6 +49,12 @@ pub enum Act {
 pub enum Asking {
     Same,
     Meeting,
+}
+
+// Whether a caller may have a change made; if not, the number of the refusal.
+pub enum Leave {
+    Given,
+    Refused(u32),
 }
 
 // The number of the region that a memory word lies in (the count for none), and the first word for which that is not
@@ -106,6 +113,34 @@ pub fn give_export(
     calls::call(act, domains, regions, caller, receiver, start, length)
 }
 
+// Whether a caller may ask for a change: its region is in order and every word that it covers allows it. What this
+// needs is given back before the change begins, which needs most of the stack.
+fn leave_of(
+    fits: bool,
+    regions: &[u32],
+    domains: u32,
+    caller: u32,
+    domain: u32,
+    right: u32,
+    start: ByteAddr,
+    length: u32,
+) -> Leave
+    ensures { λ r. ⌜ LeaveIs (now (regions .entry)) caller domain right
+        (askedOf fits (now (regions .entry)) domains caller domain right (start .0) length) r ⌝ }
+{
+    let asked = calls::ask(fits, regions, domains, caller, domain, right, start, length);
+    match asked {
+        Rounded::Refused(k) => Leave::Refused(k),
+        Rounded::Covers(region) => {
+            let allowed = rules::allowed(regions, caller, domain, right, region);
+            if !allowed {
+                return Leave::Refused(19);
+            }
+            Leave::Given
+        }
+    }
+}
+
 // A change by a caller: refused 19 where a covered word does not allow it, else the change itself.
 pub fn change_by(
     pool: &mut [u32],
@@ -124,15 +159,9 @@ pub fn change_by(
     let n = pool.len();
     let fits = table::shape_fits(shape, n);
     let domains = shape.domains;
-    let asked = calls::ask(fits, regions, domains, caller, domain, right, start, length);
-    match asked {
-        Rounded::Refused(k) => Answer::Refused(k),
-        Rounded::Covers(region) => {
-            let allowed = rules::allowed(regions, caller, domain, right, region);
-            if !allowed {
-                return Answer::Refused(19);
-            }
-            change::change(pool, shape, domain, start, length, right, allowance)
-        }
+    let leave = leave_of(fits, regions, domains, caller, domain, right, start, length);
+    match leave {
+        Leave::Refused(k) => Answer::Refused(k),
+        Leave::Given => change::change(pool, shape, domain, start, length, right, allowance),
     }
 }
