@@ -107,6 +107,34 @@
  * The proof is about the program's stores. That the compiled library leaves them single and in order is tested, not
  * proved: rust/stepping watches it instruction by instruction. A library compiled for another machine wants the same.
  *
+ * STACK, in bytes, of the library as it is compiled for x86-64: the most that a call takes, its arguments that are
+ * passed on the stack and its return address included.
+ *
+ *   gol_fresh               24
+ *   gol_change             936
+ *   gol_change_by        1,000
+ *   gol_tidy               976
+ *   gol_lookup              40
+ *   gol_list               984
+ *   gol_check              136
+ *   gol_flush_all           24
+ *   gol_flush_domain         8
+ *   gol_flush_region        32
+ *   gol_set_switch_gate      8
+ *   gol_set_return_gate      8
+ *   gol_remove_gate          8
+ *   gol_step               104
+ *   gol_make_region         32
+ *   gol_pass_region         24
+ *   gol_give_export         88
+ *
+ * It takes no other memory than its stack and what is lent. The figures are measured, not proved: rust/stack makes the
+ * calls on a painted stack, with full pools, deep tables and full states, and fails where one takes more than is said
+ * here, or than 1,024. memcpy and memset are the box's own; they are counted as an ordinary C library has them, which
+ * keeps nothing on the stack. A function that calls no other may use up to 128 bytes below the stack pointer, as the
+ * ABI of x86-64 lets it; they are counted. So what interrupts a call must not use its stack, or must leave these bytes
+ * alone. A library that is compiled for another machine takes other figures.
+ *
  * RECOVERY after a brown-out. A change, the supervisor's or a caller's, or a tidying may stop after any of its stores,
  * by its allowance or by a loss of power. The pool is then sound: each word has its old right or, where the change
  * covers it, its new one, and nothing else. After a reset, in this order:
