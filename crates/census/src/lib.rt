@@ -1,6 +1,8 @@
 // The census of a pool: whether it is sound, and which block's table stands at each place. A table is sound when each
 // of its entries is, and an entry is sound when it is eight rights or leads to a sound table one level down. No place
 // may have two owners.
+#![tactic(auto)]
+
 ghost use Rattle.std.specs.Prelude.{◌≡◌, ◌+◌, ◌-◌, ◌%◌, ◌≤◌, ◌<◌, length, replicate, true};
 ghost use Rattle.theory.specs.Pool.{words};
 ghost use Rattle.table.specs.Shape.{Fits, InRange, size};

@@ -1,4 +1,6 @@
 // Changes and tidyings: a plan in lent words, stores that each leave a safe pool, a cut wherever the allowance ends.
+#![tactic(auto)]
+
 ghost use Rattle.std.specs.Prelude.{◌≡◌, ℕ, ◌+◌, ◌-◌, ◌<◌, ◌≤◌, List, true, length, set};
 ghost use Rattle.table.specs.Shape.{Fits, InRange};
 ghost use Rattle.census.specs.Places.{max_places};

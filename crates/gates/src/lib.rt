@@ -1,5 +1,7 @@
 // Gates, the call stack and one fetch step: how a program passes from one domain into another and comes home. Gate set
 // and stack are worked on in the words that are lent for them.
+#![tactic(auto)]
+
 mod layout;
 mod places;
 mod steps;

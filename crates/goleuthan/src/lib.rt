@@ -1,5 +1,7 @@
 // The C face: the library's calls on numbers and slices, under plain names. A slice is a pointer and a length in
 // words. Results go into the lent words `out`, as many as fit; include/goleuthan.h says what a caller owes and gets.
+#![tactic(auto)]
+
 mod regions; // regions.rt: the calls on owned regions, and the change by a caller
 mod results; // results.rt: the result words of an answer
 mod shapes; // shapes.rt: the lent shape

@@ -2,6 +2,8 @@
 //
 // Bytes go through `feed` once, into a line of at most 60, and a whole line is read by `parse`. Both take any bytes,
 // and a line so far is any value of its type, so that a caller has nothing to show.
+#![tactic(auto)]
+
 ghost use Rattle.std.specs.Prelude.{◌≡◌, drop};
 ghost use Rattle.lines.specs.Forms.{is_digit, parse_of};
 ghost use Rattle.lines.specs.Inner.{number_at, words_from, four_numbers};

@@ -1,6 +1,8 @@
 // The listing of rights: by domain and then address, each longest run of one right other than none, written into
 // words that the caller lends. It goes down one level at a time, with the open run passed and returned, and in an entry
 // from stretch to stretch.
+#![tactic(auto)]
+
 ghost use Rattle.std.specs.Prelude.{◌≡◌, ◌+◌, ◌*◌, ◌%◌, ◌<◌, ◌≤◌, length};
 ghost use Rattle.theory.specs.Pool.{words, SoundPool};
 ghost use Rattle.table.specs.declared.Shape.{Shape};

@@ -1,5 +1,7 @@
 // Checks of loads, stores and fetches through a lookaside buffer, and the buffer's flushes. The buffer is worked on in
 // the words that are lent for it.
+#![tactic(auto)]
+
 ghost use Rattle.std.specs.Prelude.{◌≡◌, ◌<◌, ◌%◌, true};
 ghost use Rattle.table.specs.Lookup.{lookup_of};
 ghost use Rattle.lookaside.specs.declared.Slot.{Slot};

@@ -1,4 +1,6 @@
 // Who may hand out rights: owned regions in lent words, which are never copied, and changes by callers whom they allow.
+#![tactic(auto)]
+
 ghost use Rattle.std.specs.Prelude.{◌≡◌};
 ghost use Rattle.owners.specs.Calls.{outcome, asked_of, make_of, pass_of, give_of};
 ghost use Rattle.owners.specs.Changes.{ChangesBy};

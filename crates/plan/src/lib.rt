@@ -1,6 +1,8 @@
 // The plan of a change, in lent words: the edges of the region, what they come to, and places for their new tables.
 // A height here is that of the tables that may stand for a block: 0 for pages, which may have leaves, 1 for blocks of
 // 4 MB, which may have middle tables.
+#![tactic(auto)]
+
 ghost use Rattle.std.specs.Prelude.{◌≡◌, ℕ, ◌+◌, ◌*◌, ◌<◌, ◌≤◌, length};
 ghost use Rattle.theory.specs.Pool.{words};
 ghost use Rattle.theory.specs.Settled.{Settled};

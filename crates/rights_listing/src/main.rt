@@ -4,6 +4,8 @@
 // No contract can say what is read or written, so the work is done on slices: `serving` answers the lines of a chunk,
 // `pages` writes the listing a page at a time, `text` writes numbers. What is left here reads, hands over and writes.
 // Where it must stop before the end, it says why on standard error.
+#![tactic(auto)]
+
 mod pages;
 mod serving;
 mod text;

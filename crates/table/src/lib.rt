@@ -1,4 +1,6 @@
 // The table: the shape of a pool, what its entries say, making it fresh, and the lookup of one word.
+#![tactic(auto)]
+
 ghost use Rattle.std.specs.Prelude.{◌≡◌, ◌+◌, ◌*◌, ◌<◌, ◌≤◌, length, replicate};
 ghost use Rattle.theory.specs.Pool.{words};
 ghost use Rattle.theory.specs.Walk.{walk};

@@ -1,4 +1,6 @@
 // Whether a page (4 KB) or a block (4 MB) can be said with eight rights, once a region is painted with a right.
+#![tactic(auto)]
+
 ghost use Rattle.std.specs.Prelude.{◌≡◌, true, ℕ, suc, ◌+◌, ◌*◌, ◌/◌, ◌%◌, ◌<◌, ◌≤◌, length};
 ghost use Rattle.theory.specs.Pool.{words};
 ghost use Rattle.words.specs.Rights.{pack};

@@ -1,5 +1,7 @@
 // What the rest is counted in: memory bytes and pool words kept apart, rights inside a 32-bit word, and regions
 // rounded to memory words.
+#![tactic(auto)]
+
 ghost use Rattle.std.specs.Prelude.{◌≡◌, true, ◌+◌, ◌/◌, ◌<◌, ◌≤◌, length};
 ghost use Rattle.words.specs.Rights.{right_at, eight_of, sixteen_of, good_rights};
 ghost use Rattle.words.specs.Region.{rounded_length, region_of};
