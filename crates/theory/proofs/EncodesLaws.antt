@@ -61,7 +61,7 @@ module _ (F : Form) (L : Lawful F) (E : Exact F) (want : ℕ → ℕ → ℕ →
   gets_visits h d a bd ba hi g = comes_from (F.top - h) h d a bd ba (omega arith) g
 
   -- .. and nowhere else.
-  pub visits_gets : {m j : ℕ} (d a : ℕ) → d < F.domains → a < F.span → Visits F Q a F.top (entry F d a) m j
+  pub visits_gets : (d a : ℕ) {m j : ℕ} → d < F.domains → a < F.span → Visits F Q a F.top (entry F d a) m j
       → Gets F want m d a × (j ≡ at m d a)
   visits_gets d a bd ba here = (gets_top F want d a, sym (top_spot d a bd ba))
   visits_gets d a bd ba (next {m} {j} v l) =

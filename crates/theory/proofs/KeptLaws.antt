@@ -38,7 +38,7 @@ module _ (F : Form) (L : Lawful F) {P Q : ℕ → ℕ} (s : SoundPool F P) {h k 
       (sym x.2 ∙ q)).0 in
       rw z e)
   below (step {m = m} {j = j} i r f b) (down {m = n} {j = o} i' b' e' f' g') p q =
-      below r b' (ap suc p) (step_back F L s i i' (sym p) (through F (kept_reach F c) l r) f b (kept_reach F b') f' g'
+      below {m = suc m} r b' (ap suc p) (step_back F L s i i' (sym p) (through F (kept_reach F c) l r) f b (kept_reach F b') f' g'
       q).0
 
   pub hangs_not_kept : {m j : ℕ} → Reach F P (Table F h (F.target (suc h) (P k))) m j → (n : ℕ) → Kept F P Q n j → ⊥

@@ -15,23 +15,23 @@ pub use stretches::{Stretch, stretch_at};
 pub const BIT_31: u32 = 0x8000_0000;
 
 // A byte address of the memory that the table protects.
-#[derive(Drop)]
+#[derive(Clone, Copy)]
 pub struct ByteAddr(pub u32);
 
 // The number of a word of the pool. It has a type of its own, so that the compiler refuses it where an address is
 // wanted.
-#[derive(Drop)]
+#[derive(Clone, Copy)]
 pub struct PoolWord(pub usize);
 
 // The memory words `lo ≤ w < hi`; memory word `w` is the four bytes from `4 * w` on.
-#[derive(Drop)]
+#[derive(Clone, Copy)]
 pub struct Region {
     pub lo: u32,
     pub hi: u32,
 }
 
 // A region as it is asked for: the words that it covers, or the number of the refusal.
-#[derive(Drop)]
+#[derive(Clone, Copy)]
 pub enum Rounded {
     Covers(Region),
     Refused(u32),

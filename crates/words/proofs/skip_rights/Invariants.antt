@@ -1,0 +1,18 @@
+-- `words::skip_rights` meets its contract. The loop's invariant: the words passed are eight rights. Assumes nothing.
+use Prim.Native.Nat.{◌+◌, ◌-◌, ◌≤◌}
+use mathlib.Core.Path.{◌≡◌, sym, ap, ◌∙◌}
+use native.Mathlib.Omega.{arith}
+use borrow.Author.Rules.{rules}
+use borrow.Author.Tests.{not-false, not-true}
+use lib.ListN.{length, get_or}
+use Rattle.words.specs.Rights.{good_rights}
+use Rattle.words.specs.Passing.{Passed}
+use Rattle.words.proofs.PassingLaws.{passed_more, passed_join}
+use Rattle.words.proofs.skip_rights.Given as goal
+
+abbrev pub invariant-loop-n : goal.invariant-loop-n
+invariant-loop-n l = (l.n ≤ l.count) × (l.first + l.count ≤ length l.pool)
+    × Passed l.pool l.first (l.first + l.n)
+
+abbrev pub decreases-loop-n : goal.decreases-loop-n
+decreases-loop-n l = l.count - l.n

@@ -1,0 +1,39 @@
+-- `words::stretches::stretch_at` meets its contract. Assumes nothing.
+use Prim.Native.Nat.{ℕ, ◌-◌, ◌*◌, ◌/◌, ◌%◌, ◌^◌, ◌≤◌, ◌<◌}
+use mathlib.Core.Path.{◌≡◌, refl, ◌∙◌}
+use native.Mathlib.Omega.{arith}
+use native.Mathlib.Nat.{one-mul, le_trans}
+use borrow.Author.Rules.{rules}
+use lib.Pow.{pow_pos, shl_exact}
+use lib.Count.{leading_le, trailing_le}
+use Rattle.words.proofs.TurnLaws.{stretch_found}
+use Rattle.words.proofs.stretches.stretch_at.Goals as goal
+
+-- The divisor: the shift loses no bit.
+divisor : (i parts : ℕ) → i < parts → parts ≤ 16 → 1 * 2 ^ (2 * i) % 4294967296 ≡ 2 ^ (2 * i)
+divisor i parts h k = shl_exact 1 (2 * i) 32 (omega arith) (omega arith) ∙ one-mul (2 ^ (2 * i))
+
+pub overflow_sub-first : goal.overflow_sub-first
+overflow_sub-first c = let t = c.turns_in-turns.result in
+    le_trans (leading_le 32 (t % (1 * 2 ^ (2 * c.args.i) % 4294967296))) (omega arith)
+
+pub overflow_add-last : goal.overflow_add-last
+overflow_add-last c = omega (arith, trailing_le 32 (c.turns_in-turns.result / 2 ^ (2 * c.args.i)))
+
+pub returns-then-last-parts : goal.returns-then-last-parts
+returns-then-last-parts c = let (a, b) = c.requires in
+    rw (divisor c.args.i c.args.parts a b) (
+      c.right_at-right.ensures,
+      stretch_found c.args.w c.turns_in-turns.result c.args.parts c.args.i
+          c.turns_in-turns.ensures a b
+          (c.args.parts - 1) (omega arith) (omega arith) (omega (arith, c.if-last-parts.true)) (λ h. absurd (omega arith)),
+    )
+
+pub returns-else-last-parts : goal.returns-else-last-parts
+returns-else-last-parts c = let (a, b) = c.requires in
+    rw (divisor c.args.i c.args.parts a b) (
+      c.right_at-right.ensures,
+      stretch_found c.args.w c.turns_in-turns.result c.args.parts c.args.i
+          c.turns_in-turns.ensures a b
+          _ (omega arith) (omega (arith, c.if-last-parts.false)) (omega arith) (λ h. refl),
+    )
