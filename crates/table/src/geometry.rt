@@ -88,7 +88,7 @@ pub fn part_entries(below: u32) -> u32
 
 // All of these of one height: the entries of a table, the rights of an entry, and the memory words that one of them and
 // that all of them cover.
-#[derive(Drop)]
+#[derive(Clone, Copy)]
 pub struct Level {
     pub entries: u32,
     pub parts: u32,

@@ -40,7 +40,7 @@ pub const STORE: u32 = 1;
 pub const FETCH: u32 = 2;
 
 // How many roots, middle places and leaf places the pool has: D, M and L.
-#[derive(Drop)]
+#[derive(Clone, Copy)]
 pub struct Shape {
     pub domains: u32,
     pub middles: u32,
@@ -49,7 +49,7 @@ pub struct Shape {
 
 // What an entry says: it is rights; or it leads to the table that begins at a pool word, in the place of a number; or
 // it is bad.
-#[derive(Drop)]
+#[derive(Clone, Copy)]
 pub enum Entry {
     Rights(u32),
     Leads(PoolWord, usize),
@@ -57,27 +57,27 @@ pub enum Entry {
 }
 
 // A word of the pool that a walk has read, and how many it has read with it.
-#[derive(Drop)]
+#[derive(Clone, Copy)]
 pub struct Loaded {
     pub word: u32,
     pub loads: u32,
 }
 
-#[derive(Drop)]
+#[derive(Clone, Copy)]
 pub enum Made {
     Done,
     Refused(u32),
 }
 
 // The right that a walk finds, the entry that decides it, and how many words were read.
-#[derive(Drop)]
+#[derive(Clone, Copy)]
 pub struct Decided {
     pub right: u32,
     pub entry: u32,
     pub loads: u32,
 }
 
-#[derive(Drop)]
+#[derive(Clone, Copy)]
 pub enum Walked {
     By(Decided),
     Refused(u32),
@@ -85,7 +85,7 @@ pub enum Walked {
 
 // What a lookup answers: the same, and the first and the last byte of the stretch that has this right, inside the
 // entry's block.
-#[derive(Drop)]
+#[derive(Clone, Copy)]
 pub struct Deciding {
     pub right: u32,
     pub entry: u32,
@@ -94,7 +94,7 @@ pub struct Deciding {
     pub last: ByteAddr,
 }
 
-#[derive(Drop)]
+#[derive(Clone, Copy)]
 pub enum Found {
     By(Deciding),
     Refused(u32),

@@ -1,0 +1,24 @@
+-- `table::walk_down` meets its contract. The loop's invariant: what is left of the walk ends as the whole does, the
+-- word that it stands at lies in the pool, and the loads made are the levels passed.
+use Prim.Native.Nat.{◌+◌, ◌*◌, ◌-◌, ◌≤◌, ◌<◌}
+use mathlib.Core.Path.{◌≡◌, refl, sym, ap, ◌∙◌}
+use native.Mathlib.Omega.{arith}
+use borrow.Author.Rules.{rules}
+use lib.ListN.{length}
+use Rattle.theory.specs.Pool.{words}
+use Rattle.theory.specs.Walk.{walk}
+use Rattle.theory.proofs.WalkLaws.{walk_refused, walk_stops}
+use Rattle.table.specs.Map.{index, form_of}
+use Rattle.table.specs.Entries.{decode_of}
+use Rattle.table.specs.Lookup.{found_at, without_reach}
+use Rattle.table.proofs.EntryLaws.{part_below, index_below, bad_above, decoded_bad, decoded_any_rights}
+use Rattle.table.proofs.LookupLaws.{GoesOn, goes_on}
+use Rattle.table.proofs.walk_down.Given as goal
+
+abbrev pub invariant-loop-r : goal.invariant-loop-r
+invariant-loop-r l = (l.height ≤ 2) × (l.loads + l.height ≡ 2) × (l.at.0 < length l.pool)
+    × (walk (form_of l.shape) (words l.pool) l.address.0 l.height l.at.0
+    ≡ walk (form_of l.shape) (words l.pool) l.address.0 2 (1024 * l.domain + index 2 l.address.0))
+
+abbrev pub decreases-loop-r : goal.decreases-loop-r
+decreases-loop-r l = l.height
