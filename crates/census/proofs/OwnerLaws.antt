@@ -74,6 +74,6 @@ module _ (p : List ℕ) (s : Shape) (fits : Fits s (length p)) (q : SoundPool (f
         rw e at y.block,
         rw e at y.table,
         sym (ap (λ v. (v - first_place s h) / size h) z
-            ∙ Old.place-number s h c),
+            ∙ Old.place_number s h c),
       ))
       (own.stands (first_number h + c) x.below)

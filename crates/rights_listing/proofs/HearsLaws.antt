@@ -110,7 +110,7 @@ module _ {p₀ p : List ℕ} {t : LineSoFar} {turns : ℕ} (g : Hearing p₀ t p
   -- No more could be read.
   pub hearing_not_read : {r : Heard} {q : List ℕ} → HearsOnce t p r q → r.came ≡ NotRead → HearsAll p₀ NoInput q
   hearing_not_read serves.nothing e = absurd (never (cc))
-  hearing_not_read serves.not_read e = serves.no-input g.heard
+  hearing_not_read serves.not_read e = serves.no_input g.heard
   hearing_not_read (serves.not_written s k) e = absurd (never (cc))
   hearing_not_read (serves.chunk s k) e = absurd (never (cc))
 

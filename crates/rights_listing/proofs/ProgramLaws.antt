@@ -63,10 +63,10 @@ good_fresh = record {
 -- a change leaves one,
 good_change : {p q : List ℕ} {d start len r : ℕ} {a : Answer} → Good p → Changes p whole d start len r suffices a q
     → Good q
-good_change g (answers.no-shape f) = g
-good_change g (answers.no-domain f h) = g
-good_change g (answers.no-right f h k) = g
-good_change g (answers.no-region f h k m z) = g
+good_change g (answers.no_shape f) = g
+good_change g (answers.no_domain f h) = g
+good_change g (answers.no_right f h k) = g
+good_change g (answers.no_region f h k m z) = g
 good_change g (answers.in_order x o (answers.unsound u)) = g
 good_change g (answers.in_order x o (answers.unsettled u v)) = g
 good_change g (answers.in_order x o (answers.no_room u v)) = g

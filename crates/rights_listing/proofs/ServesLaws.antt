@@ -34,10 +34,10 @@ differing_most (x ∷ p) (y ∷ q) = go (eqb x y) (differing_most p q)
 -- The allowance suffices: no change is cut.
 pub never_cut : {p q : List ℕ} {d start len r : ℕ} {a : Answer} → a ≡ Cut
     → Changes p whole d start len r suffices a q → ⊥
-never_cut e (answers.no-shape f) = refused_cut e
-never_cut e (answers.no-domain f h) = refused_cut e
-never_cut e (answers.no-right f h g) = refused_cut e
-never_cut e (answers.no-region f h g k z) = refused_cut e
+never_cut e (answers.no_shape f) = refused_cut e
+never_cut e (answers.no_domain f h) = refused_cut e
+never_cut e (answers.no_right f h g) = refused_cut e
+never_cut e (answers.no_region f h g k z) = refused_cut e
 never_cut e (answers.in_order g o (answers.unsound u)) = refused_cut e
 never_cut e (answers.in_order g o (answers.unsettled u v)) = refused_cut e
 never_cut e (answers.in_order g o (answers.no_room u v)) = refused_cut e
@@ -61,10 +61,10 @@ serves_none e = rw e not_of_form
 -- No refusal has the number 0.
 refused_some : {p q : List ℕ} {d start len r n k : ℕ} {a : Answer} → a ≡ Refused k
     → Changes p whole d start len r n a q → 0 < k
-refused_some e (answers.no-shape f) = let z = same_number e in omega arith
-refused_some e (answers.no-domain f h) = let z = same_number e in omega arith
-refused_some e (answers.no-right f h g) = let z = same_number e in omega arith
-refused_some {start = start} {len = len} e (answers.no-region f h g k z) =
+refused_some e (answers.no_shape f) = let z = same_number e in omega arith
+refused_some e (answers.no_domain f h) = let z = same_number e in omega arith
+refused_some e (answers.no_right f h g) = let z = same_number e in omega arith
+refused_some {start = start} {len = len} e (answers.no_region f h g k z) =
     let x = same_number e in
     ⊎_elim (λ y. omega arith) (λ y. omega arith) (region_number start len k z)
 refused_some e (answers.in_order g o (answers.unsound u)) = let z = same_number e in omega arith

@@ -45,7 +45,7 @@ module _ (P : ℕ → ℕ) (R : ℕ → ℕ) (e n : ℕ) where
   virtual_gives page l q g a p =
       let o = right_at e (page / 128 % 8) in
       let any-shape : Shape = record { domains = 1; middles = 0; leaves = 0 } in
-      let b : leads 1 (eight_of o) ≡ false = (FormLaws.eight-good any-shape 0 (eight_of o) (omega arith)
+      let b : leads 1 (eight_of o) ≡ false = (FormLaws.eight_good any-shape 0 (eight_of o) (omega arith)
       (eight_good o (right_small e _))).1 in
       let x : a / 524288 % 8 ≡ page / 128 % 8 = omega arith in
       g a (omega arith) ∙ given_rights P 2 e a l ∙ ap (right_at e) x

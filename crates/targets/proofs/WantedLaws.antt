@@ -158,13 +158,13 @@ module _ (p : List ℕ) (s : Shape) (fits : Fits s (length p)) (q : SoundPool (f
         rw (e, was_owner p s fits q o own h hi i b x) at (w _ (omega arith) c t)
 
     pub wanted_settled : WantedFrom p s o 0 → Settled (form_of s) (words p)
-    wanted_settled w = Exists.wanted-settled s q (λ h hi i b x. old_wanted w h i hi b x)
+    wanted_settled w = Exists.wanted_settled s q (λ h hi i b x. old_wanted w h i hi b x)
 
     -- .. and only there.
     pub settled_wanted : Settled (form_of s) (words p) → WantedFrom p s o 0
     settled_wanted z m a b t = ⊎_elim
         (λ e. absurd (true≢false (sym t ∙ ap not (eq-eqb (get_or o m 0) none e))))
-        (λ x. sym (Exists.settled-table s (λ d a bd ba. refl)
+        (λ x. sym (Exists.settled_table s (λ d a bd ba. refl)
         (λ d bd. pool_rights s (words p) d) z (place_height m) (get_or o m 0)
         (place_low s m) x.block) ∙ x.table)
         (own.stands m b)
