@@ -18,7 +18,7 @@ pub use wanted::settled;
 use words::PoolWord;
 
 // The memory words `lo ≤ w < hi` get the right.
-#[derive(Drop)]
+#[derive(Clone, Copy)]
 pub struct Paint {
     pub lo: u32,
     pub hi: u32,
@@ -26,7 +26,7 @@ pub struct Paint {
 }
 
 // What the entry of a page or a block should be: eight rights; or a pointer, since some sub-block has two rights.
-#[derive(Drop)]
+#[derive(Clone, Copy)]
 pub enum Target {
     Says(u32),
     Mixed,
@@ -40,7 +40,7 @@ pub const UNPAINTED: Paint = Paint {
 };
 
 // How a region meets a stretch of memory words: it has none of them, some, or all.
-#[derive(Drop)]
+#[derive(Clone, Copy)]
 enum Cover {
     Apart,
     Partly,
@@ -48,14 +48,14 @@ enum Cover {
 }
 
 // Whether a stretch of memory words has one right.
-#[derive(Drop)]
+#[derive(Clone, Copy)]
 enum One {
     Right(u32),
     Two,
 }
 
 // What the entry of a block should be, as far as it is known without a search of its sub-blocks.
-#[derive(Drop)]
+#[derive(Clone, Copy)]
 enum Told {
     Known(u32),
     Unknown,

@@ -5,8 +5,7 @@ use borrow.Author.Rules.{rules}
 use Rattle.targets.specs.declared.Paint.{Paint}
 use Rattle.targets.specs.Steps.{Half}
 use Rattle.targets.proofs.PaintLaws.{inside_is, inside_low, inside_high, inside_none}
-use Rattle.targets.proofs.meeting.Statement.{statement}
-use Rattle.targets.proofs.meeting.Tie as tie
+use Rattle.targets.proofs.meeting.Goals as goal
 
 below_edge : (p : Paint) (s n : ℕ) → s < p.lo → p.lo < p.hi → p.lo < s + n → Half p s n
 below_edge p s n a b d = record {
@@ -28,26 +27,20 @@ above_edge p s n a b d = record {
   miss_is = inside_high p (s + (p.hi - s)) (omega arith);
 }
 
-add-end : tie.Need-overflow-add-end
-add-end c = search rules
+pub returns-then-hi-lo : goal.returns-then-hi-lo
+returns-then-hi-lo c = λ j h. inside_none _ _ c.if-hi-lo.true
 
-returns : tie.Need-returns
-returns c = λ j h. inside_none _ _ c.if1.true
+pub returns-then-hi-s : goal.returns-then-hi-s
+returns-then-hi-s c = λ j h. inside_high _ _ (omega arith)
 
-returns-2 : tie.Need-returns-2
-returns-2 c = λ j h. inside_high _ _ (omega arith)
+pub returns-then-end-lo : goal.returns-then-end-lo
+returns-then-end-lo c = λ j h. inside_low _ _ (omega arith)
 
-returns-3 : tie.Need-returns-3
-returns-3 c = λ j h. inside_low _ _ (omega arith)
+pub returns-then-s-lo : goal.returns-then-s-lo
+returns-then-s-lo c = below_edge _ _ _ (omega arith) (omega arith) (omega arith)
 
-returns-4 : tie.Need-returns-4
-returns-4 c = below_edge _ _ _ (omega arith) (omega arith) (omega arith)
+pub returns-then-hi-end : goal.returns-then-hi-end
+returns-then-hi-end c = above_edge _ _ _ (omega arith) (omega arith) (omega arith)
 
-returns-5 : tie.Need-returns-5
-returns-5 c = above_edge _ _ _ (omega arith) (omega arith) (omega arith)
-
-returns-6 : tie.Need-returns-6
-returns-6 c = λ j h. inside_is _ _ (omega arith) (omega arith)
-
-pub meeting-spec : {M : Type 1} → statement M
-meeting-spec = tie.close (tie.spec add-end returns returns-2 returns-3 returns-4 returns-5 returns-6)
+pub returns : goal.returns
+returns c = λ j h. inside_is _ _ (omega arith) (omega arith)
