@@ -33,7 +33,7 @@ const NO_PLACE: u32 = 0xFFFF_FFFF;
 
 // A block or a page at an end of the region: its number in the domain, the entry that it had, and the entry that it
 // will have. Of a page in a block of eight rights the old entry is the eight rights that stand for it.
-#[derive(Drop)]
+#[derive(Clone, Copy)]
 pub struct Edge {
     pub number: u32,
     pub old: u32,
@@ -41,7 +41,7 @@ pub struct Edge {
 }
 
 // The edges of one height. Where the region begins and ends in one block, they are one.
-#[derive(Drop)]
+#[derive(Clone, Copy)]
 pub struct Ends {
     pub first: Edge,
     pub last: Edge,
@@ -49,7 +49,7 @@ pub struct Ends {
 
 // All that the stores of a change need to know: what the words of a plan say. The blocks and pages between the two
 // edges are covered whole; those outside stay.
-#[derive(Drop)]
+#[derive(Clone, Copy)]
 pub struct Plan {
     pub domain: u32,
     pub paint: Paint,

@@ -1,0 +1,41 @@
+-- `plan::draft_edge` meets its contract.
+use Prim.Native.Nat.{suc, ◌*◌, ◌<◌}
+use mathlib.Core.Path.{sym, subst, ap, ◌∙◌}
+use native.Mathlib.Omega.{arith}
+use native.Mathlib.Numerals.{add-one}
+use borrow.Author.Rules.{rules}
+use Rattle.theory.specs.Pool.{words}
+use Rattle.table.specs.Map.{block}
+use Rattle.targets.specs.Targets.{painted, target_of, entry_blocks, Gives, Readable}
+use Rattle.plan.specs.Plan.{put_edge}
+use Rattle.plan.specs.Edges.{edge_for}
+use Rattle.plan.proofs.DraftLaws.{entry_blocks_lem, old_readable, old_gives}
+use Rattle.plan.proofs.draft_edge.Goals as goal
+
+pub entry_target-target-requires : goal.entry_target-target-requires
+entry_target-target-requires c = let a = c.args in
+    let z = sym (add-one a.height) in record {
+      readable = subst (λ h. Readable a.pool.now h c.old_entry-old.result) z
+          (subst (Readable a.pool.now (suc a.height)) (sym c.old_entry-old.ensures)
+          (old_readable a.pool.now a.height a.domain a.n c.requires.height_lt_heights.0 c.requires.height_lt_heights.2 c.requires.readable_root));
+      height_bound = (
+        omega arith,
+        subst (λ h. a.n < entry_blocks h) z (rw (entry_blocks_lem a.height c.requires.height_lt_heights.0) c.requires.height_lt_heights.2),
+        c.requires.height_lt_heights.3,
+      );
+    }
+
+pub returns : goal.returns
+returns c = λ R g.
+    let a = c.args in
+    let P = words a.pool.now in
+    let z = add-one a.height in
+    let e = c.old_entry-old.ensures in
+    c.put_edge.ensures ∙ ap (put_edge a.plan.now a.i) (c.edge_of-edge.ensures
+    ∙ ap (edge_for a.n c.old_entry-old.result) (c.entry_target-target.ensures R
+    (subst (λ h. Gives P h c.old_entry-old.result a.n R) (sym z)
+    (subst (λ x. Gives P (suc a.height) x a.n R) (sym e)
+    (old_gives a.pool.now a.height a.domain a.n c.requires.height_lt_heights.0 c.requires.height_lt_heights.2 R g))))
+    ∙ ap (λ h. edge_for a.n c.old_entry-old.result (target_of (painted a.paint R) h (a.n * block h))) z
+    ∙ ap (λ x. edge_for a.n x (target_of (painted a.paint R) (suc a.height) (a.n * block (suc a.height))))
+    e)

@@ -1,0 +1,7 @@
+-- `plan::layout::copy_edge` meets its contract.
+use borrow.Author.Rules.{rules}
+use Rattle.plan.proofs.LayoutLaws.{copy_put}
+use Rattle.plan.proofs.layout.copy_edge.Goals as goal
+
+pub returns : goal.returns
+returns c = copy_put c.args.plan.now c.args.i c.args.j c.requires.0

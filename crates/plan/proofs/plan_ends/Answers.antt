@@ -1,0 +1,219 @@
+-- `plan::plan_ends` meets its contract.
+use Prim.Native.Nat.{ℕ, zero, suc, ◌+◌, ◌-◌, ◌/◌, ◌≤◌, ◌<◌}
+use mathlib.Core.Path.{◌≡◌, refl, sym, subst, ap, ◌∙◌}
+use mathlib.Core.Logic.{◌≢◌}
+use mathlib.Core.Bool.{Bool, true, false}
+use mathlib.Core.List.{List}
+use native.Mathlib.Omega.{arith}
+use native.Mathlib.Numerals.{add-one}
+use lib.ListN.{length}
+use borrow.Author.Rules.{rules}
+use borrow.Author.Tests.{not-true, not-false}
+use Rattle.theory.specs.Pool.{words, right_of}
+use Rattle.table.specs.declared.Shape.{Shape}
+use Rattle.table.specs.Map.{block, form_of}
+use Rattle.plan.specs.declared.Edge.{Edge}
+use Rattle.plan.specs.Plan.{plan_words, edge_word, edge_in, put_edge}
+use Rattle.plan.specs.Planning.{Regular, first_of, last_of}
+use Rattle.targets.specs.declared.Paint.{Paint}
+use Rattle.places.specs.Count.{heights}
+use Rattle.plan.specs.Edges.{edge_at, Taken, At, taken_by, TakesPlace}
+use Rattle.plan.proofs.MeetLaws.{end_below}
+use Rattle.plan.proofs.DraftLaws.{words_bytes, pool_root, pool_gives}
+use Rattle.plan.proofs.GiveLaws.{taken_low, found_at, found_none}
+use Rattle.plan.proofs.LayoutLaws.{length_put, last_after, first_low}
+use Rattle.plan.proofs.EndsLaws.{one_planned, first_full, two_planned}
+use Rattle.plan.proofs.plan_ends.Goals as goal
+
+some : (h : ℕ) → 0 < block (suc h) / 4
+some zero = omega arith
+some (suc h) = omega arith
+
+-- How many memory words the blocks have.
+module _ (h : ℕ) {m : ℕ} (e : m ≡ block (h + 1) / 4) where
+  long : m ≡ block (suc h) / 4
+  long = e ∙ ap (λ k. block k / 4) (add-one h)
+
+  few : 0 < m
+  few = let z = some h in let x = long in omega arith
+
+  -- The ends of the region, in blocks.
+  module _ (p : Paint) (r : Regular p) (b : h < heights) where
+    begins : p.lo / m ≡ first_of h p
+    begins = ap (λ n. p.lo / n) long ∙ sym (words_bytes p r h b).0
+
+    ends : (p.hi - 1) / m ≡ last_of h p
+    ends = ap (λ n. (p.hi - 1) / n) long ∙ sym (words_bytes p r h b).1
+
+-- Where the words of the edges begin.
+module _ (h : ℕ) {f l : ℕ} (x : f ≡ edge_word h true) (y : l ≡ edge_word h false) where
+  follows : f + 3 ≡ l
+  follows = let g = last_after h in omega arith
+
+  lies : f ≤ 10
+  lies = let g = (first_low h).1 in omega arith
+
+  -- The first edge is stored once more, where the last edge has its words.
+  copied : (m : List ℕ) {n : List ℕ} → n ≡ put_edge m l (edge_in m f)
+      → n ≡ put_edge m (edge_word h false) (edge_in m (edge_word h true))
+  copied m e = e ∙ ap (λ i. put_edge m i (edge_in m f)) y ∙ ap (λ i. put_edge m (edge_word h false) (edge_in m i)) x
+
+-- An edge is drafted: said of the word and the block that are told.
+drafted : (edge : ℕ → Edge) (l : List ℕ) {m : List ℕ} {i j n o : ℕ} → i ≡ j → n ≡ o → m ≡ put_edge l i (edge n)
+    → m ≡ put_edge l j (edge o)
+drafted edge l {j = j} {n = n} x y e = e ∙ ap (λ k. put_edge l k (edge n)) x ∙ ap (λ k. put_edge l j (edge k)) y
+
+still_long : (l : List ℕ) {m : List ℕ} (i : ℕ) (e : Edge) → m ≡ put_edge l i e → length l ≡ plan_words
+    → length m ≡ plan_words
+still_long l i e x y = ap length x ∙ length_put l i e ∙ y
+
+-- A place is taken at the words that are told, with the answer that is told.
+takes_as : {f : ℕ → Bool} {c : ℕ} {z : Shape} {h i j : ℕ} {l m : List ℕ} {r q : Taken} → i ≡ j → r ≡ q
+    → TakesPlace f c z h i l m r
+    → TakesPlace f c z h j l m q
+takes_as {f} {c} {z} {h} {i} {j} {l} {m} {r} {q} x y t =
+    subst (λ k. TakesPlace f c z h k l m q) x (subst (TakesPlace f c z h i l m) y t)
+
+pub nonzero_div-begin : goal.nonzero_div-begin
+nonzero_div-begin c = few c.args.height c.block_words-long.ensures
+
+pub nonzero_div-end : goal.nonzero_div-end
+nonzero_div-end c = few c.args.height c.block_words-long.ensures
+
+pub draft_edge-requires : goal.draft_edge-requires
+draft_edge-requires c =
+    let a = c.args in
+    let (low, domain, r) = c.requires.height_lt_heights in
+    let z = lies c.args.height c.edge_index-f.ensures c.edge_index-l.ensures in
+    let domains = c.requires.fits.range in
+    let n = end_below a.paint r a.height low true in
+    record {
+      readable_root = pool_root a.shape a.pool.now a.domain c.requires.fits c.requires.settled domain;
+      height_lt_heights = (low, omega arith, rw (begins c.args.height c.block_words-long.ensures a.paint r low) n, r.right, omega arith);
+    }
+
+pub copy_edge-requires : goal.copy_edge-requires
+copy_edge-requires c =
+    let x = follows c.args.height c.edge_index-f.ensures c.edge_index-l.ensures in
+    let y = lies c.args.height c.edge_index-f.ensures c.edge_index-l.ensures in
+    (omega arith, omega arith)
+
+pub take_place-only-requires : goal.take_place-only-requires
+take_place-only-requires c =
+    let z = lies c.args.height c.edge_index-f.ensures c.edge_index-l.ensures in
+    let d = c.draft_edge.ensures _ (pool_gives c.args.shape (words c.args.pool.now) c.args.domain) in
+    record {
+      owners_len = c.requires.owners.long;
+      in_range = c.requires.fits.range;
+      from_bound = (omega arith, omega arith);
+      plan_len = still_long _ _ _ c.copy_edge.ensures (still_long _ _ _ d c.requires.plan_len);
+    }
+
+pub copy_edge-requires-then-begin-end : goal.copy_edge-requires-then-begin-end
+copy_edge-requires-then-begin-end c =
+    let x = follows c.args.height c.edge_index-f.ensures c.edge_index-l.ensures in
+    let y = lies c.args.height c.edge_index-f.ensures c.edge_index-l.ensures in
+    (omega arith, omega arith)
+
+-- Both edges are one.
+pub returns-then-begin-end : goal.returns-then-begin-end
+returns-then-begin-end c =
+    let a = c.args in
+    let P = words a.pool.now in
+    let edge : ℕ → Edge = edge_at P a.domain a.paint (right_of (form_of a.shape) P a.domain) a.height in
+    let pre = c.requires in
+    let (low, domain, r) = pre.height_lt_heights in
+    let f = c.edge_index-f.ensures in
+    let l = c.edge_index-l.ensures in
+    let b = begins c.args.height c.block_words-long.ensures a.paint r low in
+    let e = ends c.args.height c.block_words-long.ensures a.paint r low in
+    rw c.has_place.ensures (
+    one_planned a.pool.now a.shape a.owners.now a.domain a.paint pre.fits pre.settled pre.owners domain r a.height low
+    a.plan.now c.draft_edge.new.plan pre.plan_len
+    (drafted edge a.plan.now f b (c.draft_edge.ensures _ (pool_gives a.shape (words a.pool.now) a.domain)))
+    c.copy_edge.new.plan c.take_place-only.new.plan c.copy_edge-then-begin-end.new.plan
+    (sym b ∙ c.if-begin-end.true ∙ e)
+    (copied a.height f l c.draft_edge.new.plan c.copy_edge.ensures)
+    (taken_by c.take_place-only.result)
+    (takes_as f refl c.take_place-only.ensures)
+    (copied a.height f l c.take_place-only.new.plan c.copy_edge-then-begin-end.ensures))
+
+pub draft_edge-requires-2 : goal.draft_edge-requires-2
+draft_edge-requires-2 c =
+    let a = c.args in
+    let (low, domain, r) = c.requires.height_lt_heights in
+    let y = follows c.args.height c.edge_index-f.ensures c.edge_index-l.ensures in
+    let z = lies c.args.height c.edge_index-f.ensures c.edge_index-l.ensures in
+    let domains = c.requires.fits.range in
+    let n = end_below a.paint r a.height low false in
+    record {
+      readable_root = pool_root a.shape a.pool.now a.domain c.requires.fits c.requires.settled domain;
+      height_lt_heights = (low, omega arith, rw (ends c.args.height c.block_words-long.ensures a.paint r low) n, r.right, omega arith);
+    }
+
+pub take_place-one-requires : goal.take_place-one-requires
+take_place-one-requires c =
+    let z = lies c.args.height c.edge_index-f.ensures c.edge_index-l.ensures in
+    let g = pool_gives c.args.shape (words c.args.pool.now) c.args.domain in
+    record {
+      owners_len = c.requires.owners.long;
+      in_range = c.requires.fits.range;
+      from_bound = (omega arith, omega arith);
+      plan_len = still_long _ _ _ (c.draft_edge-2.ensures _ g)
+          (still_long _ _ _ (c.draft_edge.ensures _ g) c.requires.plan_len);
+    }
+
+pub returns-then-not-has_place : goal.returns-then-not-has_place
+returns-then-not-has_place c =
+    let a = c.args in
+    let P = words a.pool.now in
+    let edge : ℕ → Edge = edge_at P a.domain a.paint (right_of (form_of a.shape) P a.domain) a.height in
+    let pre = c.requires in
+    let (low, domain, r) = pre.height_lt_heights in
+    let f = c.edge_index-f.ensures in
+    let l = c.edge_index-l.ensures in
+    let b = begins c.args.height c.block_words-long.ensures a.paint r low in
+    let e = ends c.args.height c.block_words-long.ensures a.paint r low in
+    let g = pool_gives a.shape (words a.pool.now) a.domain in
+    first_full a.pool.now a.shape a.owners.now a.domain a.paint pre.fits pre.settled pre.owners domain r a.height low
+    a.plan.now c.draft_edge.new.plan pre.plan_len (drafted edge a.plan.now f b (c.draft_edge.ensures _ g)) _ _
+    (λ z. c.if-begin-end.false (b ∙ z ∙ sym e)) (drafted edge c.draft_edge.new.plan l e (c.draft_edge-2.ensures _ g))
+    (takes_as f (found_none c.take_place-one.result (sym c.has_place-2.ensures ∙ c.if-not-has_place.true))
+    c.take_place-one.ensures)
+
+pub take_place-two-requires : goal.take_place-two-requires
+take_place-two-requires c =
+    let y = follows c.args.height c.edge_index-f.ensures c.edge_index-l.ensures in
+    let z = lies c.args.height c.edge_index-f.ensures c.edge_index-l.ensures in
+    let g = pool_gives c.args.shape (words c.args.pool.now) c.args.domain in
+    let on = found_at _ (sym c.has_place-2.ensures ∙ c.if-not-has_place.false) in
+    let u = c.take_place-one.ensures in
+    record {
+      owners_len = c.requires.owners.long;
+      in_range = c.requires.fits.range;
+      from_bound = (taken_low (omega arith) (rw on at u.taken), omega arith);
+      plan_len = u.beside.long ∙ still_long _ _ _ (c.draft_edge-2.ensures _ g)
+          (still_long _ _ _ (c.draft_edge.ensures _ g) c.requires.plan_len);
+    }
+
+-- The last edge takes its place after the first.
+pub returns : goal.returns
+returns c =
+    let a = c.args in
+    let P = words a.pool.now in
+    let edge : ℕ → Edge = edge_at P a.domain a.paint (right_of (form_of a.shape) P a.domain) a.height in
+    let pre = c.requires in
+    let (low, domain, r) = pre.height_lt_heights in
+    let f = c.edge_index-f.ensures in
+    let l = c.edge_index-l.ensures in
+    let b = begins c.args.height c.block_words-long.ensures a.paint r low in
+    let e = ends c.args.height c.block_words-long.ensures a.paint r low in
+    let g = pool_gives a.shape (words a.pool.now) a.domain in
+    rw c.has_place-3.ensures (
+    two_planned a.pool.now a.shape a.owners.now a.domain a.paint pre.fits pre.settled pre.owners domain r a.height low
+    a.plan.now c.draft_edge.new.plan pre.plan_len (drafted edge a.plan.now f b (c.draft_edge.ensures _ g)) _ _
+    (λ z. c.if-begin-end.false (b ∙ z ∙ sym e)) (drafted edge c.draft_edge.new.plan l e (c.draft_edge-2.ensures _ g))
+    _ c.take_place-one.result
+    (takes_as f (found_at _ (sym c.has_place-2.ensures ∙ c.if-not-has_place.false)) c.take_place-one.ensures)
+    (taken_by c.take_place-two.result)
+    (takes_as l refl c.take_place-two.ensures))
