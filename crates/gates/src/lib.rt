@@ -34,14 +34,14 @@ const DEPTH: usize = 32;
 const CURRENT: usize = 33;
 
 // What a gate does: it switches to a destination domain, or it returns.
-#[derive(Drop)]
+#[derive(Clone, Copy)]
 pub enum Gate {
     Switch(u32),
     Return,
 }
 
 // A gate, with the domain and the address where it stands.
-#[derive(Drop)]
+#[derive(Clone, Copy)]
 pub struct GateAt {
     pub domain: u32,
     pub address: ByteAddr,
@@ -50,28 +50,28 @@ pub struct GateAt {
 
 // What the words of a gate set say. The gates held are the first `count`; a place past them keeps what it held and is
 // never looked at.
-#[derive(Drop)]
+#[derive(Clone, Copy)]
 pub struct Gates {
     pub places: [GateAt; 64],
     pub count: u32,
 }
 
 // Setting or removing a gate as contracts tell it: the number of the refusal, 0 for none, and the set afterwards.
-#[derive(Drop)]
+#[derive(Clone, Copy)]
 pub struct GatesSet {
     pub refusal: u32,
     pub gates: Gates,
 }
 
 // What stands at a domain and an address.
-#[derive(Drop)]
+#[derive(Clone, Copy)]
 pub enum Here {
     Nothing,
     Stands(Gate),
 }
 
 // Who called, and the address to return to.
-#[derive(Drop)]
+#[derive(Clone, Copy)]
 pub struct Frame {
     pub domain: u32,
     pub back: ByteAddr,
@@ -79,7 +79,7 @@ pub struct Frame {
 
 // What the words of a call stack say, with the current domain. The frames in use are the first `depth`; a popped one
 // keeps its words and is never looked at.
-#[derive(Drop)]
+#[derive(Clone, Copy)]
 pub struct CallStack {
     pub frames: [Frame; 16],
     pub depth: u32,
@@ -87,7 +87,7 @@ pub struct CallStack {
 }
 
 // What a step answers.
-#[derive(Drop)]
+#[derive(Clone, Copy)]
 pub enum Stepped {
     Pass,
     Deny,
@@ -95,7 +95,7 @@ pub enum Stepped {
 }
 
 // A step as contracts tell it: its answer, and the stack afterwards.
-#[derive(Drop)]
+#[derive(Clone, Copy)]
 pub struct Step {
     pub answer: Stepped,
     pub stack: CallStack,

@@ -28,7 +28,7 @@ pub const BUFFER_WORDS: usize = 257;
 const NEXT: usize = 256;
 
 // One entry that decided a lookup, for a domain and the block of a level (1 root, 2 middle, 3 leaf).
-#[derive(Drop)]
+#[derive(Clone, Copy)]
 pub struct Slot {
     pub domain: u32,
     pub level: u32,
@@ -37,14 +37,14 @@ pub struct Slot {
 }
 
 // What the words of a buffer say: the slots, and the one that the next fill takes.
-#[derive(Drop)]
+#[derive(Clone, Copy)]
 pub struct Buffer {
     pub slots: [Slot; 64],
     pub next: u32,
 }
 
 // What a check says: it passes or is denied, after as many loads; or it is refused, with its number.
-#[derive(Drop)]
+#[derive(Clone, Copy)]
 pub enum Verdict {
     Pass(u32),
     Deny(u32),
@@ -52,42 +52,42 @@ pub enum Verdict {
 }
 
 // A check as contracts tell it: what it says, and the buffer that its words then say.
-#[derive(Drop)]
+#[derive(Clone, Copy)]
 pub struct Checked {
     pub verdict: Verdict,
     pub buffer: Buffer,
 }
 
 // A flush as contracts tell it: its refusal, 0 for none, and the buffer that its words then say.
-#[derive(Drop)]
+#[derive(Clone, Copy)]
 pub struct Flushed {
     pub refusal: u32,
     pub buffer: Buffer,
 }
 
 // The slot that answers, if one does.
-#[derive(Drop)]
+#[derive(Clone, Copy)]
 pub enum Hit {
     At(Slot),
     Miss,
 }
 
 // What is to be done to the buffer: nothing, or a slot put at its pointer, which moves on.
-#[derive(Drop)]
+#[derive(Clone, Copy)]
 pub enum Fill {
     Keep,
     Put(Slot),
 }
 
 // What a check decides: its verdict, and what is to be done to the buffer.
-#[derive(Drop)]
+#[derive(Clone, Copy)]
 pub struct Ruling {
     pub verdict: Verdict,
     pub fill: Fill,
 }
 
 // What a flush empties: every slot, those of a domain, or those of a domain whose block meets a region.
-#[derive(Drop)]
+#[derive(Clone, Copy)]
 pub enum Flushing {
     Whole,
     OfDomain(u32),

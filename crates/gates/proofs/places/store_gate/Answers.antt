@@ -1,0 +1,7 @@
+-- `gates::places::store_gate` meets its contract. Assumes nothing.
+use Rattle.gates.proofs.LayoutLaws.{stored_words}
+use Rattle.gates.proofs.places.store_gate.Goals as goal
+
+pub returns : goal.returns
+returns c = rw c.put_gate.ensures (stored_words c.args.ws.now c.args.place c.args.g
+    c.args.count c.requires.0 c.requires.1)
