@@ -12,7 +12,7 @@ use table::{ROOT, Shape, TABLE_WORDS};
 use words::PoolWord;
 
 // The words from `from` up to `past`.
-#[derive(Drop)]
+#[derive(Clone, Copy)]
 pub struct Span {
     pub from: PoolWord,
     pub past: PoolWord,

@@ -1,7 +1,7 @@
 // Changes and tidyings: a plan in lent words, stores that each leave a safe pool, a cut wherever the allowance ends.
 #![tactic(auto)]
 
-ghost use Rattle.std.specs.Prelude.{◌≡◌, ℕ, ◌+◌, ◌-◌, ◌<◌, ◌≤◌, List, true, length, set};
+ghost use Rattle.std.specs.Prelude.{◌≡◌, ℕ, ◌+◌, ◌-◌, ◌<◌, ◌≤◌, List, true, length, length as list_length, set};
 ghost use Rattle.table.specs.Shape.{Fits, InRange};
 ghost use Rattle.census.specs.Places.{max_places};
 ghost use Rattle.places.specs.Count.{heights, blocks};
@@ -26,7 +26,7 @@ mod tidying; // tidying.rt: which store of a tidying does
 pub use tidying::tidy;
 
 // Done with the number of stores; cut by the allowance; or refused with the paper's number.
-#[derive(Drop)]
+#[derive(Clone, Copy)]
 pub enum Answer {
     Done(u32),
     Cut,
@@ -35,7 +35,7 @@ pub enum Answer {
 
 // What is to be made, for the contracts, since the code is told a bool and lent the plan's words: a change, by its
 // plan; or a tidying, which is the change of the empty region.
-#[derive(Drop)]
+#[derive(Clone, Copy)]
 pub enum Work {
     Change(Plan),
     Tidying,
@@ -43,7 +43,7 @@ pub enum Work {
 
 // Where a run stands: the phase, and in it the word. The words from there up to `past` are a row, to be looked at one
 // by one.
-#[derive(Drop)]
+#[derive(Clone, Copy)]
 pub struct Cursor {
     pub phase: u32,
     pub word: PoolWord,
@@ -57,14 +57,14 @@ const START: Cursor = Cursor {
 };
 
 // The next store: where, what, and where the run goes on; or there is none.
-#[derive(Drop)]
+#[derive(Clone, Copy)]
 pub enum Next {
     Store(PoolWord, u32, Cursor),
     None,
 }
 
 // A request that is refused with the paper's number, or planned: its plan is then in the words that were lent for it.
-#[derive(Drop)]
+#[derive(Clone, Copy)]
 pub enum Request {
     Refused(u32),
     Planned,
@@ -363,7 +363,7 @@ fn plan_request(
     right: u32,
     plan: &mut [u32; PLAN_WORDS],
 ) -> Request
-    requires* { do ⌜ (← ⟦owners.len()⟧) ≡ max_places ⌝ }
+    requires { list_length owners.old ≡ max_places }
     ensures { RequestIs pool.now shape domain start.0 length right (plan_in plan.new)
         result }
 {

@@ -1,0 +1,29 @@
+-- `change::of_new_table` meets its contract.
+use mathlib.Core.Path.{ap}
+use native.Mathlib.Omega.{arith}
+use borrow.Author.Rules.{rules}
+use borrow.Author.Tests.{lt-ltb, le-ltb}
+use Rattle.change.proofs.TableLaws.{wide}
+use Rattle.change.proofs.of_new_table.Goals as goal
+
+pub returns-then-last-ge-BIT_31 : goal.returns-then-last-ge-BIT_31
+returns-then-last-ge-BIT_31 c = simp (le-ltb c.args.edge.last 2147483648 c.if-last-ge-BIT_31.true)
+
+pub returns-then-old-lt-BIT_31 : goal.returns-then-old-lt-BIT_31
+returns-then-old-lt-BIT_31 c = let e = c.args.edge in
+    simp (lt-ltb e.last 2147483648 c.if-last-ge-BIT_31.false, lt-ltb e.old 2147483648 c.if-old-lt-BIT_31.true)
+
+pub in_table-requires : goal.in_table-requires
+in_table-requires c = let e = ap (λ w. w.0) c.pool_word-begin.ensures in
+    let z = wide c.args.height in
+    let y = c.size_of-size.ensures in
+    omega (arith, c.if-last-ge-BIT_31.false)
+
+pub returns : goal.returns
+returns c = let e = c.args.edge in
+    let z = ap (λ w. w.0) c.pool_word-begin.ensures in
+    rw (
+      lt-ltb e.last 2147483648 c.if-last-ge-BIT_31.false,
+      le-ltb e.old 2147483648 c.if-old-lt-BIT_31.false,
+    )
+    (rw (z, c.size_of-size.ensures) at c.in_table.ensures)

@@ -1,0 +1,13 @@
+-- `change::put` meets its contract.
+use mathlib.Core.Path.{refl}
+use Rattle.plan.specs.Aims.{aim_of}
+use Rattle.change.proofs.CutLaws.{put_cuts}
+use borrow.Author.Rules.{rules}
+use Rattle.change.proofs.put.Goals as goal
+
+pub bounds-pool-i : goal.bounds-pool-i
+bounds-pool-i c = rw c.pool_index-i.ensures c.requires.inside
+
+pub returns : goal.returns
+returns c = let a = c.args in
+    rw c.pool_index-i.ensures record { stored = refl; cut = put_cuts a.shape (aim_of a.domain a.paint) c.requires }
