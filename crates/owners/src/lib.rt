@@ -32,7 +32,7 @@ const EXPORT_DOMAINS: u32 = 16;
 
 // A region as its five words say it: the memory words `lo ≤ w < hi`. Bit k of `given` tells whether domain k has an
 // export, of the right in bits 2k+1 and 2k of `rights`.
-#[derive(Drop)]
+#[derive(Clone, Copy)]
 pub struct Owned {
     pub owner: u32,
     pub lo: u32,
@@ -42,7 +42,7 @@ pub struct Owned {
 }
 
 // What a call on the list is to do with the region that it names.
-#[derive(Drop)]
+#[derive(Clone, Copy)]
 pub enum Act {
     Make,
     Pass,
@@ -50,14 +50,14 @@ pub enum Act {
 }
 
 // What is asked of a region held, beside one that a call names: whether it is of the same words, or shares one.
-#[derive(Drop)]
+#[derive(Clone, Copy)]
 pub enum Asking {
     Same,
     Meeting,
 }
 
 // Whether a caller may have a change made; if not, the number of the refusal.
-#[derive(Drop)]
+#[derive(Clone, Copy)]
 pub enum Leave {
     Given,
     Refused(u32),
@@ -65,7 +65,7 @@ pub enum Leave {
 
 // The number of the region that a memory word lies in (the count for none), and the first word for which that is not
 // known.
-#[derive(Drop)]
+#[derive(Clone, Copy)]
 pub struct Reach {
     pub place: usize,
     pub until: u32,

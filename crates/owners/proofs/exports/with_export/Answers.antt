@@ -1,0 +1,6 @@
+-- `owners::exports::with_export` meets its contract.
+use borrow.Author.Rules.{rules}
+use Rattle.owners.proofs.exports.with_export.Goals as goal
+
+pub returns : goal.returns
+returns c = rw (c.with_bit-given.ensures, c.with_right-rights.ensures)

@@ -1,0 +1,18 @@
+-- `owners::rules::reach_from` meets its contract. The invariant: none of the regions below `i` holds a word of the
+-- stretch so far.
+use Prim.Native.Nat.{◌+◌, ◌-◌, ◌≤◌, ◌<◌}
+use mathlib.Core.Path.{◌≡◌, ap, ◌∙◌}
+use mathlib.Core.Logic.{⊎_elim}
+use native.Mathlib.Omega.{arith}
+use borrow.Author.Rules.{rules}
+use Rattle.owners.specs.declared.Owned.{Owned}
+use Rattle.owners.specs.Regions.{region_at, count_of}
+use Rattle.owners.specs.Calls.{lesser}
+use Rattle.owners.proofs.ReachLaws.{Free, free_below, free_above, lesser_above, reach_hit, reach_none}
+use Rattle.owners.proofs.rules.reach_from.Given as goal
+
+abbrev pub invariant-loop-i : goal.invariant-loop-i
+invariant-loop-i l = (l.i ≤ count_of l.ws) × (l.w < l.until) × Free l.ws l.w l.until l.i
+
+abbrev pub decreases-loop-i : goal.decreases-loop-i
+decreases-loop-i l = count_of l.ws - l.i
