@@ -24,7 +24,7 @@ use words::PoolWord;
 const MEMORY_WORDS: u32 = 0x4000_0000;
 
 // The memory words `first ≤ w < past` of a domain, which have one right.
-#[derive(Drop)]
+#[derive(Clone, Copy)]
 pub struct Run {
     pub domain: u32,
     pub first: u32,
@@ -34,7 +34,7 @@ pub struct Run {
 
 // The open run, the number of the first that the caller wants, and how many were closed before it: in this order there
 // is no gap in what is passed and returned.
-#[derive(Drop)]
+#[derive(Clone, Copy)]
 pub struct Open {
     pub domain: u32,
     pub right: u32,
@@ -44,7 +44,7 @@ pub struct Open {
 }
 
 // How many runs there are in all; or the number of the refusal.
-#[derive(Drop)]
+#[derive(Clone, Copy)]
 pub enum Listed {
     Runs(usize),
     Refused(u32),
