@@ -43,7 +43,7 @@ module _ (M L : ℕ) {n : ℕ} (few : n ≤ M) (most : M ≤ 8) {X : ℕ → ℕ
       ∙ rw x (eight_good (shape M L) 0 (X j) (omega arith) (o.middle j y z)).1)))
       at
 
-  visits_at : (a : ℕ) {m j : ℕ} (d : ℕ) → d < 1 → Visits F X a 2 (entry F d a) m j → At m j
+  visits_at : (a d : ℕ) {m j : ℕ} → d < 1 → Visits F X a 2 (entry F d a) m j → At m j
   visits_at a d bd here = inl (refl, omega arith)
   visits_at a d bd (next {m} {j} v l) =
       let (x, y) = leads_first (suc m) j (visits_at a d bd v) l in
