@@ -28,7 +28,7 @@ use Rattle.plan.specs.declared.Edge.{Edge}
 use Rattle.plan.specs.declared.Ends.{Ends}
 use Rattle.plan.specs.Plan.{is_new}
 use Rattle.plan.specs.Aims.{aim_of, aimed_at}
-use Rattle.plan.specs.Edges.{entry_at, EdgeIs, EndsPlaced, EndsAre, Takes, Taken, At, None, taken_by, found}
+use Rattle.plan.specs.Edges.{entry_at, EdgeIs, EndsPlaced, EndsAre, Takes, At, None, taken_by, found}
 use Rattle.plan.specs.Edges.{TakenIs}
 use Rattle.plan.proofs.Giving.{Told, GivesOut}
 use Rattle.plan.proofs.OldEntryLaws.{old_leads}

@@ -2,7 +2,6 @@
 use mathlib.Core.Path.{ap}
 use Rattle.words.specs.declared.ByteAddr.{ByteAddr}
 use Rattle.goleuthan.proofs.CallLaws.{check_no_shape, check_no_buffer, check_made}
-use borrow.Author.Rules.{rules}
 use Rattle.goleuthan.proofs.gol_check.Goals as goal
 
 pub returns-then-shape-ne-SHAPE_WORDS : goal.returns-then-shape-ne-SHAPE_WORDS

@@ -1,7 +1,6 @@
 -- `goleuthan::gol_flush_all` meets its contract. Assumes nothing.
 use Rattle.lookaside.specs.Flushes.{flushed_whole}
 use Rattle.goleuthan.proofs.CallLaws.{flush_wrong, flush_made}
-use borrow.Author.Rules.{rules}
 use Rattle.goleuthan.proofs.gol_flush_all.Goals as goal
 
 pub returns-then-buffer-ne-BUFFER_WORDS : goal.returns-then-buffer-ne-BUFFER_WORDS

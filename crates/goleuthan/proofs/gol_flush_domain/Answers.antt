@@ -1,7 +1,6 @@
 -- `goleuthan::gol_flush_domain` meets its contract. Assumes nothing.
 use Rattle.lookaside.specs.Flushes.{flushed_domain}
 use Rattle.goleuthan.proofs.CallLaws.{flush_wrong, flush_made}
-use borrow.Author.Rules.{rules}
 use Rattle.goleuthan.proofs.gol_flush_domain.Goals as goal
 
 pub returns-then-buffer-ne-BUFFER_WORDS : goal.returns-then-buffer-ne-BUFFER_WORDS

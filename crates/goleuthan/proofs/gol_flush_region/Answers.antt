@@ -3,7 +3,6 @@ use mathlib.Core.Path.{ap}
 use Rattle.words.specs.declared.ByteAddr.{ByteAddr}
 use Rattle.lookaside.specs.Flushes.{flushed_region}
 use Rattle.goleuthan.proofs.CallLaws.{flush_wrong, flush_made}
-use borrow.Author.Rules.{rules}
 use Rattle.goleuthan.proofs.gol_flush_region.Goals as goal
 
 pub returns-then-buffer-ne-BUFFER_WORDS : goal.returns-then-buffer-ne-BUFFER_WORDS

@@ -1,7 +1,6 @@
 -- `goleuthan::gol_remove_gate` meets its contract. Assumes nothing.
 use Rattle.gates.specs.Gates.{remove_of}
 use Rattle.goleuthan.proofs.CallLaws.{gates_wrong, gates_made}
-use borrow.Author.Rules.{rules}
 use Rattle.goleuthan.proofs.gol_remove_gate.Goals as goal
 
 pub returns-then-gates-ne-GATES_WORDS : goal.returns-then-gates-ne-GATES_WORDS

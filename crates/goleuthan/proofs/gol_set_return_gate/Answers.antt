@@ -2,7 +2,6 @@
 use Rattle.gates.specs.declared.Gate.TheVariants.{Return}
 use Rattle.gates.specs.Gates.{set_of}
 use Rattle.goleuthan.proofs.CallLaws.{gates_wrong, gates_made}
-use borrow.Author.Rules.{rules}
 use Rattle.goleuthan.proofs.gol_set_return_gate.Goals as goal
 
 pub returns-then-gates-ne-GATES_WORDS : goal.returns-then-gates-ne-GATES_WORDS

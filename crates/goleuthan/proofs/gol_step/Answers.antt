@@ -1,6 +1,5 @@
 -- `goleuthan::gol_step` meets its contract. Assumes nothing.
 use Rattle.goleuthan.proofs.CallLaws.{step_no_shape, step_no_gates, step_no_stack, step_made}
-use borrow.Author.Rules.{rules}
 use Rattle.goleuthan.proofs.gol_step.Goals as goal
 
 pub returns-then-shape-ne-SHAPE_WORDS : goal.returns-then-shape-ne-SHAPE_WORDS

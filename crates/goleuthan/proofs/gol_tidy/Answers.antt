@@ -1,6 +1,5 @@
 -- `goleuthan::gol_tidy` meets its contract. Assumes nothing.
 use Rattle.goleuthan.specs.Calls.{wrong_length_lem, shaped}
-use borrow.Author.Rules.{rules}
 use Rattle.goleuthan.proofs.gol_tidy.Goals as goal
 
 pub returns-then-shape-ne-SHAPE_WORDS : goal.returns-then-shape-ne-SHAPE_WORDS

@@ -6,7 +6,6 @@ use mathlib.Core.Bool.{true, ◌&&◌, not, and-false}
 use native.Mathlib.Omega.{arith}
 use native.Mathlib.Decide.{ℕ_discrete}
 use native.Mathlib.Nat.{mul-le-mul}
-use borrow.Author.Rules.{rules}
 use borrow.Author.Tests.{lt-ltb, le-ltb}
 use Rattle.table.specs.declared.Shape.{Shape}
 use Rattle.table.specs.Shape.{InRange, first_place, places, size}
@@ -14,7 +13,6 @@ use Rattle.table.specs.Map.{leads}
 use Rattle.census.specs.Places.{max_places, first_number}
 use Rattle.plan.specs.declared.Edge.{Edge}
 use Rattle.plan.specs.Plan.{edge_in, is_new}
-use Rattle.plan.specs.Edges.{TakenIs}
 use Rattle.plan.proofs.GiveLaws.{taken_at}
 use Rattle.plan.proofs.LayoutLaws.{beside_none, beside_set, edge_set}
 use Rattle.plan.proofs.take_place.Goals as goal

@@ -2,7 +2,6 @@
 use mathlib.Core.Path.{ap}
 use Rattle.words.specs.declared.ByteAddr.{ByteAddr}
 use Rattle.goleuthan.specs.Calls.{wrong_length_lem, shaped}
-use borrow.Author.Rules.{rules}
 use Rattle.goleuthan.proofs.regions.gol_change_by.Goals as goal
 
 pub returns-then-shape-ne-SHAPE_WORDS : goal.returns-then-shape-ne-SHAPE_WORDS

@@ -1,5 +1,4 @@
 -- `goleuthan::regions::gol_give_export` meets its contract. Assumes nothing.
-use borrow.Author.Rules.{rules}
 use Rattle.goleuthan.proofs.regions.gol_give_export.Goals as goal
 
 pub returns : goal.returns

@@ -1,5 +1,4 @@
 -- `goleuthan::regions::gol_pass_region` meets its contract. Assumes nothing.
-use borrow.Author.Rules.{rules}
 use Rattle.goleuthan.proofs.regions.gol_pass_region.Goals as goal
 
 pub returns : goal.returns

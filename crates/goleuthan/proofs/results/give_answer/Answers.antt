@@ -1,6 +1,5 @@
 -- `goleuthan::results::give_answer` meets its contract. Assumes nothing.
 use mathlib.Core.Path.{refl}
-use borrow.Author.Rules.{rules}
 use Rattle.goleuthan.proofs.results.give_answer.Goals as goal
 
 pub returns-in-Done : goal.returns-in-Done

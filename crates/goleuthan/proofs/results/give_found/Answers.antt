@@ -1,6 +1,5 @@
 -- `goleuthan::results::give_found` meets its contract. Assumes nothing.
 use mathlib.Core.Path.{refl, ◌∙◌}
-use borrow.Author.Rules.{rules}
 use Rattle.goleuthan.proofs.results.give_found.Goals as goal
 
 pub returns-in-By : goal.returns-in-By

@@ -1,6 +1,5 @@
 -- `goleuthan::results::give_listed` meets its contract. Assumes nothing.
 use mathlib.Core.Path.{refl}
-use borrow.Author.Rules.{rules}
 use Rattle.goleuthan.proofs.results.give_listed.Goals as goal
 
 pub returns-in-Runs : goal.returns-in-Runs

@@ -1,6 +1,5 @@
 -- `goleuthan::results::give_step` meets its contract. Assumes nothing.
 use mathlib.Core.Path.{refl}
-use borrow.Author.Rules.{rules}
 use Rattle.goleuthan.proofs.results.give_step.Goals as goal
 
 pub returns-in-Pass : goal.returns-in-Pass

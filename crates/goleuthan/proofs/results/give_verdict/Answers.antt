@@ -1,6 +1,5 @@
 -- `goleuthan::results::give_verdict` meets its contract. Assumes nothing.
 use mathlib.Core.Path.{refl}
-use borrow.Author.Rules.{rules}
 use Rattle.goleuthan.proofs.results.give_verdict.Goals as goal
 
 pub returns-in-Pass : goal.returns-in-Pass

@@ -1,6 +1,5 @@
 -- `goleuthan::results::in_one_word` meets its contract. Assumes nothing.
 use borrow.Author.Tests.{le-leb, lt-leb}
-use borrow.Author.Rules.{rules}
 use Rattle.goleuthan.proofs.results.in_one_word.Goals as goal
 
 pub returns-then-n-le4294967295 : goal.returns-then-n-le4294967295

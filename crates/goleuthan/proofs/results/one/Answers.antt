@@ -1,7 +1,6 @@
 -- `goleuthan::results::one` meets its contract. Assumes nothing.
 use mathlib.Core.Path.{◌∙◌}
 use Rattle.goleuthan.proofs.OutLaws.{over_one}
-use borrow.Author.Rules.{rules}
 use Rattle.goleuthan.proofs.results.one.Goals as goal
 
 pub returns : goal.returns

@@ -1,6 +1,5 @@
 -- `goleuthan::results::two` meets its contract. Assumes nothing.
 use Rattle.goleuthan.proofs.OutLaws.{over_two}
-use borrow.Author.Rules.{rules}
 use Rattle.goleuthan.proofs.results.two.Goals as goal
 
 pub returns : goal.returns

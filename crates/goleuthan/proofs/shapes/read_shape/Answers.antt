@@ -1,5 +1,4 @@
 -- `goleuthan::shapes::read_shape` meets its contract. Assumes nothing.
-use borrow.Author.Rules.{rules}
 use Rattle.goleuthan.proofs.shapes.read_shape.Goals as goal
 
 pub returns : goal.returns
