@@ -181,7 +181,7 @@ module _ {s : Shape} {d : ℕ} {paint : Paint} {P : ℕ → ℕ} {h : ℕ} {f : 
       })
         where
           new : fresh W O (nth n) ≡ true
-          new = sym (new_is b t) ∙ k.is_new_lem
+          new = sym (new_is b t) ∙ k.makes_new
 
           below : k.place < M
           below = k.below

@@ -124,7 +124,7 @@ returns c = let n = c.next_free-place in
     let g = edge_set l a.i c.entry_of-pointer.result (omega arith) in
     record {
       taken = rw (taken_at (n.result + 1) (let y = room (goal.at.returns c).Else-place-count in omega arith)) (inr (record {
-        is_new_lem = new (goal.at.returns c).Else-old-lt-BIT_31;
+        makes_new = new (goal.at.returns c).Else-old-lt-BIT_31;
         place = n.result;
         first = rw m at n.ensures;
         below = rw m at (apart _ _ c.if-place-count.false n.ensures.high);
