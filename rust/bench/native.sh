@@ -9,7 +9,9 @@ root=$(cd "$(dirname "$0")/../.." && pwd)
 kit=$(dirname "$(dirname "$(readlink -f "$(command -v rt)")")")
 machine=$(uname -m)
 work=$root/target/native
-shadow=$work/kit
+aside=$(mktemp -d)
+trap 'rm -rf "$aside"' EXIT
+shadow=$aside/kit
 clang=$kit/toolchain/bin/clang
 
 # links_but SKIPPED FROM TO: a folder of links to all that a folder holds, but for one name.
@@ -21,6 +23,7 @@ links_but() {
 }
 
 rm -rf "$work"
+mkdir -p "$work"
 links_but toolchain "$kit" "$shadow"
 links_but bin "$kit/toolchain" "$shadow/toolchain"
 links_but clang "$kit/toolchain/bin" "$shadow/toolchain/bin"
@@ -42,5 +45,4 @@ rm -f "$library"
 "$clang" --target="$machine-unknown-linux-gnu" --no-default-config -ffunction-sections -fdata-sections -fPIC -O3 \
     -c -x ir "$work/module.bc" -o "$work/goleuthan.o" 2>"$work/warnings"
 "$kit/toolchain/bin/llvm-ar" rc "$work/libgoleuthan.a" "$work/goleuthan.o"
-rm -rf "$shadow" "$work/rattle-kept"
 echo "$work/libgoleuthan.a"
