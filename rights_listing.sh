@@ -16,50 +16,40 @@ if ! command -v rt > /dev/null; then
     exit 2
 fi
 log=$(mktemp)
-status=$(mktemp)
-trap 'rm -f "$log" "$status"' EXIT
+trap 'rm -f "$log"' EXIT
 
-# How many crates the program is made of: itself, and what it uses.
-many=$(awk -F: '
+# The crates that the program is made of, each after those that it uses, and the program last.
+crates=$(awk -F: '
     function add(name, used, n) {
         if (!(name in uses) || name in seen) return
         seen[name]
-        all++
         for (n = split(uses[name], used, " "); n > 0; n--) add(used[n])
     }
-    !/^#/ { uses[$1] = $2 }
-    END { add("rights_listing"); print all }' "$root/crates.txt")
+    !/^#/ { uses[$1] = $2; line[NR] = $1 }
+    END { add("rights_listing"); for (n = 1; n <= NR; n++) if (line[n] in seen) print line[n] }' "$root/crates.txt")
+many=$(echo "$crates" | wc -l)
 
-# Keeps what the check says in the log, and says which crates were proved now.
-follow() {
-    count=0
-    while IFS= read -r line; do
-        printf '%s\n' "$line" >> "$log"
-        case $line in
-        "rt: "*" proved (unchanged"*) count=$((count + 1)) ;;
-        "rt: "*" proved ("*)
-            count=$((count + 1))
-            name=${line#rt: }
-            echo "proved $count of $many: ${name%% *}" >&2
-            ;;
-        esac
-    done
-}
-
-if [ ! -f "$root/target/bin/rights_listing" ]; then
+program=$root/crates/rights_listing/out/rights_listing
+if [ ! -f "$program" ]; then
     echo "Proving and building; this takes some minutes the first time." >&2
 fi
-{
-    ended=0
-    (cd "$root" && rt check rights_listing) < /dev/null 2>&1 || ended=$?
-    echo "$ended" > "$status"
-} | follow
-if [ "$(cat "$status")" != 0 ]; then
-    cat "$log" >&2
-    exit 1
-fi
+count=0
+for name in $crates; do
+    count=$((count + 1))
+    # a library is built, and the program too, which is then run once on nothing
+    made=lib
+    [ "$name" != rights_listing ] || made=run
+    if ! (cd "$root/crates/$name" && rt $made) < /dev/null > "$log" 2>&1; then
+        cat "$log" >&2
+        exit 1
+    fi
+    # the toolchain says this where it proved a crate now
+    if grep -q '^logic=proved' "$log"; then
+        echo "proved $count of $many: $name" >&2
+    fi
+done
 if [ $# -eq 1 ]; then
-    sh "$root/scripts/run.sh" "$root/target/bin/rights_listing" < "$1"
+    sh "$root/scripts/run.sh" "$program" < "$1"
 else
-    sh "$root/scripts/run.sh" "$root/target/bin/rights_listing"
+    sh "$root/scripts/run.sh" "$program"
 fi

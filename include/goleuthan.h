@@ -6,7 +6,7 @@
  * library keeps nothing between calls, allocates nothing, and calls nothing but memcpy and memset. Every call returns,
  * whatever the numbers are and whatever the words hold. Each is proved to do what is said here.
  *
- * BUILDING. `rt staticlib goleuthan` proves the library and writes target/staticlib/libgoleuthan.a, for x86-64.
+ * BUILDING. `rt lib` in crates/goleuthan proves the library and writes out/libgoleuthan.a there, for x86-64.
  *
  * POINTERS. A lent memory is a pointer and a length, counted in words of four bytes. The pointer is not NULL, is a
  * multiple of 4, and its words are the caller's to lend: readable, and for a pointer that is not const writable, for

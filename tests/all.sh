@@ -1,7 +1,7 @@
 #!/usr/bin/env bash
 # All tests: the proof of every listed crate with its must-fail edits and programs (rt ci), then the tests of other
 # kinds, each with the seconds that it took. The last line counts them all, 'N passed, M failed'; the exit status is 0
-# only where nothing failed.
+# only where nothing failed. A must-fail edit that cannot be applied or read is a failure, though rt ci only says so.
 set -u
 cd "$(dirname "$0")/.." || exit 1
 log=$(mktemp) || exit 1
@@ -33,6 +33,10 @@ run() {
 }
 
 run rt ci
+if grep -q '^rt: ok.*, [1-9][0-9]* bad' "$log"; then
+    echo "all.sh: 'rt ci' met bad must-fail edits"
+    failed=$((failed + 1))
+fi
 run bash tests/units.sh
 run bash tests/stores.sh
 run bash tests/papers.sh

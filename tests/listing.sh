@@ -20,7 +20,7 @@ count() {
 
 # listing: runs the program on standard input.
 listing() {
-    sh scripts/run.sh target/bin/rights_listing
+    sh scripts/run.sh crates/rights_listing/out/rights_listing
 }
 
 # compare NAME INPUT EXPECTED: the output is the expected one, and nothing is said on standard error.
@@ -36,8 +36,10 @@ says() {
     count "$1" $? "it says '$(cat "$work/err")'"
 }
 
-if [ ! -f target/bin/rights_listing ]; then
-    rt check rights_listing > "$work/check" 2>&1 || { cat "$work/check"; echo "listing: 0 passed, 1 failed"; exit 1; }
+if ! (cd crates/rights_listing && rt run) < /dev/null > "$work/run" 2>&1; then
+    cat "$work/run"
+    echo "listing: 0 passed, 1 failed"
+    exit 1
 fi
 
 for input in tests/listing/*.in; do
@@ -53,23 +55,25 @@ sh rights_listing.sh < examples/rights.txt > "$work/out" 2> "$work/err"
 cmp "$work/out" tests/listing/paper.out > "$work/differs" 2>&1 && [ ! -s "$work/err" ]
 count standard_input $? "$(cat "$work/differs" "$work/err")"
 
-# The same over a toolchain that only says that it proved two crates, or that it did not: a line for each as it is
-# proved, and of a failed proof all that the toolchain said.
+# The same over a toolchain that only says that it proved one crate, the second, or that it did not prove another: a
+# line for each as it is proved, and of a failed proof all that the toolchain said.
 mkdir "$work/bin"
 cat > "$work/bin/rt" <<'RT'
 #!/bin/sh
-echo "rt: theory proved (unchanged since it was last proved)"
-echo "rt: words proved (7 s)"
-[ -z "${UNPROVED-}" ] || { echo "rt: table NOT PROVED (exit 1, 3 s)" >&2; exit 1; }
+case $(basename "$PWD") in
+words) echo "logic=proved functions=20" ;;
+table) [ -z "${UNPROVED-}" ] || { echo "logic=not-proved functions=25" >&2; exit 1; } ;;
+esac
 RT
 chmod +x "$work/bin/rt"
 PATH=$work/bin:$PATH sh rights_listing.sh examples/rights.txt > "$work/out" 2> "$work/err"
 cmp "$work/out" tests/listing/paper.out > "$work/differs" 2>&1
 count proving $? "$(cat "$work/differs")"
-many=$(rt check rights_listing 2>&1 | sed -n 's/^rt: ok, \([0-9]*\) crates proved$/\1/p')
+# the toolchain names each library that the program is made of
+many=$(($(cd crates/rights_listing && rt check 2>&1 | grep -c '^library ') + 1))
 says progress "proved 2 of $many: words"
 PATH=$work/bin:$PATH UNPROVED=1 sh rights_listing.sh examples/rights.txt > "$work/out" 2> "$work/err"
-[ $? -eq 1 ] && [ ! -s "$work/out" ] && grep -q '^rt: table NOT PROVED' "$work/err"
+[ $? -eq 1 ] && [ ! -s "$work/out" ] && grep -q '^logic=not-proved' "$work/err"
 count unproved $? "$(cat "$work/out" "$work/err")"
 
 # The most runs that a pool can have, and megabytes of lines of every kind.

@@ -18,18 +18,12 @@ fail() {
     echo "outside: $1"
 }
 
-# The static library, made from the proved crates if it is not there or older than their code; without it there is
-# nothing to test.
+# The static library, made from the proved crates; without it there is nothing to test.
 library() {
-    local made=target/staticlib/libgoleuthan.a
-    if [ ! -f "$made" ] || [ -n "$(find crates -name '*.rt' -newer "$made")" ]; then
-        rm -f "$made"
-        rt staticlib goleuthan > "$log" 2>&1
-    fi
-    if [ -f "$made" ]; then
+    if (cd crates/goleuthan && rt lib) > "$log" 2>&1 && [ -f crates/goleuthan/out/libgoleuthan.a ]; then
         pass
     else
-        fail "'rt staticlib goleuthan' made no library"
+        fail "'rt lib' in crates/goleuthan made no library"
         cat "$log"
     fi
 }

@@ -3,7 +3,7 @@ import glob
 import os
 import re
 
-CRATES = {line.split(":")[0] for line in open("crates.txt") if ":" in line and not line.startswith("#")}
+CRATES = {line.split(":")[0].split()[0] for line in open("crates.txt") if ":" in line and not line.startswith("#")}
 SPECS = {
     file[len("crates/"):-len(".antt")]: open(file).read()
     for file in glob.glob("crates/*/specs/*.antt")
@@ -13,7 +13,7 @@ CODE = {f: open(f).read() for f in glob.glob("crates/*/src/*.rt")}
 EDITS = {os.path.basename(f)[:-5] for f in glob.glob("crates/*/must-fail/*.edit") + glob.glob("tests/wrong/*/*.edit")}
 
 # Words of the toolchain and of the pages themselves.
-OTHER = {"code", "requires", "ensures", "rt", "rt ci", "now (pool .entry)", "&mut", "&[u32]", "twin:"}
+OTHER = {"code", "requires", "ensures", "rt", "rt ci", "pool.now", "&mut", "&[u32]", "twin:"}
 
 # The calls that a user makes, by their file; their contracts may rest on definitions of the reader's path alone.
 CALLS = {
@@ -38,15 +38,16 @@ CALLS = {
 # The only thing that such a call may require: that lent words are as many as a state has. The C face answers 101
 # where they are not, and requires nothing. The one store is called by the loop alone, and the program's parts by the
 # program.
-LENT = r"Is(?:Buffer|Gates|Stack) \(now \w+\)"
+LENT = r"Is(?:Buffer|Gates|Stack) \w+\.(?:now|old)"
 NOT_BY_USERS = {"put", "serve", "serve_last", "write_page"}
 
 
 def requires_more(name, said):
     """Whether the contract of a call requires more than the length of lent words."""
-    clauses = re.findall(r"requires \{ ⌜ (.*?) ⌝ \}", said, re.S)
+    clauses = re.findall(r"^ *requires\*?(?: \w+)? \{ (.*?) \}$", said, re.S | re.M)
     allowed = r"" if name.startswith("gol_") else LENT + r"(?: × " + LENT + r")*"
-    return name not in NOT_BY_USERS and any(not re.fullmatch(allowed, clause) for clause in clauses)
+    unread = len(clauses) != len(re.findall(r"\brequires\b", said))
+    return name not in NOT_BY_USERS and (unread or any(not re.fullmatch(allowed, clause) for clause in clauses))
 
 
 def declared():
@@ -103,7 +104,7 @@ def promises(text):
 def imports(text, crate):
     """The files of definitions that a text uses, by the names that it takes from them."""
     taken = {}
-    for other, file, names in re.findall(r"use Rattle·([a-z_]+)(?:·specs\.specs|\.specs)\.(\w+)\.\{([^}]*)\}", text):
+    for other, file, names in re.findall(r"use Rattle\.([a-z_]+)\.specs\.(\w+)\.\{([^}]*)\}", text):
         for name in names.split(","):
             taken[name.split(" as ")[-1].strip()] = f"{other}/specs/{file}"
     return taken
@@ -134,10 +135,11 @@ def reading(text):
                 continue
             if requires_more(name, said):
                 faults.append(f"{name} in {file} requires more than the length of lent words")
-            rests = {taken[word] for word in re.findall(r"[^\s(){}⌜⌝.,]+", said) if word in taken}
+            rests = {taken[word] for word in re.findall(r"[^\s(){}.,]+", said) if word in taken}
             faults += [f"the contract of {name} rests on {other}, which is inner" for other in sorted(rests & inner)]
-    in_proofs = [f for f in list(SPECS) if re.search(r"use Rattle·\w+(?:·proofs)?\.proofs\.", SPECS[f])]
-    in_proofs += [f for f, source in CODE.items() if re.search(r"ghost use Rattle·\w+(?:·proofs)?\.proofs\.", source)]
+    # of this repository: the library has some definitions in folders of that name
+    of_ours = r"use Rattle\.(?:" + "|".join(CRATES) + r")\.proofs\."
+    in_proofs = [f for f, said in [*SPECS.items(), *CODE.items()] if re.search(of_ours, said)]
     return faults + [f"{file} takes a definition from a proofs folder" for file in in_proofs]
 
 

@@ -10,6 +10,7 @@ trap 'rm -rf "$repo"' EXIT
 
 mkdir "$repo/crates"
 cp -r "$root/crates/words" "$repo/crates/words"
+rm -rf "$repo/crates/words/must-fail"
 echo 'words:' > "$repo/crates.txt"
 
 passed=0
@@ -20,7 +21,7 @@ crate() {
     mkdir -p "$repo/crates/$1/src"
     echo "$1: words" >> "$repo/crates.txt"
     printf 'pub fn used() -> usize {\n    %s\n}\n' "$2" > "$repo/crates/$1/src/lib.rt"
-    (cd "$repo" && rt check "$1") > "$repo/$1.out" 2>&1
+    (cd "$repo/crates/$1" && rt check) > "$repo/$1.out" 2>&1
 }
 
 pass() {

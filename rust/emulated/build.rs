@@ -7,7 +7,7 @@ fn main() {
     let here = Path::new(env!("CARGO_MANIFEST_DIR"));
     let out = std::env::var("OUT_DIR").expect("cargo sets OUT_DIR");
     let program = Path::new(&out).join("service");
-    for file in ["link.sh", "service.c", "../../include/goleuthan.h", "../../target/staticlib/libgoleuthan.a"] {
+    for file in ["link.sh", "service.c", "../../include/goleuthan.h", "../../crates/goleuthan/out/libgoleuthan.a"] {
         println!("cargo:rerun-if-changed={}", here.join(file).display());
     }
     let linked = Command::new("sh").arg(here.join("link.sh")).arg(here.join("service.c")).arg(&program).status();

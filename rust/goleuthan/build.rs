@@ -9,12 +9,12 @@ fn main() {
     let given = std::env::var_os("GOLEUTHAN_LIBRARY").map(PathBuf::from);
     let native = std::env::var("CARGO_CFG_TARGET_ARCH").is_ok_and(|arch| arch == "x86_64");
     let linked = native || given.is_some();
-    let made = Path::new(env!("CARGO_MANIFEST_DIR")).join("../../target/staticlib");
+    let made = Path::new(env!("CARGO_MANIFEST_DIR")).join("../../crates/goleuthan/out");
     let folder = given.unwrap_or(made);
     let library = folder.join("libgoleuthan.a");
     println!("cargo:rerun-if-changed={}", library.display());
     if !library.exists() {
-        eprintln!("The proved library {} is missing: run `rt staticlib goleuthan` first.", library.display());
+        eprintln!("The proved library {} is missing: run `rt lib` in crates/goleuthan first.", library.display());
         std::process::exit(1);
     }
     if linked {

@@ -24,7 +24,7 @@ use Rattle.table.specs.Shape.{Fits}
 use Rattle.table.specs.Map.{addresses, form_of}
 use Rattle.targets.specs.declared.Paint.{Paint}
 use Rattle.plan.proofs.AimLaws.{change_covers, change_misses, aimed_covered, aimed_other}
-use Rattle.targets.specs.Paints.{region, paint_of}
+use Rattle.targets.specs.Paints.{paint_of}
 use Rattle.plan.specs.Aims.{aim_of, change_aim, aimed_at}
 use Rattle.change.specs.Cuts.{differing}
 use Rattle.change.specs.Answers.{IsCut, Asked}

@@ -22,7 +22,6 @@ use Rattle.table.specs.Fresh.{fresh_pool}
 use Rattle.table.proofs.LookupLaws.{sound_lookup}
 use Rattle.table.proofs.FreshWordLaws.{fresh_right, fresh_settled}
 use Rattle.plan.proofs.AimLaws.{covers_change, change_covers, aimed_covered, aimed_other}
-use Rattle.targets.specs.Paints.{region}
 use Rattle.plan.specs.Aims.{change_aim, aimed_at}
 use Rattle.change.specs.declared.Answer.TheVariants.{Done}
 use Rattle.change.specs.Cuts.{CutAt}

@@ -24,7 +24,6 @@ use Rattle.table.specs.Fresh.{fresh_pool, MakesFresh}
 use Rattle.table.proofs.ShapeLaws.{fits_test}
 use Rattle.table.proofs.FormLaws.{eight_good}
 use Rattle.table.proofs.FreshLaws.{makes_fresh}
-use Rattle.targets.specs.Paints.{region}
 use Rattle.plan.specs.Aims.{aim_of}
 use Rattle.change.specs.declared.Answer.TheVariants.{Done, Cut, Refused}
 use Rattle.change.specs.Cuts.{differing}

@@ -37,7 +37,6 @@ use Rattle.table.proofs.WantLaws.{divided_wants, pool_rights}
 use Rattle.places.specs.Count.{want, Room}
 use Rattle.places.proofs.CountLaws.{count_less}
 use Rattle.places.proofs.ChangedLaws.{changed_rights}
-use Rattle.targets.specs.Paints.{region}
 use Rattle.plan.specs.Aims.{change_aim, aimed_at}
 use Rattle.change.specs.Cuts.{differing}
 use Rattle.change.specs.Answers.{Asked, in_order, no_room}

@@ -19,7 +19,6 @@ use Rattle.table.specs.Wants.{wants_of, said_of}
 use Rattle.table.specs.Fresh.{fresh_pool}
 use Rattle.table.proofs.WantLaws.{wants_says, none_rights, painted_rights}
 use Rattle.table.proofs.FreshWordLaws.{fresh_settled}
-use Rattle.targets.specs.Paints.{region}
 use Rattle.plan.specs.Aims.{change_aim, aimed_at}
 use Rattle.change.specs.declared.Answer.TheVariants.{Done}
 use Rattle.change.specs.Cuts.{differing}

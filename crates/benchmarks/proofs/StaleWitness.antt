@@ -17,7 +17,7 @@ use Rattle.lookaside.specs.Check.{refusal_of, check_of}
 use Rattle.lookaside.specs.Flushes.{flushed_region, flushed_buffer, flushed_slot, flushes, meets, pointed}
 use Rattle.lookaside.specs.Agree.{Places, nowhere, both, less}
 use Rattle.demands.specs.Series.{aim_in}
-use Rattle.demands.specs.Watched.{places_of, altered, Watched, emptied, checked, changed, tidied, flushed_region_lem}
+use Rattle.demands.specs.Watched.{places_of, altered, Watched, emptied, checked, changed, tidied, region_flushed}
 use Rattle.benchmarks.specs.Witnesses.{SomeStale, SomeTidied}
 use Rattle.benchmarks.specs.CallerWitnesses.{no_regions}
 use Rattle.benchmarks.proofs.RowLaws.{listed}
@@ -86,10 +86,10 @@ some_stale = record {
   is_stale = refl;
   by_slot = refl;
   by_walk = refl;
-  flushed_buffer_lem = cleared;
+  after_flush = cleared;
   flushed = flushed;
   left = left;
-  watched_on = rw (← ap (λ c. c.buffer) flushed) (flushed_region_lem used_watched 0 0 528384);
+  watched_on = rw (← ap (λ c. c.buffer) flushed) (region_flushed used_watched 0 0 528384);
   none_left = none_left;
   walks_again = refl;
 }

@@ -127,12 +127,12 @@ pub record SomeStale : Type 0 where
   pub is_stale : stale 0 0x1000 ≡ true
   pub by_slot : (check_of pool shape filled_buffer 0 store 4 0x1000).verdict ≡ Pass 0
   pub by_walk : (check_of pool shape empty_buffer 0 store 4 0x1000).verdict ≡ Deny 2
-  pub flushed_buffer_lem : Buffer
-  pub flushed : flushed_region filled_buffer 0 0 528384 ≡ record { refusal = 0; buffer = flushed_buffer_lem }
+  pub after_flush : Buffer
+  pub flushed : flushed_region filled_buffer 0 0 528384 ≡ record { refusal = 0; buffer = after_flush }
   pub left : Places
-  pub watched_on : Watched shape pool flushed_buffer_lem left
+  pub watched_on : Watched shape pool after_flush left
   pub none_left : (d a : ℕ) → left d a ≡ false
-  pub walks_again : (check_of pool shape flushed_buffer_lem 0 store 4 0x1000).verdict ≡ Deny 2
+  pub walks_again : (check_of pool shape after_flush 0 store 4 0x1000).verdict ≡ Deny 2
 
 -- A tidying needs no flush: a slot that was filled before it answers as the walk does, which now ends a level higher.
 pub record SomeTidied : Type 0 where

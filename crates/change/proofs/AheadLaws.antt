@@ -150,14 +150,14 @@ module _ (q : Plan) (j : ℕ) where
   abbrev Kept : Type 0
   Kept = Untouched q j ⊎ (new_word q j ≡ true)
 
-  is_new_lem : (h : ℕ) → h < heights → (b : Bool) → of_new h (edge_of q h b) j ≡ true → new_word q j ≡ true
-  is_new_lem h hi b t = new_any q j (λ g gi c u. refl) (λ out. absurd (false≢true (sym (out h hi b) ∙ t)))
+  makes_new : (h : ℕ) → h < heights → (b : Bool) → of_new h (edge_of q h b) j ≡ true → new_word q j ≡ true
+  makes_new h hi b t = new_any q j (λ g gi c u. refl) (λ out. absurd (false≢true (sym (out h hi b) ∙ t)))
 
   -- Where the word is not new, all tables that it is of stay.
   stays : new_word q j ≡ false → (h : ℕ) → h < heights → (b : Bool) → of_table h (edge_of q h b) j ≡ true
       → leads (suc h) (edge_of q h b).old ≡ true
   stays n h hi b t = by_cases (leads (suc h) (edge_of q h b).old) (λ l. l)
-      (λ l. absurd (false≢true (sym n ∙ is_new_lem h hi b (in_new h (edge_of q h b) j t l))))
+      (λ l. absurd (false≢true (sym n ∙ makes_new h hi b (in_new h (edge_of q h b) j t l))))
 
   untouched : new_word q j ≡ false → HighIdle q j → LowIdle q j → Untouched q j
   untouched n (root, high) low x small = after_any q j x x

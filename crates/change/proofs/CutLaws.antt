@@ -17,7 +17,6 @@ use Rattle.theory.proofs.BetweenLaws.{Mixed, next_stage, stage_mixed, put_cut}
 use Rattle.theory.proofs.FinishedLaws.{one_finished, finished_same, finished_words}
 use Rattle.theory.proofs.ReadyLaws.{finished_links, finished_ready}
 use Rattle.theory.proofs.StayLaws.{finished_stays}
-use Rattle.words.specs.Region.{covered}
 use Rattle.table.specs.declared.Shape.{Shape}
 use Rattle.table.specs.Map.{addresses, form_of}
 use Rattle.table.proofs.FormLaws.{lawful, exact}

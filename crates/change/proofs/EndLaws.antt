@@ -3,7 +3,7 @@
 use Prim.Native.Nat.{ℕ, zero, suc, ◌+◌, ◌≤◌, ◌<◌}
 use mathlib.Core.Path.{◌≡◌, refl, sym, ap, ◌∙◌}
 use mathlib.Core.Logic.{◌≢◌, ◌⊎◌, inl, inr, ⊎_elim}
-use mathlib.Core.Bool.{Bool, true, false, true≢false}
+use mathlib.Core.Bool.{Bool, false, true≢false}
 use mathlib.Core.List.{List}
 use native.Mathlib.Omega.{arith}
 use native.Mathlib.Decide.{ℕ_discrete, dec_lt}
@@ -25,7 +25,6 @@ use Rattle.table.proofs.ShapeLaws.{test_fits, fits_test}
 use Rattle.table.proofs.FormLaws.{lawful, exact}
 use Rattle.table.proofs.WantLaws.{wanting}
 use Rattle.places.proofs.Exists.{fits_dec}
-use Rattle.targets.specs.Paints.{region}
 use Rattle.plan.specs.Aims.{Aim, change_aim, no_aim, aimed_at, Goal}
 use Rattle.change.specs.declared.Answer.{Answer}
 use Rattle.change.specs.Runs.{phases, At}

@@ -9,7 +9,7 @@ use Rattle.words.proofs.RegionLaws.{region_number}
 use lib.ListN.{length, length-append, length-replicate}
 use Rattle.theory.proofs.Logic.{by_cases}
 use Rattle.theory.specs.Pool.{words, SoundPool}
-use Rattle.words.specs.Region.{region_of, covered}
+use Rattle.words.specs.Region.{region_of}
 use Rattle.words.specs.declared.Region.{Region}
 use Rattle.words.specs.declared.Rounded.TheVariants.{Covers}
 use Rattle.table.specs.declared.Shape.{Shape}

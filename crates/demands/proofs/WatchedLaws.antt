@@ -43,7 +43,7 @@ use Rattle.owners.proofs.ByLaws.{by_changes}
 use Rattle.demands.specs.Series.{Deed, History, after, aim_in, Call, change, change_by, tidy, make, pass, give}
 use Rattle.demands.specs.Series.{Series, fresh, call}
 use Rattle.demands.specs.Watched.{places_of, altered, Watched, emptied, checked, changed, changed_by, tidied}
-use Rattle.demands.specs.Watched.{flushed_all, flushed_domain_lem, flushed_region_lem, unflushed}
+use Rattle.demands.specs.Watched.{flushed_all, domain_flushed, region_flushed, unflushed}
 use Rattle.demands.proofs.SeriesLaws.{series_holds}
 use Rattle.demands.proofs.ClearLaws.{AllClear, not_six, or_six, emptied_clear, flushed_clear, check_clear}
 use Rattle.demands.proofs.ClearLaws.{change_clear, change_by_clear, tidy_clear, check_six}
@@ -174,8 +174,8 @@ watched_sees (changed w y) = change_sees (watched_sees w) y
 watched_sees (changed_by w y) = change_by_sees (watched_sees w) y
 watched_sees (tidied w y) = tidy_sees (watched_sees w) y
 watched_sees (flushed_all w) = let o = watched_sees w in pointed_sees o _ (flush_sees o Whole)
-watched_sees (flushed_domain_lem w d) = let o = watched_sees w in pointed_sees o _ (flush_sees o (OfDomain d))
-watched_sees (flushed_region_lem w d start len) =
+watched_sees (domain_flushed w d) = let o = watched_sees w in pointed_sees o _ (flush_sees o (OfDomain d))
+watched_sees (region_flushed w d start len) =
     let o = watched_sees w in pointed_sees o _ (rounded_sees o (region_of start len) d)
 
 six_or_not : (f : Found) → (f ≡ NotFound 6) ⊎ (f ≢ NotFound 6)

@@ -44,9 +44,9 @@ pub data Watched (s : Shape) : List ℕ → Buffer → Places → Type 0 where
       → Watched s p b x → Tidies p s n c q → Watched s q b x
   flushed_all : {p : List ℕ} {b : Buffer} {x : Places} → Watched s p b x
       → Watched s p (flushed_whole b).buffer (less x (clears Whole))
-  flushed_domain_lem : {p : List ℕ} {b : Buffer} {x : Places} → Watched s p b x
+  domain_flushed : {p : List ℕ} {b : Buffer} {x : Places} → Watched s p b x
       → (d : ℕ) → Watched s p (flushed_domain b d).buffer (less x (clears (OfDomain d)))
-  flushed_region_lem : {p : List ℕ} {b : Buffer} {x : Places} → Watched s p b x → (d start len : ℕ)
+  region_flushed : {p : List ℕ} {b : Buffer} {x : Places} → Watched s p b x → (d start len : ℕ)
       → Watched s p (flushed_region b d start len).buffer (less x (places_of (region_of start len) d))
 
 -- What is stale in a buffer that was last emptied as the pool was made, and not flushed since.

@@ -50,14 +50,14 @@ pub struct GateAt {
 
 // What the words of a gate set say. The gates held are the first `count`; a place past them keeps what it held and is
 // never looked at.
-#[derive(Clone, Copy)]
+#[derive(Drop)]
 pub struct Gates {
     pub places: [GateAt; 64],
     pub count: u32,
 }
 
 // Setting or removing a gate as contracts tell it: the number of the refusal, 0 for none, and the set afterwards.
-#[derive(Clone, Copy)]
+#[derive(Drop)]
 pub struct GatesSet {
     pub refusal: u32,
     pub gates: Gates,
@@ -79,7 +79,7 @@ pub struct Frame {
 
 // What the words of a call stack say, with the current domain. The frames in use are the first `depth`; a popped one
 // keeps its words and is never looked at.
-#[derive(Clone, Copy)]
+#[derive(Drop)]
 pub struct CallStack {
     pub frames: [Frame; 16],
     pub depth: u32,
@@ -95,7 +95,7 @@ pub enum Stepped {
 }
 
 // A step as contracts tell it: its answer, and the stack afterwards.
-#[derive(Clone, Copy)]
+#[derive(Drop)]
 pub struct Step {
     pub answer: Stepped,
     pub stack: CallStack,

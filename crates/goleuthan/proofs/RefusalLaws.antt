@@ -23,11 +23,11 @@ use Rattle.listing.specs.Listing.{Lists, numbers as listedNumbers, no_shape as l
 use Rattle.listing.specs.Listing.{unsound as list-unsound, listed}
 use Rattle.goleuthan.specs.Out.{out_with, was_cut}
 use Rattle.goleuthan.specs.Calls.{shape_in, answer_number, found_results, answer_results, listed_results, FreshCall}
-use Rattle.goleuthan.specs.Calls.{LookupCall, ChangeCall, ChangeByCall, TidyCall, ListCall, wrong_length_lem, shaped}
+use Rattle.goleuthan.specs.Calls.{LookupCall, ChangeCall, ChangeByCall, TidyCall, ListCall, length_wrong, shaped}
 
 -- Making fresh.
 pub fresh_refused : {p sh : List ℕ} {n : ℕ} {q : List ℕ} → FreshCall p sh n q → n ≢ 0 → q ≡ p
-fresh_refused (wrong_length_lem f) h = refl
+fresh_refused (length_wrong f) h = refl
 fresh_refused {p} {sh} (shaped l made q x) h = go (fits_of (shape_in sh) (length p)) x.answer x.pool
   where
     go : (t : Bool) → made ≡ cond t Fresh (NotFresh 1) → q ≡ cond t (fresh_pool (shape_in sh)) p → q ≡ p
@@ -41,7 +41,7 @@ found_zeros (NotFound k) real = refl
 
 pub lookup_refused : {p sh : List ℕ} {d a n : ℕ} {out res : List ℕ} → LookupCall p sh d a out n res → n ≢ 0
     → res ≡ out_with (0 ∷ 0 ∷ 0 ∷ 0 ∷ 0 ∷ []) out
-lookup_refused (wrong_length_lem f) h = refl
+lookup_refused (length_wrong f) h = refl
 lookup_refused {out = out} (shaped l f x) h = ap (λ r. out_with r out) (found_zeros f h)
 
 -- A change or a tidying that is neither done nor cut.
@@ -74,19 +74,19 @@ untouched out a u h k = let w = u h k in (w.0, ap (λ l. out_with l out) w.1)
 pub change_refused : {p sh : List ℕ} {d start len right allowance n : ℕ} {out q res : List ℕ}
     → ChangeCall p sh d start len right allowance out n q res → n ≢ 0 → n ≢ was_cut → (q ≡ p)
     × (res ≡ out_with (0 ∷ []) out)
-change_refused (wrong_length_lem f) h k = (refl, refl)
+change_refused (length_wrong f) h k = (refl, refl)
 change_refused {out = out} (shaped l a q x) h k = untouched out a (change_untouched a x) h k
 
 pub change_by_refused : {p sh list : List ℕ} {caller d start len right allowance n : ℕ} {out q res : List ℕ}
     → ChangeByCall p sh list caller d start len right allowance out n q res → n ≢ 0 → n ≢ was_cut → (q ≡ p)
     × (res ≡ out_with (0 ∷ []) out)
-change_by_refused (wrong_length_lem f) h k = (refl, refl)
+change_by_refused (length_wrong f) h k = (refl, refl)
 change_by_refused {out = out} (shaped l a q x) h k = untouched out a (by_untouched a x) h k
 
 pub tidy_refused : {p sh : List ℕ} {allowance n : ℕ} {out q res : List ℕ}
     → TidyCall p sh allowance out n q res → n ≢ 0 → n ≢ was_cut
     → (q ≡ p) × (res ≡ out_with (0 ∷ []) out)
-tidy_refused (wrong_length_lem f) h k = (refl, refl)
+tidy_refused (length_wrong f) h k = (refl, refl)
 tidy_refused {out = out} (shaped l a q x) h k = untouched out a (tidy_untouched x) h k
 
 -- A listing.
@@ -99,6 +99,6 @@ listing_untouched (listed f o rs e) real = absurd (real refl)
 pub list_refused : {p sh : List ℕ} {from n : ℕ} {runs out shown res : List ℕ}
     → ListCall p sh from runs out n shown res → n ≢ 0
     → (shown ≡ runs) × (res ≡ out_with (0 ∷ []) out)
-list_refused (wrong_length_lem f) h = (refl, refl)
+list_refused (length_wrong f) h = (refl, refl)
 list_refused {out = out} (shaped l a shown x) h =
     let w = listing_untouched x h in (w.0, ap (λ r. out_with r out) w.1)

@@ -21,7 +21,7 @@ use Rattle.gates.specs.Steps.{step_refusal, step_of}
 use Rattle.lookaside.specs.Layout.{buffer_long}
 use Rattle.gates.specs.Layout.{gates_long, stack_long}
 use Rattle.goleuthan.specs.Calls.{shape_long, eights, shape_in, FreshCall, LookupCall, ChangeCall, TidyCall}
-use Rattle.goleuthan.specs.Calls.{ListCall, wrong_length_lem, shaped}
+use Rattle.goleuthan.specs.Calls.{ListCall, length_wrong, shaped}
 use Rattle.goleuthan.specs.StateCalls.{check_call, step_call}
 use Rattle.goleuthan.proofs.UniqueLaws.{one_fresh_call, one_change_call, one_tidy_call, one_list_call}
 
@@ -53,7 +53,7 @@ module _ {p sh : List ℕ} (h : OtherForm sh) where
       (one_fresh_call x (shaped h.long (NotFresh 1) p (record { answer = rw e; pool = rw e }))).0
 
   pub lookup_other : {d a n : ℕ} {out res : List ℕ} → LookupCall p sh d a out n res → n ≡ 1
-  lookup_other (wrong_length_lem f) = absurd (f h.long)
+  lookup_other (length_wrong f) = absurd (f h.long)
   lookup_other (shaped l f x) =
       rw (other_unfit h (length p)) at (ap (λ (y : Found). (foundNumbers y).refusal) x.answer)
 

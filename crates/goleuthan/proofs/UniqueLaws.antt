@@ -17,7 +17,7 @@ use Rattle.listing.specs.Listing.{numbers as listedNumbers}
 use Rattle.listing.proofs.ListingLaws.{one_listing}
 use Rattle.goleuthan.specs.Out.{out_with}
 use Rattle.goleuthan.specs.Calls.{shape_in, answer_number, found_results, answer_results, listed_results, FreshCall}
-use Rattle.goleuthan.specs.Calls.{LookupCall, ChangeCall, ChangeByCall, TidyCall, ListCall, wrong_length_lem, shaped}
+use Rattle.goleuthan.specs.Calls.{LookupCall, ChangeCall, ChangeByCall, TidyCall, ListCall, length_wrong, shaped}
 use Rattle.goleuthan.specs.StateCalls.{Back, StateAfter, back, state_after}
 
 -- One answer and one pool are one number, one pool and one result.
@@ -27,17 +27,17 @@ answered out e = (ap answer_number e.0, e.1, ap (λ (a : Answer). out_with (answ
 
 module _ {p sh : List ℕ} where
   pub one_fresh_call : {m n : ℕ} {q r : List ℕ} → FreshCall p sh m q → FreshCall p sh n r → (m ≡ n) × (q ≡ r)
-  one_fresh_call (wrong_length_lem f) (wrong_length_lem g) = (refl, refl)
-  one_fresh_call (wrong_length_lem f) (shaped h k q x) = absurd (f h)
-  one_fresh_call (shaped h k q x) (wrong_length_lem f) = absurd (f h)
+  one_fresh_call (length_wrong f) (length_wrong g) = (refl, refl)
+  one_fresh_call (length_wrong f) (shaped h k q x) = absurd (f h)
+  one_fresh_call (shaped h k q x) (length_wrong f) = absurd (f h)
   one_fresh_call (shaped h k q x) (shaped i l r y) =
       let e = one_fresh x y in (ap made_number e.0, e.1)
 
   pub one_lookup_call : {d a m n : ℕ} {out t u : List ℕ} → LookupCall p sh d a out m t → LookupCall p sh d a out n u
       → (m ≡ n) × (t ≡ u)
-  one_lookup_call (wrong_length_lem f) (wrong_length_lem g) = (refl, refl)
-  one_lookup_call (wrong_length_lem f) (shaped h k x) = absurd (f h)
-  one_lookup_call (shaped h k x) (wrong_length_lem f) = absurd (f h)
+  one_lookup_call (length_wrong f) (length_wrong g) = (refl, refl)
+  one_lookup_call (length_wrong f) (shaped h k x) = absurd (f h)
+  one_lookup_call (shaped h k x) (length_wrong f) = absurd (f h)
   one_lookup_call {out = out} (shaped h k x) (shaped i l y) =
       let e = one_lookup x y in (
         ap (λ (f : Found). (foundNumbers f).refusal) e,
@@ -47,33 +47,33 @@ module _ {p sh : List ℕ} where
   pub one_change_call : {d start len right allowance m n : ℕ} {out q r t u : List ℕ}
       → ChangeCall p sh d start len right allowance out m q t
       → ChangeCall p sh d start len right allowance out n r u → (m ≡ n) × (q ≡ r) × (t ≡ u)
-  one_change_call (wrong_length_lem f) (wrong_length_lem g) = (refl, refl, refl)
-  one_change_call (wrong_length_lem f) (shaped h k q x) = absurd (f h)
-  one_change_call (shaped h k q x) (wrong_length_lem f) = absurd (f h)
+  one_change_call (length_wrong f) (length_wrong g) = (refl, refl, refl)
+  one_change_call (length_wrong f) (shaped h k q x) = absurd (f h)
+  one_change_call (shaped h k q x) (length_wrong f) = absurd (f h)
   one_change_call {out = out} (shaped h k q x) (shaped i l r y) = answered out (one_change x y)
 
   pub one_change_by_call : {list : List ℕ} {caller d start len right allowance m n : ℕ} {out q r t u : List ℕ}
       → ChangeByCall p sh list caller d start len right allowance out m q t
       → ChangeByCall p sh list caller d start len right allowance out n r u → (m ≡ n) × (q ≡ r) × (t ≡ u)
-  one_change_by_call (wrong_length_lem f) (wrong_length_lem g) = (refl, refl, refl)
-  one_change_by_call (wrong_length_lem f) (shaped h k q x) = absurd (f h)
-  one_change_by_call (shaped h k q x) (wrong_length_lem f) = absurd (f h)
+  one_change_by_call (length_wrong f) (length_wrong g) = (refl, refl, refl)
+  one_change_by_call (length_wrong f) (shaped h k q x) = absurd (f h)
+  one_change_by_call (shaped h k q x) (length_wrong f) = absurd (f h)
   one_change_by_call {out = out} (shaped h k q x) (shaped i l r y) = answered out (one_change_by x y)
 
   pub one_tidy_call : {allowance m n : ℕ} {out q r t u : List ℕ} → TidyCall p sh allowance out m q t
       → TidyCall p sh allowance out n r u
       → (m ≡ n) × (q ≡ r) × (t ≡ u)
-  one_tidy_call (wrong_length_lem f) (wrong_length_lem g) = (refl, refl, refl)
-  one_tidy_call (wrong_length_lem f) (shaped h k q x) = absurd (f h)
-  one_tidy_call (shaped h k q x) (wrong_length_lem f) = absurd (f h)
+  one_tidy_call (length_wrong f) (length_wrong g) = (refl, refl, refl)
+  one_tidy_call (length_wrong f) (shaped h k q x) = absurd (f h)
+  one_tidy_call (shaped h k q x) (length_wrong f) = absurd (f h)
   one_tidy_call {out = out} (shaped h k q x) (shaped i l r y) = answered out (one_tidy x y)
 
   pub one_list_call : {from m n : ℕ} {runs out q r t u : List ℕ} → ListCall p sh from runs out m q t
       → ListCall p sh from runs out n r u
       → (m ≡ n) × (q ≡ r) × (t ≡ u)
-  one_list_call (wrong_length_lem f) (wrong_length_lem g) = (refl, refl, refl)
-  one_list_call (wrong_length_lem f) (shaped h k q x) = absurd (f h)
-  one_list_call (shaped h k q x) (wrong_length_lem f) = absurd (f h)
+  one_list_call (length_wrong f) (length_wrong g) = (refl, refl, refl)
+  one_list_call (length_wrong f) (shaped h k q x) = absurd (f h)
+  one_list_call (shaped h k q x) (length_wrong f) = absurd (f h)
   one_list_call {from = from} {runs = runs} {out = out} (shaped h k q x) (shaped i l r y) =
       let e = one_listing p (shape_in sh) from runs x y in (
         ap (λ (l : Listed). (listedNumbers l).refusal) e.0,

@@ -57,26 +57,26 @@ NotLong sh = length sh ≡ shape_long → ⊥
 
 -- gol_fresh on the pool `p` with the lent shape `sh`: the number that it returns, and the pool that it leaves.
 pub data FreshCall (p sh : List ℕ) : ℕ → List ℕ → Type 0 where
-  wrong_length_lem : NotLong sh → FreshCall p sh wrong_length p
+  length_wrong : NotLong sh → FreshCall p sh wrong_length p
   shaped : length sh ≡ shape_long → (made : Made) (q : List ℕ) → MakesFresh (shape_in sh) p made q
       → FreshCall p sh (made_number made) q
 
 -- gol_lookup with the lent words `out`: the number, and what it leaves in them.
 pub data LookupCall (p sh : List ℕ) (d a : ℕ) (out : List ℕ) : ℕ → List ℕ → Type 0 where
-  wrong_length_lem : NotLong sh → LookupCall p sh d a out wrong_length (out_with (0 ∷ 0 ∷ 0 ∷ 0 ∷ 0 ∷ []) out)
+  length_wrong : NotLong sh → LookupCall p sh d a out wrong_length (out_with (0 ∷ 0 ∷ 0 ∷ 0 ∷ 0 ∷ []) out)
   shaped : length sh ≡ shape_long → (f : Found) → LooksUp p (shape_in sh) d a f
       → LookupCall p sh d a out (foundNumbers f).refusal (out_with (found_results f) out)
 
 -- gol_change: the number, the pool that it leaves, and the words of `out`.
 pub data ChangeCall (p sh : List ℕ) (d start len r allowance : ℕ) (out : List ℕ) : ℕ → List ℕ → List ℕ → Type 0 where
-  wrong_length_lem : NotLong sh → ChangeCall p sh d start len r allowance out wrong_length p (out_with (0 ∷ []) out)
+  length_wrong : NotLong sh → ChangeCall p sh d start len r allowance out wrong_length p (out_with (0 ∷ []) out)
   shaped : length sh ≡ shape_long → (a : Answer) (q : List ℕ) → Changes p (shape_in sh) d start len r allowance a q
       → ChangeCall p sh d start len r allowance out (answer_number a) q (out_with (answer_results a) out)
 
 -- gol_change_by: the same, by a caller, beside the words of a list of owned regions, of any length.
 pub data ChangeByCall (p sh list : List ℕ) (caller d start len r allowance : ℕ) (out : List ℕ)
     : ℕ → List ℕ → List ℕ → Type 0 where
-  wrong_length_lem : NotLong sh → ChangeByCall p sh list caller d start len r allowance out wrong_length p
+  length_wrong : NotLong sh → ChangeByCall p sh list caller d start len r allowance out wrong_length p
       (out_with (0 ∷ []) out)
   shaped : length sh ≡ shape_long → (a : Answer) (q : List ℕ)
       → ChangesBy p (shape_in sh) list caller d start len r allowance a q
@@ -84,12 +84,12 @@ pub data ChangeByCall (p sh list : List ℕ) (caller d start len r allowance : �
 
 -- gol_tidy: the same.
 pub data TidyCall (p sh : List ℕ) (allowance : ℕ) (out : List ℕ) : ℕ → List ℕ → List ℕ → Type 0 where
-  wrong_length_lem : NotLong sh → TidyCall p sh allowance out wrong_length p (out_with (0 ∷ []) out)
+  length_wrong : NotLong sh → TidyCall p sh allowance out wrong_length p (out_with (0 ∷ []) out)
   shaped : length sh ≡ shape_long → (a : Answer) (q : List ℕ) → Tidies p (shape_in sh) allowance a q
       → TidyCall p sh allowance out (answer_number a) q (out_with (answer_results a) out)
 
 -- gol_list with the lent words `runs` and `out`: the number, and what it leaves in the two.
 pub data ListCall (p sh : List ℕ) (from : ℕ) (runs out : List ℕ) : ℕ → List ℕ → List ℕ → Type 0 where
-  wrong_length_lem : NotLong sh → ListCall p sh from runs out wrong_length runs (out_with (0 ∷ []) out)
+  length_wrong : NotLong sh → ListCall p sh from runs out wrong_length runs (out_with (0 ∷ []) out)
   shaped : length sh ≡ shape_long → (l : Listed) (shown : List ℕ) → Lists p (shape_in sh) from runs l shown
       → ListCall p sh from runs out (listedNumbers l).refusal shown (out_with (listed_results l) out)

@@ -37,7 +37,7 @@ pub struct Slot {
 }
 
 // What the words of a buffer say: the slots, and the one that the next fill takes.
-#[derive(Clone, Copy)]
+#[derive(Drop)]
 pub struct Buffer {
     pub slots: [Slot; 64],
     pub next: u32,
@@ -52,14 +52,14 @@ pub enum Verdict {
 }
 
 // A check as contracts tell it: what it says, and the buffer that its words then say.
-#[derive(Clone, Copy)]
+#[derive(Drop)]
 pub struct Checked {
     pub verdict: Verdict,
     pub buffer: Buffer,
 }
 
 // A flush as contracts tell it: its refusal, 0 for none, and the buffer that its words then say.
-#[derive(Clone, Copy)]
+#[derive(Drop)]
 pub struct Flushed {
     pub refusal: u32,
     pub buffer: Buffer,

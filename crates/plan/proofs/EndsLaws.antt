@@ -46,7 +46,7 @@ taken_like {s = s} {h = h} {e = e} r hi t = ⊎_elim
     (λ k. (
       k.same_number,
       ap (leads 1) k.points ∙ lt-ltb (place_at s h k.place) 2147483648 (place_low s h k.place r hi k.below)
-          ∙ sym (and_both (leads (suc h) e.last) (not (leads (suc h) e.old)) k.is_new_lem).0,
+          ∙ sym (and_both (leads (suc h) e.last) (not (leads (suc h) e.old)) k.makes_new).0,
     ))
     t
 

@@ -28,7 +28,7 @@ use Rattle.plan.specs.declared.Edge.{Edge}
 use Rattle.plan.specs.declared.Ends.{Ends}
 use Rattle.plan.specs.Plan.{is_new}
 use Rattle.plan.specs.Aims.{aim_of, aimed_at}
-use Rattle.plan.specs.Edges.{entry_at, EdgeIs, EndsPlaced, EndsAre, Takes, Taken, At, None, taken_by, found}
+use Rattle.plan.specs.Edges.{entry_at, EdgeIs, EndsPlaced, EndsAre, Takes, At, None, taken_by, found}
 use Rattle.plan.specs.Edges.{TakenIs}
 use Rattle.plan.proofs.Giving.{Told, GivesOut}
 use Rattle.plan.proofs.OldEntryLaws.{old_leads}
@@ -181,7 +181,7 @@ module _ {s : Shape} {d : ℕ} {paint : Paint} {P : ℕ → ℕ} {h : ℕ} {f : 
       })
         where
           new : fresh W O (nth n) ≡ true
-          new = sym (new_is b t) ∙ k.is_new_lem
+          new = sym (new_is b t) ∙ k.makes_new
 
           below : k.place < M
           below = k.below

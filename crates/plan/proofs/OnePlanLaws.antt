@@ -18,7 +18,7 @@ use Rattle.table.proofs.FormLaws.{lawful, exact}
 use Rattle.table.specs.Wants.{WordRights}
 use Rattle.table.proofs.WantLaws.{wants_divided, wanting, tells_wants}
 use Rattle.places.specs.Count.{blocks, domain_of, address_of, want}
-use Rattle.places.specs.Final.{number, table_of, place, entry_word, final}
+use Rattle.places.specs.Final.{table_of, place, entry_word, final}
 use Rattle.places.proofs.NumberLaws.{number_first, number_in}
 use Rattle.places.proofs.FinalWordLaws.{place_table, entry_leads, entry_says_lem}
 use Rattle.places.proofs.FinalLaws.{final_encodes, final_placing, final_finished}

@@ -129,7 +129,7 @@ pub record FirstFree (f : ℕ → Bool) (c m r : ℕ) : Type 0 where
 
 -- The edge `e` gets the first free place from `c` on for its new table, and places are next looked for from `b` on.
 pub record Takes (f : ℕ → Bool) (c : ℕ) (s : Shape) (h : ℕ) (e g : Edge) (b : ℕ) : Type 0 where
-  pub is_new_lem : is_new h e ≡ true
+  pub makes_new : is_new h e ≡ true
   pub place : ℕ
   pub first : FirstFree f c (places s h) place
   pub below : place < places s h

@@ -13,7 +13,7 @@ use Rattle.table.specs.declared.Shape.{Shape}
 use Rattle.table.specs.declared.Entry.{Entry}
 use Rattle.table.specs.declared.Entry.TheVariants.{Rights, Leads, Bad}
 use Rattle.table.specs.Shape.{first_middle, first_leaf, pool_length, size}
-use Rattle.table.specs.Map.{is_place, part, parts, index, leads, good, form_of}
+use Rattle.table.specs.Map.{is_place, part, parts, index, form_of}
 use Rattle.table.specs.Entries.{leads_to, decode_of}
 use Rattle.theory.proofs.Logic.{and_both}
 

@@ -14,8 +14,8 @@ fn root() -> PathBuf {
 
 /// Runs the program on an input and gives what it printed.
 fn printed(input: &[u8]) -> Vec<u8> {
-    let program = root().join("target/bin/rights_listing");
-    assert!(program.exists(), "{} is missing: run `rt check` first", program.display());
+    let program = root().join("crates/rights_listing/out/rights_listing");
+    assert!(program.exists(), "{} is missing: run rights_listing.sh first", program.display());
     let mut child = Command::new("sh")
         .arg(root().join("scripts/run.sh"))
         .arg(program)

@@ -1,12 +1,10 @@
 -- `census::entry_check` and `census::table_check` meet their contracts.
-use Rattle.std.proofs.Common.{◌≡◌, ◌+◌, ◌-◌, ◌*◌, ◌≤◌, ◌<◌, ℕ, List, refl, sym, ap, ◌∙◌, arith, rules}
+use Rattle.std.proofs.Common.{◌+◌, ◌-◌, ◌*◌, ◌≤◌, ℕ, List, refl, sym, ap, ◌∙◌, arith}
 use Rattle.theory.specs.Pool.{words}
 use Rattle.words.specs.Rights.{good_rights}
 use Rattle.table.specs.declared.Shape.{Shape}
-use Rattle.table.specs.declared.Entry.TheVariants.{Leads}
-use Rattle.table.specs.Entries.{decode_of}
 use Rattle.table.proofs.EntryLaws.{decoded_leads}
-use Rattle.census.specs.Tally.{Tally, entry_tally, table_tally}
+use Rattle.census.specs.Tally.{Tally, entry_tally}
 use Rattle.census.proofs.PlaceLaws.{decoded_place}
 use Rattle.census.proofs.TallyLaws.{upper_size, answers_owned, answers_refused, same_answers, owned_answers}
 use Rattle.census.proofs.TallyLaws.{refused_answers, through_step, through_stop, through_pass, through_start, through_end}

@@ -1,10 +1,8 @@
 -- `census::census` meets its contract. The loop's invariant: the roots passed are fine, and have left the owners so
 -- far.
-use Prim.Native.Nat.{ℕ, ◌+◌, ◌*◌, ◌-◌, ◌≤◌, ◌<◌}
+use Prim.Native.Nat.{ℕ, ◌+◌, ◌*◌, ◌-◌, ◌<◌}
 use mathlib.Core.Path.{◌≡◌, sym, ap, ◌∙◌}
 use native.Mathlib.Omega.{arith}
-use borrow.Author.Rules.{rules}
-use borrow.Author.Tests.{not-true, not-false}
 use lib.ListN.{length, replicate, length-replicate}
 use Rattle.theory.specs.Pool.{words}
 use Rattle.census.specs.Places.{max_places}
@@ -58,11 +56,11 @@ returns-then-not-fine c = let D = c.args.shape.domains in
 
 pub loop-d-preserved : goal.loop-d-preserved
 loop-d-preserved c = (
-      omega arith,
-      omega (arith, c.loop-d.invariant.1),
-      next (goal.at.loop-d-preserved c).After-table_check-fine ∙ answers_owned _ _ _ c.table_check-fine.ensures
-          (c.if-not-fine.false),
-    )
+  omega arith,
+  omega (arith, c.loop-d.invariant.1),
+  next (goal.at.loop-d-preserved c).After-table_check-fine ∙ answers_owned _ _ _ c.table_check-fine.ensures
+      (c.if-not-fine.false),
+)
 
 pub shape_of-owners : goal.shape_of-owners
 shape_of-owners c = omega (

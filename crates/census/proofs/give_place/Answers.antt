@@ -1,6 +1,5 @@
 -- `census::give_place` meets its contract.
 use mathlib.Core.Path.{refl}
-use borrow.Author.Rules.{rules}
 use borrow.Author.Tests.{eq-eqb, ne_eqb}
 use Rattle.census.proofs.give_place.Goals as goal
 

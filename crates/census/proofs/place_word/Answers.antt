@@ -1,7 +1,6 @@
 -- `census::place_word` meets its contract.
 use mathlib.Core.Path.{refl}
 use borrow.Author.Tests.{lt-ltb, le-ltb}
-use borrow.Author.Rules.{rules}
 use Rattle.census.proofs.place_word.Goals as goal
 
 pub returns-then-n-lt-FIRST_LEAF : goal.returns-then-n-lt-FIRST_LEAF

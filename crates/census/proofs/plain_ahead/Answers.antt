@@ -1,7 +1,6 @@
 -- `census::plain_ahead` meets its contract.
 use Prim.Native.Nat.{◌+◌}
 use native.Mathlib.Omega.{arith}
-use borrow.Author.Rules.{rules}
 use Rattle.census.proofs.plain_ahead.Goals as goal
 
 pub returns-then-not-plain : goal.returns-then-not-plain

@@ -5,7 +5,6 @@ use mathlib.Core.Bool.{cond, ◌&&◌}
 use native.Mathlib.Omega.{arith}
 use native.Mathlib.Decide.{ℕ_discrete}
 use lib.Dec.{eqb, ltb}
-use borrow.Author.Rules.{rules}
 use borrow.Author.Tests.{lt-ltb, le-ltb, eq-eqb, ne_eqb}
 use Rattle.words.specs.Rights.{right_at, eight_of}
 use Rattle.targets.specs.Targets.{entry_blocks}

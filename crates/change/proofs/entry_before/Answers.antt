@@ -1,6 +1,5 @@
 -- `change::entry_before` meets its contract.
 use mathlib.Core.Path.{refl}
-use borrow.Author.Rules.{rules}
 use borrow.Author.Tests.{lt-ltb, le-ltb}
 use Rattle.change.proofs.entry_before.Goals as goal
 

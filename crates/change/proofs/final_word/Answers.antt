@@ -3,7 +3,6 @@ use Prim.Native.Nat.{◌+◌, ◌*◌, ◌-◌, ◌≤◌, ◌<◌}
 use mathlib.Core.Path.{◌≡◌, refl, sym, ap, ◌∙◌}
 use mathlib.Core.Bool.{true, false}
 use native.Mathlib.Omega.{arith}
-use borrow.Author.Rules.{rules}
 use Rattle.plan.specs.Plan.{InTable, of_table, edge_of, entry_after, after, plan_in}
 use Rattle.change.proofs.TableLaws.{in_within, edge_below}
 use Rattle.change.proofs.final_word.Goals as goal
@@ -66,80 +65,80 @@ returns-then-in_table c = let a = c.args in
 
 pub table_after-requires : goal.table_after-requires
 table_after-requires c = record {
-      plan_bound = (c.requires.region.right, omega arith);
-      number_bound = rw c.ends_in-blocks.ensures (
-        edge_below (plan_in c.args.plan.now) c.requires 1 (omega arith) true,
-        first_block (goal.at.table_after-requires c).After-of_table ∙ c.if-of_table.true,
-      );
-    }
+  plan_bound = (c.requires.region.right, omega arith);
+  number_bound = rw c.ends_in-blocks.ensures (
+    edge_below (plan_in c.args.plan.now) c.requires 1 (omega arith) true,
+    first_block (goal.at.table_after-requires c).After-of_table ∙ c.if-of_table.true,
+  );
+}
 
 pub returns-then-of_table : goal.returns-then-of_table
 unfolding after
 returns-then-of_table c = rw (
-      sym (root_test (goal.at.returns-then-of_table c).After-in_table) ∙ c.if-in_table.false,
-      first_block (goal.at.returns-then-of_table c).After-of_table ∙ c.if-of_table.true,
-    ) (rw c.ends_in-blocks.ensures at c.table_after.ensures)
+  sym (root_test (goal.at.returns-then-of_table c).After-in_table) ∙ c.if-in_table.false,
+  first_block (goal.at.returns-then-of_table c).After-of_table ∙ c.if-of_table.true,
+) (rw c.ends_in-blocks.ensures at c.table_after.ensures)
 
 pub table_after-requires-then-of_table-2 : goal.table_after-requires-then-of_table-2
 table_after-requires-then-of_table-2 c = record {
-      plan_bound = (c.requires.region.right, omega arith);
-      number_bound = rw c.ends_in-blocks.ensures (
-        edge_below (plan_in c.args.plan.now) c.requires 1 (omega arith) false,
-        last_block (goal.at.table_after-requires-then-of_table-2 c).After-of_table-2 ∙ c.if-of_table-2.true,
-      );
-    }
+  plan_bound = (c.requires.region.right, omega arith);
+  number_bound = rw c.ends_in-blocks.ensures (
+    edge_below (plan_in c.args.plan.now) c.requires 1 (omega arith) false,
+    last_block (goal.at.table_after-requires-then-of_table-2 c).After-of_table-2 ∙ c.if-of_table-2.true,
+  );
+}
 
 pub returns-then-of_table-2 : goal.returns-then-of_table-2
 unfolding after
 returns-then-of_table-2 c = rw (
-      sym (root_test (goal.at.returns-then-of_table-2 c).After-in_table) ∙ c.if-in_table.false,
-      first_block (goal.at.returns-then-of_table-2 c).After-of_table ∙ c.if-of_table.false,
-      last_block (goal.at.returns-then-of_table-2 c).After-of_table-2 ∙ c.if-of_table-2.true,
-    ) (rw c.ends_in-blocks.ensures at c.table_after-then-of_table-2.ensures)
+  sym (root_test (goal.at.returns-then-of_table-2 c).After-in_table) ∙ c.if-in_table.false,
+  first_block (goal.at.returns-then-of_table-2 c).After-of_table ∙ c.if-of_table.false,
+  last_block (goal.at.returns-then-of_table-2 c).After-of_table-2 ∙ c.if-of_table-2.true,
+) (rw c.ends_in-blocks.ensures at c.table_after-then-of_table-2.ensures)
 
 pub table_after-requires-then-of_table-3 : goal.table_after-requires-then-of_table-3
 table_after-requires-then-of_table-3 c = record {
-      plan_bound = (c.requires.region.right, omega arith);
-      number_bound = rw c.ends_in-pages.ensures (
-        edge_below (plan_in c.args.plan.now) c.requires 0 (omega arith) true,
-        first_page (goal.at.table_after-requires-then-of_table-3 c).After-of_table-3 ∙ c.if-of_table-3.true,
-      );
-    }
+  plan_bound = (c.requires.region.right, omega arith);
+  number_bound = rw c.ends_in-pages.ensures (
+    edge_below (plan_in c.args.plan.now) c.requires 0 (omega arith) true,
+    first_page (goal.at.table_after-requires-then-of_table-3 c).After-of_table-3 ∙ c.if-of_table-3.true,
+  );
+}
 
 pub returns-then-of_table-3 : goal.returns-then-of_table-3
 unfolding after
 returns-then-of_table-3 c = rw (
-      sym (root_test (goal.at.returns-then-of_table-3 c).After-in_table) ∙ c.if-in_table.false,
-      first_block (goal.at.returns-then-of_table-3 c).After-of_table ∙ c.if-of_table.false,
-      last_block (goal.at.returns-then-of_table-3 c).After-of_table-2 ∙ c.if-of_table-2.false,
-      first_page (goal.at.returns-then-of_table-3 c).After-of_table-3 ∙ c.if-of_table-3.true,
-    ) (rw c.ends_in-pages.ensures at c.table_after-then-of_table-3.ensures)
+  sym (root_test (goal.at.returns-then-of_table-3 c).After-in_table) ∙ c.if-in_table.false,
+  first_block (goal.at.returns-then-of_table-3 c).After-of_table ∙ c.if-of_table.false,
+  last_block (goal.at.returns-then-of_table-3 c).After-of_table-2 ∙ c.if-of_table-2.false,
+  first_page (goal.at.returns-then-of_table-3 c).After-of_table-3 ∙ c.if-of_table-3.true,
+) (rw c.ends_in-pages.ensures at c.table_after-then-of_table-3.ensures)
 
 pub table_after-requires-then-of_table-4 : goal.table_after-requires-then-of_table-4
 table_after-requires-then-of_table-4 c = record {
-      plan_bound = (c.requires.region.right, omega arith);
-      number_bound = rw c.ends_in-pages.ensures (
-        edge_below (plan_in c.args.plan.now) c.requires 0 (omega arith) false,
-        last_page (goal.at.table_after-requires-then-of_table-4 c).After-of_table-4 ∙ c.if-of_table-4.true,
-      );
-    }
+  plan_bound = (c.requires.region.right, omega arith);
+  number_bound = rw c.ends_in-pages.ensures (
+    edge_below (plan_in c.args.plan.now) c.requires 0 (omega arith) false,
+    last_page (goal.at.table_after-requires-then-of_table-4 c).After-of_table-4 ∙ c.if-of_table-4.true,
+  );
+}
 
 pub returns-then-of_table-4 : goal.returns-then-of_table-4
 unfolding after
 returns-then-of_table-4 c = rw (
-      sym (root_test (goal.at.returns-then-of_table-4 c).After-in_table) ∙ c.if-in_table.false,
-      first_block (goal.at.returns-then-of_table-4 c).After-of_table ∙ c.if-of_table.false,
-      last_block (goal.at.returns-then-of_table-4 c).After-of_table-2 ∙ c.if-of_table-2.false,
-      first_page (goal.at.returns-then-of_table-4 c).After-of_table-3 ∙ c.if-of_table-3.false,
-      last_page (goal.at.returns-then-of_table-4 c).After-of_table-4 ∙ c.if-of_table-4.true,
-    ) (rw c.ends_in-pages.ensures at c.table_after-then-of_table-4.ensures)
+  sym (root_test (goal.at.returns-then-of_table-4 c).After-in_table) ∙ c.if-in_table.false,
+  first_block (goal.at.returns-then-of_table-4 c).After-of_table ∙ c.if-of_table.false,
+  last_block (goal.at.returns-then-of_table-4 c).After-of_table-2 ∙ c.if-of_table-2.false,
+  first_page (goal.at.returns-then-of_table-4 c).After-of_table-3 ∙ c.if-of_table-3.false,
+  last_page (goal.at.returns-then-of_table-4 c).After-of_table-4 ∙ c.if-of_table-4.true,
+) (rw c.ends_in-pages.ensures at c.table_after-then-of_table-4.ensures)
 
 pub returns : goal.returns
 unfolding after
 returns c = rw (
-      sym (root_test (goal.at.returns c).After-in_table) ∙ c.if-in_table.false,
-      first_block (goal.at.returns c).After-of_table ∙ c.if-of_table.false,
-      last_block (goal.at.returns c).After-of_table-2 ∙ c.if-of_table-2.false,
-      first_page (goal.at.returns c).After-of_table-3 ∙ c.if-of_table-3.false,
-      last_page (goal.at.returns c).After-of_table-4 ∙ c.if-of_table-4.false,
-    ) refl
+  sym (root_test (goal.at.returns c).After-in_table) ∙ c.if-in_table.false,
+  first_block (goal.at.returns c).After-of_table ∙ c.if-of_table.false,
+  last_block (goal.at.returns c).After-of_table-2 ∙ c.if-of_table-2.false,
+  first_page (goal.at.returns c).After-of_table-3 ∙ c.if-of_table-3.false,
+  last_page (goal.at.returns c).After-of_table-4 ∙ c.if-of_table-4.false,
+) refl

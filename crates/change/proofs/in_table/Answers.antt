@@ -1,7 +1,6 @@
 -- `change::in_table` meets its contract.
 use borrow.Author.Tests.{le-leb, lt-leb}
 use native.Mathlib.Omega.{arith}
-use borrow.Author.Rules.{rules}
 use Rattle.change.proofs.in_table.Goals as goal
 
 pub returns-then-i-first : goal.returns-then-i-first

@@ -1,10 +1,6 @@
 -- `change::make_stores` meets its contract: each turn of the loop starts between two stores of the work.
 use native.Mathlib.Omega.{arith}
-use borrow.Author.Rules.{rules}
-use Rattle.plan.specs.Plan.{plan_in}
-use Rattle.plan.specs.Aims.{aim_of}
-use Rattle.change.specs.Runs.{work_in}
-use Rattle.change.proofs.RunLaws.{Midst, midst_begin, midst_looks, midst_told, midst_on, found_store}
+use Rattle.change.proofs.RunLaws.{midst_begin, midst_looks, midst_told, midst_on, found_store}
 use Rattle.change.proofs.RunLaws.{found_none, ends_left, ends_done, ends_cut, next_due}
 use Rattle.change.proofs.make_stores.Goals as goal
 
@@ -13,9 +9,9 @@ loop-at-init c = midst_begin _ c.requires.ready c.requires.told
 
 pub next_store-next-requires : goal.next_store-next-requires
 next_store-next-requires c = record {
-      looks = midst_looks c.loop-at.invariant;
-      told = midst_told c.loop-at.invariant;
-    }
+  looks = midst_looks c.loop-at.invariant;
+  told = midst_told c.loop-at.invariant;
+}
 
 pub overflow_sub-made : goal.overflow_sub-made
 overflow_sub-made c = ends_left c.loop-at.invariant

@@ -1,11 +1,8 @@
 -- `change::make_stores` meets its contract: each turn of the loop starts between two stores of the work.
-use native.Mathlib.Omega.{arith}
-use borrow.Author.Rules.{rules}
 use Rattle.plan.specs.Plan.{plan_in}
 use Rattle.plan.specs.Aims.{aim_of}
 use Rattle.change.specs.Runs.{work_in}
-use Rattle.change.proofs.RunLaws.{Midst, midst_begin, midst_looks, midst_told, midst_on, found_store}
-use Rattle.change.proofs.RunLaws.{found_none, ends_left, ends_done, ends_cut, next_due}
+use Rattle.change.proofs.RunLaws.{Midst}
 use Rattle.change.proofs.make_stores.Given as goal
 
 abbrev pub invariant-loop-at : goal.invariant-loop-at

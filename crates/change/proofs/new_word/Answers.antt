@@ -1,6 +1,5 @@
 -- `change::new_word` meets its contract.
 use mathlib.Core.Path.{refl, sym, ◌∙◌}
-use borrow.Author.Rules.{rules}
 use Rattle.plan.specs.Plan.{new_word}
 use Rattle.change.proofs.new_word.Goals as goal
 

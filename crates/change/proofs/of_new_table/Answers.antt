@@ -1,7 +1,6 @@
 -- `change::of_new_table` meets its contract.
 use mathlib.Core.Path.{ap}
 use native.Mathlib.Omega.{arith}
-use borrow.Author.Rules.{rules}
 use borrow.Author.Tests.{lt-ltb, le-ltb}
 use Rattle.change.proofs.TableLaws.{wide}
 use Rattle.change.proofs.of_new_table.Goals as goal

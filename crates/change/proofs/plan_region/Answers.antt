@@ -2,8 +2,6 @@
 use mathlib.Core.Path.{sym, ◌∙◌}
 use mathlib.Core.Bool.{true≢false}
 use native.Mathlib.Omega.{arith}
-use borrow.Author.Rules.{rules}
-use borrow.Author.Tests.{not-true, not-false}
 use Rattle.theory.specs.Pool.{words}
 use Rattle.theory.specs.Settled.{Settled}
 use Rattle.table.specs.Map.{form_of}
@@ -36,12 +34,12 @@ returns-then-not-settled c = λ n. unsettled (c.census-sound.ensures.sound (c.if
 
 pub plan_change-ready-requires : goal.plan_change-ready-requires
 plan_change-ready-requires c = record {
-      fits = c.requires.fits;
-      settled = settled_here (goal.at.plan_change-ready-requires c).Else-not-settled;
-      owners = c.census-sound.ensures.owners (c.if-not-sound.false);
-      domain_lt_domains = c.requires.domain_lt_domains.0;
-      regular = c.requires.domain_lt_domains.1;
-    }
+  fits = c.requires.fits;
+  settled = settled_here (goal.at.plan_change-ready-requires c).Else-not-settled;
+  owners = c.census-sound.ensures.owners (c.if-not-sound.false);
+  domain_lt_domains = c.requires.domain_lt_domains.0;
+  regular = c.requires.domain_lt_domains.1;
+}
 
 pub returns-then-not-ready : goal.returns-then-not-ready
 returns-then-not-ready c = let a = c.args in

@@ -2,8 +2,6 @@
 use mathlib.Core.Path.{sym, ◌∙◌}
 use mathlib.Core.Bool.{true≢false}
 use native.Mathlib.Omega.{arith}
-use borrow.Author.Rules.{rules}
-use borrow.Author.Tests.{not-true, not-false}
 use lib.ListN.{length}
 use Rattle.table.specs.Shape.{Fits}
 use Rattle.table.proofs.ShapeLaws.{test_fits, fits_test}
@@ -29,14 +27,14 @@ returns-then-right-gt3 c = λ n. no_right (fits_at (goal.at.returns-then-right-g
 
 pub plan_region-requires : goal.plan_region-requires
 plan_region-requires c = let a = c.args in record {
-      fits = fits_at (goal.at.plan_region-requires c).Else-not-shape_fits;
-      owners_len = c.requires;
-      domain_lt_domains = (
-          omega (arith, c.if-domain-domains.false),
-          covers_regular a.start.0 a.length a.right _ (omega (arith, c.if-right-gt3.false))
-              (sym c.round_region-rounded.ensures ∙ c.in-Covers.is),
-        );
-    }
+  fits = fits_at (goal.at.plan_region-requires c).Else-not-shape_fits;
+  owners_len = c.requires;
+  domain_lt_domains = (
+    omega (arith, c.if-domain-domains.false),
+    covers_regular a.start.0 a.length a.right _ (omega (arith, c.if-right-gt3.false))
+        (sym c.round_region-rounded.ensures ∙ c.in-Covers.is),
+  );
+}
 
 pub returns-in-Refused : goal.returns-in-Refused
 returns-in-Refused c = λ n. no_region (fits_at (goal.at.returns-in-Refused c).Else-not-shape_fits)

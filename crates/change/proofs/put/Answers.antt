@@ -2,7 +2,6 @@
 use mathlib.Core.Path.{refl}
 use Rattle.plan.specs.Aims.{aim_of}
 use Rattle.change.proofs.CutLaws.{put_cuts}
-use borrow.Author.Rules.{rules}
 use Rattle.change.proofs.put.Goals as goal
 
 pub bounds-pool-i : goal.bounds-pool-i

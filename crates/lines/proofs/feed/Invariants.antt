@@ -1,11 +1,8 @@
 -- `lines::feed` meets its contract. The loop's invariant: what is left of the chunk gives what the whole gives.
 use Prim.Native.Nat.{◌-◌}
-use native.Mathlib.Omega.{arith}
-use mathlib.Core.Path.{◌≡◌, refl, sym, ◌∙◌}
+use mathlib.Core.Path.{◌≡◌}
 use lib.ListN.{length, drop}
-use borrow.Author.Rules.{rules}
 use Rattle.lines.specs.Feeds.{feed_of}
-use Rattle.lines.proofs.StepLaws.{feed_end, feed_newline, feed_room, feed_full}
 use Rattle.lines.proofs.feed.Given as goal
 
 abbrev pub invariant-loop-i : goal.invariant-loop-i

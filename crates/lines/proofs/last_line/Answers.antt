@@ -1,7 +1,6 @@
 -- `lines::last_line` meets its contract: a line has begun exactly where its length is not 0.
 use native.Mathlib.Omega.{arith}
 use mathlib.Core.Path.{sym, ap, ◌∙◌}
-use borrow.Author.Rules.{rules}
 use Rattle.lines.specs.declared.Found.TheVariants.{Line}
 use Rattle.lines.proofs.StepLaws.{last_none, last_begun}
 use Rattle.lines.proofs.last_line.Goals as goal

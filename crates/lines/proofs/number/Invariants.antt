@@ -1,14 +1,9 @@
 -- `lines::number` meets its contract. The loop's invariant: what is left to read gives what the whole word gives.
 use Prim.Native.Nat.{◌-◌, ◌≤◌}
-use native.Mathlib.Omega.{arith}
-use mathlib.Core.Path.{◌≡◌, sym, ◌∙◌}
+use mathlib.Core.Path.{◌≡◌}
 use lib.ListN.{length, drop}
-use borrow.Author.Rules.{rules}
-use borrow.Author.Tests.{not-true, not-false}
 use Rattle.lines.specs.Inner.{number_at}
-use Rattle.lines.proofs.DigitLaws.{digit_bounds}
-use Rattle.lines.proofs.ReadLaws.{read_on, word_past, word_space, word_more, read_stop, read_other, read_over}
-use Rattle.lines.proofs.ReadLaws.{read_more, number_none, number_other, number_digit}
+use Rattle.lines.proofs.ReadLaws.{read_on}
 use Rattle.lines.proofs.number.Given as goal
 
 abbrev pub invariant-loop-i : goal.invariant-loop-i

@@ -1,10 +1,7 @@
 -- `lines::request` meets its contract. The loop's invariant: the numbers still to be read give what all four give.
 use Prim.Native.Nat.{◌-◌}
-use native.Mathlib.Omega.{arith}
-use mathlib.Core.Path.{◌≡◌, refl, sym, ◌∙◌}
-use borrow.Author.Rules.{rules}
+use mathlib.Core.Path.{◌≡◌}
 use Rattle.lines.specs.Inner.{words_from, numbers_then, four_numbers}
-use Rattle.lines.proofs.WordLaws.{numbers_value, numbers_none, numbers_more, numbers_end}
 use Rattle.lines.proofs.request.Given as goal
 
 abbrev pub invariant-loop-k : goal.invariant-loop-k

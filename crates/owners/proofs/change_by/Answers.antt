@@ -1,9 +1,8 @@
 -- `owners::change_by` meets its contract.
 use Prim.Native.Nat.{ℕ}
-use mathlib.Core.Path.{◌≡◌, refl, sym, ap, subst, ◌∙◌}
+use mathlib.Core.Path.{sym, subst}
 use mathlib.Core.Logic.{⊎_elim}
 use mathlib.Core.List.{List}
-use borrow.Author.Rules.{rules}
 use Rattle.table.specs.declared.Shape.{Shape}
 use Rattle.change.specs.declared.Answer.TheVariants.{Refused}
 use Rattle.owners.specs.declared.Leave.TheVariants.{Refused as NoLeave}

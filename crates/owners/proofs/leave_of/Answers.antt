@@ -1,8 +1,6 @@
 -- `owners::leave_of` meets its contract.
-use mathlib.Core.Path.{◌≡◌, refl, sym, ◌∙◌}
+use mathlib.Core.Path.{refl, sym, ◌∙◌}
 use mathlib.Core.Logic.{inl, inr}
-use borrow.Author.Rules.{rules}
-use borrow.Author.Tests.{not-true, not-false}
 use Rattle.owners.proofs.RuleLaws.{true_allowed, false_not_allowed}
 use Rattle.owners.proofs.CallLaws.{asked_in_order}
 use Rattle.owners.proofs.leave_of.Goals as goal
@@ -28,8 +26,8 @@ returns-in-Refused c = inl (sym c.ask-asked.ensures ∙ c.in-Refused.is)
 
 pub returns-else-not-allowed : goal.returns-else-not-allowed
 returns-else-not-allowed c = let a = c.args in (
-      _,
-      sym c.ask-asked.ensures ∙ c.in-Covers.is,
-      true_allowed a.regions.now a.caller a.domain a.right _
-          (sym c.allowed-allowed.ensures ∙ c.if-not-allowed.false),
-    )
+  _,
+  sym c.ask-asked.ensures ∙ c.in-Covers.is,
+  true_allowed a.regions.now a.caller a.domain a.right _
+      (sym c.allowed-allowed.ensures ∙ c.if-not-allowed.false),
+)

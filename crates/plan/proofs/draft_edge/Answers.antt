@@ -3,7 +3,6 @@ use Prim.Native.Nat.{suc, ◌*◌, ◌<◌}
 use mathlib.Core.Path.{sym, subst, ap, ◌∙◌}
 use native.Mathlib.Omega.{arith}
 use native.Mathlib.Numerals.{add-one}
-use borrow.Author.Rules.{rules}
 use Rattle.theory.specs.Pool.{words}
 use Rattle.table.specs.Map.{block}
 use Rattle.targets.specs.Targets.{painted, target_of, entry_blocks, Gives, Readable}

@@ -1,5 +1,4 @@
 -- `plan::edge_of` meets its contract.
-use borrow.Author.Rules.{rules}
 use borrow.Author.Tests.{lt-ltb, le-ltb}
 use Rattle.plan.proofs.edge_of.Goals as goal
 

@@ -1,11 +1,8 @@
 -- `plan::next_free` meets its contract. The loop's invariant: at the places passed, kept tables stand.
-use Prim.Native.Nat.{ℕ, ◌+◌, ◌-◌, ◌≤◌, ◌<◌}
+use Prim.Native.Nat.{◌+◌, ◌<◌}
 use mathlib.Core.Path.{◌≡◌, refl, sym, ◌∙◌}
-use mathlib.Core.Bool.{true}
 use native.Mathlib.Omega.{arith}
 use native.Mathlib.Decide.{ℕ_discrete}
-use borrow.Author.Rules.{rules}
-use borrow.Author.Tests.{not-true, not-false}
 use Rattle.census.specs.Places.{max_places}
 use Rattle.plan.specs.Plan.{ends_in}
 use Rattle.plan.specs.Edges.{kept_at}
@@ -47,13 +44,13 @@ returns-then-not-kept c = let l = c.loop-p in
 
 pub loop-p-preserved : goal.loop-p-preserved
 loop-p-preserved c = let l = c.loop-p in (
-      omega arith,
-      omega arith,
-      λ q lo up. elim (ℕ_discrete q l.p) [
-        | yes e ↦ rw e (told (goal.at.loop-p-preserved c).After-is_kept-kept ∙ c.if-not-kept.false)
-        | no e ↦ l.invariant.2 q lo (omega arith)
-      ],
-    )
+  omega arith,
+  omega arith,
+  λ q lo up. elim (ℕ_discrete q l.p) [
+    | yes e ↦ rw e (told (goal.at.loop-p-preserved c).After-is_kept-kept ∙ c.if-not-kept.false)
+    | no e ↦ l.invariant.2 q lo (omega arith)
+  ],
+)
 
 pub returns : goal.returns
 returns c = let l = c.loop-p in

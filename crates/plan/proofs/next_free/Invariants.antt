@@ -1,15 +1,9 @@
 -- `plan::next_free` meets its contract. The loop's invariant: at the places passed, kept tables stand.
-use Prim.Native.Nat.{ℕ, ◌+◌, ◌-◌, ◌≤◌, ◌<◌}
-use mathlib.Core.Path.{◌≡◌, refl, sym, ◌∙◌}
+use Prim.Native.Nat.{ℕ, ◌-◌, ◌≤◌, ◌<◌}
+use mathlib.Core.Path.{◌≡◌}
 use mathlib.Core.Bool.{true}
-use native.Mathlib.Omega.{arith}
-use native.Mathlib.Decide.{ℕ_discrete}
-use borrow.Author.Rules.{rules}
-use borrow.Author.Tests.{not-true, not-false}
-use Rattle.census.specs.Places.{max_places}
 use Rattle.plan.specs.Plan.{ends_in}
 use Rattle.plan.specs.Edges.{kept_at}
-use Rattle.plan.proofs.LayoutLaws.{ends_in_lem}
 use Rattle.plan.proofs.next_free.Given as goal
 
 abbrev pub invariant-loop-p : goal.invariant-loop-p

@@ -2,7 +2,6 @@
 use Prim.Native.Nat.{ℕ, zero, suc, ◌+◌, ◌*◌, ◌/◌, ◌%◌, ◌<◌}
 use mathlib.Core.Path.{◌≡◌, refl, sym, ap, ◌∙◌}
 use native.Mathlib.Omega.{arith}
-use borrow.Author.Rules.{rules}
 use borrow.Author.Tests.{lt-ltb, le-ltb}
 use Rattle.theory.specs.Pool.{words}
 use Rattle.places.specs.Count.{blocks}
@@ -48,9 +47,9 @@ led c = rw c.root_entry-root.ensures at c.if-root-lt-BIT_31.true
 
 pub root_entry-requires : goal.root_entry-requires
 root_entry-requires c = record {
-      readable_root = c.requires.readable_root;
-      domain_bound = (c.requires.height_lt_heights.1, block_low _ _ c.if-height-eq1.true c.requires.height_lt_heights.2);
-    }
+  readable_root = c.requires.readable_root;
+  domain_bound = (c.requires.height_lt_heights.1, block_low _ _ c.if-height-eq1.true c.requires.height_lt_heights.2);
+}
 
 pub returns-then-height-eq1 : goal.returns-then-height-eq1
 returns-then-height-eq1 c = let a = c.args in

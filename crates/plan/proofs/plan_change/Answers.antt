@@ -1,17 +1,12 @@
 -- `plan::plan_change` meets its contract. The loop's invariant: the domain and the paint are stored, and the heights
 -- done are placed.
-use Prim.Native.Nat.{ℕ, ◌-◌, ◌≤◌, ◌<◌}
+use Prim.Native.Nat.{ℕ, ◌-◌}
 use mathlib.Core.Path.{◌≡◌, sym, subst, ◌∙◌}
-use mathlib.Core.Bool.{Bool}
-use mathlib.Core.List.{List}
 use native.Mathlib.Omega.{arith}
 use native.Mathlib.Decide.{ℕ_discrete}
-use lib.ListN.{length, get_or}
-use borrow.Author.Rules.{rules}
-use borrow.Author.Tests.{not-true, not-false}
+use lib.ListN.{length}
 use Rattle.theory.specs.Pool.{words}
-use Rattle.places.specs.Count.{heights}
-use Rattle.plan.specs.Plan.{plan_words, ends_in, paint_in, plan_in}
+use Rattle.plan.specs.Plan.{plan_words, ends_in, plan_in}
 use Rattle.plan.specs.Edges.{EndsPlaced, EndsAre}
 use Rattle.plan.proofs.PlanLaws.{plan_ready, full_height}
 use Rattle.plan.proofs.LayoutLaws.{head_long, head_domain, head_paint, ends_in_lem, ends_beside, domain_beside}
@@ -31,12 +26,12 @@ loop-height-init c = let a = c.args in
 
 pub plan_ends-fits-requires : goal.plan_ends-fits-requires
 plan_ends-fits-requires c = record {
-      fits = c.requires.fits;
-      settled = c.requires.settled;
-      owners = c.requires.owners;
-      height_lt_heights = (omega arith, c.requires.domain_lt_domains, c.requires.regular);
-      plan_len = c.loop-height.invariant.0;
-    }
+  fits = c.requires.fits;
+  settled = c.requires.settled;
+  owners = c.requires.owners;
+  height_lt_heights = (omega arith, c.requires.domain_lt_domains, c.requires.regular);
+  plan_len = c.loop-height.invariant.0;
+}
 
 pub returns-then-not-fits : goal.returns-then-not-fits
 returns-then-not-fits c =

@@ -1,21 +1,12 @@
 -- `plan::plan_change` meets its contract. The loop's invariant: the domain and the paint are stored, and the heights
 -- done are placed.
-use Prim.Native.Nat.{ℕ, ◌-◌, ◌≤◌, ◌<◌}
-use mathlib.Core.Path.{◌≡◌, sym, subst, ◌∙◌}
-use mathlib.Core.Bool.{Bool}
-use mathlib.Core.List.{List}
-use native.Mathlib.Omega.{arith}
-use native.Mathlib.Decide.{ℕ_discrete}
+use Prim.Native.Nat.{ℕ, ◌≤◌, ◌<◌}
+use mathlib.Core.Path.{◌≡◌}
 use lib.ListN.{length, get_or}
-use borrow.Author.Rules.{rules}
-use borrow.Author.Tests.{not-true, not-false}
 use Rattle.theory.specs.Pool.{words}
 use Rattle.places.specs.Count.{heights}
-use Rattle.plan.specs.Plan.{plan_words, ends_in, paint_in, plan_in}
-use Rattle.plan.specs.Edges.{EndsPlaced, EndsAre}
-use Rattle.plan.proofs.PlanLaws.{plan_ready, full_height}
-use Rattle.plan.proofs.LayoutLaws.{head_long, head_domain, head_paint, ends_in_lem, ends_beside, domain_beside}
-use Rattle.plan.proofs.LayoutLaws.{paint_beside}
+use Rattle.plan.specs.Plan.{plan_words, ends_in, paint_in}
+use Rattle.plan.specs.Edges.{EndsPlaced}
 use Rattle.plan.proofs.plan_change.Given as goal
 
 abbrev pub invariant-loop-height : goal.invariant-loop-height

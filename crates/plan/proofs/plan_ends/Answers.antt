@@ -1,14 +1,11 @@
 -- `plan::plan_ends` meets its contract.
 use Prim.Native.Nat.{ℕ, zero, suc, ◌+◌, ◌-◌, ◌/◌, ◌≤◌, ◌<◌}
 use mathlib.Core.Path.{◌≡◌, refl, sym, subst, ap, ◌∙◌}
-use mathlib.Core.Logic.{◌≢◌}
 use mathlib.Core.Bool.{Bool, true, false}
 use mathlib.Core.List.{List}
 use native.Mathlib.Omega.{arith}
 use native.Mathlib.Numerals.{add-one}
 use lib.ListN.{length}
-use borrow.Author.Rules.{rules}
-use borrow.Author.Tests.{not-true, not-false}
 use Rattle.theory.specs.Pool.{words, right_of}
 use Rattle.table.specs.declared.Shape.{Shape}
 use Rattle.table.specs.Map.{block, form_of}
@@ -17,7 +14,7 @@ use Rattle.plan.specs.Plan.{plan_words, edge_word, edge_in, put_edge}
 use Rattle.plan.specs.Planning.{Regular, first_of, last_of}
 use Rattle.targets.specs.declared.Paint.{Paint}
 use Rattle.places.specs.Count.{heights}
-use Rattle.plan.specs.Edges.{edge_at, Taken, At, taken_by, TakesPlace}
+use Rattle.plan.specs.Edges.{edge_at, Taken, taken_by, TakesPlace}
 use Rattle.plan.proofs.MeetLaws.{end_below}
 use Rattle.plan.proofs.DraftLaws.{words_bytes, pool_root, pool_gives}
 use Rattle.plan.proofs.GiveLaws.{taken_low, found_at, found_none}

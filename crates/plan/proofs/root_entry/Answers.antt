@@ -2,7 +2,6 @@
 use Prim.Native.Nat.{◌+◌, ◌*◌}
 use mathlib.Core.Path.{◌≡◌, ap, ◌∙◌}
 use native.Mathlib.Omega.{arith}
-use borrow.Author.Rules.{rules}
 use Rattle.theory.specs.Pool.{words}
 use Rattle.plan.proofs.root_entry.Goals as goal
 use Rattle.plan.proofs.root_entry.Goals.{After-pool_index-at}

@@ -6,7 +6,6 @@ use mathlib.Core.Bool.{true, ◌&&◌, not, and-false}
 use native.Mathlib.Omega.{arith}
 use native.Mathlib.Decide.{ℕ_discrete}
 use native.Mathlib.Nat.{mul-le-mul}
-use borrow.Author.Rules.{rules}
 use borrow.Author.Tests.{lt-ltb, le-ltb}
 use Rattle.table.specs.declared.Shape.{Shape}
 use Rattle.table.specs.Shape.{InRange, first_place, places, size}
@@ -14,7 +13,6 @@ use Rattle.table.specs.Map.{leads}
 use Rattle.census.specs.Places.{max_places, first_number}
 use Rattle.plan.specs.declared.Edge.{Edge}
 use Rattle.plan.specs.Plan.{edge_in, is_new}
-use Rattle.plan.specs.Edges.{TakenIs}
 use Rattle.plan.proofs.GiveLaws.{taken_at}
 use Rattle.plan.proofs.LayoutLaws.{beside_none, beside_set, edge_set}
 use Rattle.plan.proofs.take_place.Goals as goal
@@ -126,7 +124,7 @@ returns c = let n = c.next_free-place in
     let g = edge_set l a.i c.entry_of-pointer.result (omega arith) in
     record {
       taken = rw (taken_at (n.result + 1) (let y = room (goal.at.returns c).Else-place-count in omega arith)) (inr (record {
-        is_new_lem = new (goal.at.returns c).Else-old-lt-BIT_31;
+        makes_new = new (goal.at.returns c).Else-old-lt-BIT_31;
         place = n.result;
         first = rw m at n.ensures;
         below = rw m at (apart _ _ c.if-place-count.false n.ensures.high);

@@ -1,8 +1,6 @@
 -- `table::decide` meets its contract. Assumes nothing.
 use mathlib.Core.Path.{sym, ap, ◌∙◌}
 use native.Mathlib.Omega.{arith}
-use borrow.Author.Rules.{rules}
-use borrow.Author.Tests.{not-true, not-false}
 use Rattle.table.specs.Lookup.{without_reach}
 use Rattle.table.proofs.ShapeLaws.{test_fits}
 use Rattle.table.proofs.LookupLaws.{lookup_misfit, lookup_no_domain, lookup_walks}
@@ -20,9 +18,9 @@ returns-then-domain-domains c = let a = c.args in
 
 pub walk_down-requires : goal.walk_down-requires
 walk_down-requires c = let a = c.args in record {
-      fits = test_fits a.shape _ (sym c.shape_fits.ensures ∙ c.if-not-shape_fits.false);
-      domain_lt_domains = omega arith;
-    }
+  fits = test_fits a.shape _ (sym c.shape_fits.ensures ∙ c.if-not-shape_fits.false);
+  domain_lt_domains = omega arith;
+}
 
 pub returns : goal.returns
 returns c = let a = c.args in

@@ -5,7 +5,6 @@ use mathlib.Core.Bool.{cond}
 use Rattle.table.specs.declared.Entry.TheVariants.{Rights, Bad}
 use Rattle.table.specs.Entries.{leads_to}
 use Rattle.table.proofs.EntryLaws.{decode_leaf, decode_middle, decode_root, decode_rights}
-use borrow.Author.Rules.{rules}
 use Rattle.table.proofs.decode.Goals as goal
 
 pub returns-then-height-eq0 : goal.returns-then-height-eq0

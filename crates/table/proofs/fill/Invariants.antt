@@ -1,13 +1,9 @@
 -- `table::fill` meets its contract. The loop's invariant: the first `i` words have the value, and the others are as
 -- they were.
-use mathlib.Core.Path.{◌≡◌, refl, ◌∙◌}
-use mathlib.Core.List.{◌++◌, append-nil}
-use Prim.Native.Nat.{◌+◌, ◌≤◌, ◌-◌}
-use native.Mathlib.Omega.{arith}
-use borrow.Author.Rules.{rules}
-use borrow.Author.Fill.{fill_more}
-use lib.ListN.{length, drop, replicate, length-set}
-use lib.Seq.{drop-length}
+use mathlib.Core.Path.{◌≡◌}
+use mathlib.Core.List.{◌++◌}
+use Prim.Native.Nat.{◌≤◌, ◌-◌}
+use lib.ListN.{length, drop, replicate}
 use Rattle.table.proofs.fill.Given as goal
 
 abbrev pub invariant-loop-i : goal.invariant-loop-i

@@ -1,7 +1,6 @@
 -- `table::index_in` meets its contract.
 use mathlib.Core.Path.{◌≡◌}
 use native.Mathlib.Omega.{arith}
-use borrow.Author.Rules.{rules}
 use Rattle.table.proofs.index_in.Goals as goal
 
 pub returns-then-height-eq2 : goal.returns-then-height-eq2

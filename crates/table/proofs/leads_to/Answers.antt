@@ -1,7 +1,6 @@
 -- `table::leads_to` meets its contract.
 use native.Mathlib.Omega.{arith}
 use Rattle.table.proofs.EntryLaws.{place_low, place_high, place_off, place_is, place_below}
-use borrow.Author.Rules.{rules}
 use Rattle.table.proofs.leads_to.Goals as goal
 
 pub returns-then-w-from : goal.returns-then-w-from

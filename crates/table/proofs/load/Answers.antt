@@ -1,7 +1,6 @@
 -- `table::load` meets its contract.
 use mathlib.Core.Path.{refl}
 use native.Mathlib.Omega.{arith}
-use borrow.Author.Rules.{rules}
 use Rattle.table.proofs.load.Goals as goal
 
 pub returns : goal.returns

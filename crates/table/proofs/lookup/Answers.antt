@@ -1,6 +1,5 @@
 -- `table::lookup` meets its contract. Assumes nothing.
 use mathlib.Core.Path.{sym, ◌∙◌}
-use borrow.Author.Rules.{rules}
 use Rattle.table.proofs.LookupLaws.{walked_refused, walked_loads, walked_by}
 use Rattle.table.proofs.lookup.Goals as goal
 

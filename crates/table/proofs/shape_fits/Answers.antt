@@ -1,5 +1,4 @@
 -- `table::shape_fits` meets its contract: each test that fails makes the whole test fail.
-use borrow.Author.Rules.{rules}
 use borrow.Author.Tests.{le-leb, lt-leb}
 use native.Mathlib.Omega.{arith}
 use Rattle.table.proofs.shape_fits.Goals as goal

@@ -1,12 +1,9 @@
 -- `table::walk_down` meets its contract. The loop's invariant: what is left of the walk ends as the whole does, the
 -- word that it stands at lies in the pool, and the loads made are the levels passed.
-use Prim.Native.Nat.{◌+◌, ◌*◌, ◌-◌, ◌≤◌, ◌<◌}
+use Prim.Native.Nat.{◌+◌, ◌*◌, ◌-◌}
 use mathlib.Core.Path.{◌≡◌, refl, sym, ap, ◌∙◌}
 use native.Mathlib.Omega.{arith}
-use borrow.Author.Rules.{rules}
-use lib.ListN.{length}
 use Rattle.theory.specs.Pool.{words}
-use Rattle.theory.specs.Walk.{walk}
 use Rattle.theory.proofs.WalkLaws.{walk_refused, walk_stops}
 use Rattle.table.specs.Map.{index, form_of}
 use Rattle.table.specs.Entries.{decode_of}
@@ -51,10 +48,10 @@ returns-in-Bad c = let F = form_of c.args.shape in
 
 pub right_at-right-requires : goal.right_at-right-requires
 right_at-right-requires c = omega (
-      arith,
-      c.part_in-i.ensures,
-      part_below c.loop-r.height c.args.address.0,
-    )
+  arith,
+  c.part_in-i.ensures,
+  part_below c.loop-r.height c.args.address.0,
+)
 
 pub returns-in-Rights : goal.returns-in-Rights
 returns-in-Rights c = let F = form_of c.args.shape in

@@ -1,18 +1,11 @@
 -- `table::walk_down` meets its contract. The loop's invariant: what is left of the walk ends as the whole does, the
 -- word that it stands at lies in the pool, and the loads made are the levels passed.
-use Prim.Native.Nat.{◌+◌, ◌*◌, ◌-◌, ◌≤◌, ◌<◌}
-use mathlib.Core.Path.{◌≡◌, refl, sym, ap, ◌∙◌}
-use native.Mathlib.Omega.{arith}
-use borrow.Author.Rules.{rules}
+use Prim.Native.Nat.{◌+◌, ◌*◌, ◌≤◌, ◌<◌}
+use mathlib.Core.Path.{◌≡◌}
 use lib.ListN.{length}
 use Rattle.theory.specs.Pool.{words}
 use Rattle.theory.specs.Walk.{walk}
-use Rattle.theory.proofs.WalkLaws.{walk_refused, walk_stops}
 use Rattle.table.specs.Map.{index, form_of}
-use Rattle.table.specs.Entries.{decode_of}
-use Rattle.table.specs.Lookup.{found_at, without_reach}
-use Rattle.table.proofs.EntryLaws.{part_below, index_below, bad_above, decoded_bad, decoded_any_rights}
-use Rattle.table.proofs.LookupLaws.{GoesOn, goes_on}
 use Rattle.table.proofs.walk_down.Given as goal
 
 abbrev pub invariant-loop-r : goal.invariant-loop-r

@@ -3,7 +3,6 @@ use Prim.Native.Nat.{◌<◌}
 use mathlib.Core.Path.{◌≡◌, sym, ap, subst, ◌∙◌}
 use mathlib.Core.Bool.{false}
 use native.Mathlib.Omega.{arith}
-use borrow.Author.Rules.{rules}
 use Rattle.table.proofs.WantLaws.{same_pack}
 use Rattle.targets.specs.declared.Target.TheVariants.{Says}
 use Rattle.table.specs.Map.{leads}

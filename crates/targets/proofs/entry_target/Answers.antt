@@ -2,7 +2,6 @@
 use Prim.Native.Nat.{◌<◌}
 use mathlib.Core.Path.{sym, subst}
 use native.Mathlib.Omega.{arith}
-use borrow.Author.Rules.{rules}
 use Rattle.targets.specs.Targets.{entry_blocks, Readable}
 use Rattle.targets.proofs.HeightLaws.{above_below}
 use Rattle.targets.proofs.EntryLaws.{found_entry, readable_good}

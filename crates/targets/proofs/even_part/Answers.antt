@@ -1,5 +1,4 @@
 -- `targets::even_part` meets its contract.
-use borrow.Author.Rules.{rules}
 use Rattle.targets.proofs.PaintLaws.{whole_plain, apart_plain, same_plain, half_two}
 use Rattle.targets.proofs.even_part.Goals as goal
 

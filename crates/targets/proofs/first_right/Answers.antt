@@ -3,7 +3,6 @@ use Prim.Native.Nat.{◌*◌, ◌/◌}
 use mathlib.Core.Path.{◌≡◌, sym, ap, ◌∙◌}
 use mathlib.Core.Bool.{false}
 use native.Mathlib.Omega.{arith}
-use borrow.Author.Rules.{rules}
 use borrow.Author.Tests.{lt-ltb}
 use Rattle.theory.specs.Pool.{words}
 use Rattle.words.specs.Rights.{right_at}

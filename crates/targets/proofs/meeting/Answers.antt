@@ -1,7 +1,6 @@
 -- `targets::meeting` meets its contract.
 use Prim.Native.Nat.{ℕ, ◌+◌, ◌-◌, ◌<◌, ◌≤◌}
 use native.Mathlib.Omega.{arith}
-use borrow.Author.Rules.{rules}
 use Rattle.targets.specs.declared.Paint.{Paint}
 use Rattle.targets.specs.Steps.{Half}
 use Rattle.targets.proofs.PaintLaws.{inside_is, inside_low, inside_high, inside_none}

@@ -2,16 +2,15 @@
 use Prim.Native.Nat.{◌*◌}
 use mathlib.Core.Path.{sym, ◌∙◌}
 use native.Mathlib.Omega.{arith}
-use borrow.Author.Rules.{rules}
 use Rattle.targets.proofs.PaintLaws.{half_some, said_after, after_apart, after_whole}
 use Rattle.targets.proofs.paint_word.Goals as goal
 
 pub repack-requires : goal.repack-requires
 repack-requires c = record {
-      s_bound = (omega arith, c.requires.1);
-      lo_le_hi = half_some c.args.paint _ 16 (rw c.in-Partly.is
-          at c.meeting-c.ensures);
-    }
+  s_bound = (omega arith, c.requires.1);
+  lo_le_hi = half_some c.args.paint _ 16 (rw c.in-Partly.is
+      at c.meeting-c.ensures);
+}
 
 pub returns-in-Apart : goal.returns-in-Apart
 returns-in-Apart c = λ R g.

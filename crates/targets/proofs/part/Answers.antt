@@ -3,8 +3,7 @@ use Prim.Native.Nat.{suc, ◌+◌, ◌*◌, ◌≤◌}
 use mathlib.Core.Path.{◌≡◌, sym, ap, ◌∙◌}
 use mathlib.Core.Bool.{true, true≢false}
 use native.Mathlib.Omega.{arith}
-use borrow.Author.Rules.{rules}
-use borrow.Author.Tests.{lt-ltb, not-true, not-false}
+use borrow.Author.Tests.{lt-ltb}
 use lib.ListN.{length}
 use Rattle.theory.specs.Pool.{words}
 use Rattle.table.specs.Map.{leads}
@@ -67,9 +66,9 @@ bounds-pool-from c = let z = begin (goal.at.bounds-pool-from c).After-pool_index
 
 pub first_right-right-requires : goal.first_right-right-requires
 first_right-right-requires c = let x = sub (goal.at.first_right-right-requires c).After-part_entries-count in record {
-      readable = rw (begin (goal.at.first_right-right-requires c).After-pool_index-from) (c.requires.readable.entries (lead (goal.at.first_right-right-requires c).After-part_entries-count) _ (omega (arith, x.some, x.inside)));
-      height_bound = (c.requires.below_bound.0, omega (arith, x.some, x.few));
-    }
+  readable = rw (begin (goal.at.first_right-right-requires c).After-pool_index-from) (c.requires.readable.entries (lead (goal.at.first_right-right-requires c).After-part_entries-count) _ (omega (arith, x.some, x.inside)));
+  height_bound = (c.requires.below_bound.0, omega (arith, x.some, x.few));
+}
 
 pub entries_have-all-requires : goal.entries_have-all-requires
 entries_have-all-requires c = let a = c.args in
@@ -77,13 +76,13 @@ entries_have-all-requires c = let a = c.args in
     let z = word (goal.at.entries_have-all-requires c).After-word_after-word in record {
       count_in_bounds = (omega (arith, inside (goal.at.entries_have-all-requires c).After-part_entries-count), x.few);
       by_index = λ j l.
-            let y : c.word_after-word.result.0 + j ≡ a.e + (c.part_entries-count.result * a.i + j) = omega arith in
-            rw y (c.requires.readable.entries (lead (goal.at.entries_have-all-requires c).After-part_entries-count) _ (omega (arith, x.inside)));
+          let y : c.word_after-word.result.0 + j ≡ a.e + (c.part_entries-count.result * a.i + j) = omega arith in
+          rw y (c.requires.readable.entries (lead (goal.at.entries_have-all-requires c).After-part_entries-count) _ (omega (arith, x.inside)));
       height_bound = (
-          omega arith,
-          c.requires.below_bound.3,
-          rw c.first_right-right.ensures (painted_given_small (words a.pool.now) a.paint _ _ c.requires.below_bound.3 _),
-        );
+        omega arith,
+        c.requires.below_bound.3,
+        rw c.first_right-right.ensures (painted_given_small (words a.pool.now) a.paint _ _ c.requires.below_bound.3 _),
+      );
     }
 
 pub returns-then-not-all : goal.returns-then-not-all

@@ -4,7 +4,6 @@ use mathlib.Core.Path.{◌≡◌, ◌∙◌}
 use native.Mathlib.Omega.{arith}
 use native.Mathlib.Nat.{one-mul, mod-le}
 use lib.Pow.{pow_pos, shl_exact}
-use borrow.Author.Rules.{rules}
 use Rattle.words.specs.Rights.{pack}
 use Rattle.words.proofs.RightsLaws.{pack_range}
 use Rattle.targets.specs.Steps.{Before, right_after}

@@ -1,13 +1,10 @@
 -- `targets::rights_have` meets its contract. The loop's invariant: the sub-blocks passed have the right throughout.
-use Prim.Native.Nat.{ℕ, suc, ◌-◌, ◌<◌, ◌≤◌}
+use Prim.Native.Nat.{suc}
 use native.Mathlib.Omega.{arith}
 use borrow.Author.Count.{below_more}
-use borrow.Author.Rules.{rules}
 use Rattle.table.specs.Wants.{words_in}
 use Rattle.table.proofs.BlockLaws.{first_word}
-use Rattle.targets.specs.declared.One.TheVariants.{Right}
 use Rattle.targets.specs.Targets.{painted, given}
-use Rattle.targets.specs.Steps.{PartIs}
 use Rattle.targets.proofs.PartLaws.{part_word, plain_part, parts_plain}
 use Rattle.targets.proofs.HaveLaws.{decides_yes, decides_no, plain_one}
 use Rattle.targets.proofs.rights_have.Goals as goal
@@ -33,10 +30,10 @@ returns-then-u-right c = λ P.
 
 pub loop-i-preserved : goal.loop-i-preserved
 loop-i-preserved c = let l = c.loop-i in (
-      omega arith,
-      λ P. below_more _ _ (l.invariant.1 P) (rw (c.in-Right.is, c.if-u-right.false)
-          at (c.rights_part-one.ensures P)),
-    )
+  omega arith,
+  λ P. below_more _ _ (l.invariant.1 P) (rw (c.in-Right.is, c.if-u-right.false)
+      at (c.rights_part-one.ensures P)),
+)
 
 pub returns : goal.returns
 returns c = λ P.

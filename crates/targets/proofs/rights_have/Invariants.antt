@@ -1,15 +1,7 @@
 -- `targets::rights_have` meets its contract. The loop's invariant: the sub-blocks passed have the right throughout.
 use Prim.Native.Nat.{ℕ, suc, ◌-◌, ◌<◌, ◌≤◌}
-use native.Mathlib.Omega.{arith}
-use borrow.Author.Count.{below_more}
-use borrow.Author.Rules.{rules}
-use Rattle.table.specs.Wants.{words_in}
-use Rattle.table.proofs.BlockLaws.{first_word}
 use Rattle.targets.specs.declared.One.TheVariants.{Right}
-use Rattle.targets.specs.Targets.{painted, given}
 use Rattle.targets.specs.Steps.{PartIs}
-use Rattle.targets.proofs.PartLaws.{part_word, plain_part, parts_plain}
-use Rattle.targets.proofs.HaveLaws.{decides_yes, decides_no, plain_one}
 use Rattle.targets.proofs.rights_have.Given as goal
 
 abbrev pub invariant-loop-i : goal.invariant-loop-i

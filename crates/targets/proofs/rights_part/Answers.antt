@@ -3,7 +3,6 @@ use Prim.Native.Nat.{suc}
 use mathlib.Core.Path.{◌≡◌, ap, ◌∙◌}
 use native.Mathlib.Omega.{arith}
 use native.Mathlib.Numerals.{add-one}
-use borrow.Author.Rules.{rules}
 use Rattle.table.specs.Wants.{words_in}
 use Rattle.targets.specs.Targets.{given}
 use Rattle.targets.proofs.HeightLaws.{few_blocks, part_room}

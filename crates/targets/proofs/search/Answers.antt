@@ -1,11 +1,10 @@
 -- `targets::search` meets its contract. The loop's invariant: what it has said are the rights of the sub-blocks passed.
-use Prim.Native.Nat.{suc, ◌*◌, ◌-◌, ◌≤◌}
+use Prim.Native.Nat.{suc, ◌*◌, ◌≤◌}
 use native.Mathlib.Omega.{arith}
-use borrow.Author.Rules.{rules}
 use Rattle.theory.specs.Pool.{words}
 use Rattle.targets.specs.Targets.{painted, given}
 use Rattle.targets.proofs.GivenLaws.{painted_given_small}
-use Rattle.targets.proofs.SearchLaws.{Gathers, gathers_none, gathers_room, gathers_more, gathers_two}
+use Rattle.targets.proofs.SearchLaws.{gathers_none, gathers_room, gathers_more, gathers_two}
 use Rattle.targets.proofs.SearchLaws.{gathers_all}
 use Rattle.targets.proofs.search.Goals as goal
 use Rattle.targets.proofs.search.Goals.{In-Right}
@@ -25,9 +24,9 @@ loop-i-init c = gathers_none _ _ _
 
 pub part-one-requires : goal.part-one-requires
 part-one-requires c = record {
-      readable = c.requires.readable;
-      below_bound = (c.requires.below_bound.0, c.requires.below_bound.1, omega arith, c.requires.below_bound.2);
-    }
+  readable = c.requires.readable;
+  below_bound = (c.requires.below_bound.0, c.requires.below_bound.1, omega arith, c.requires.below_bound.2);
+}
 
 pub returns-in_default : goal.returns-in_default
 returns-in_default c = let a = c.args in

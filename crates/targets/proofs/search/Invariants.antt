@@ -1,12 +1,8 @@
 -- `targets::search` meets its contract. The loop's invariant: what it has said are the rights of the sub-blocks passed.
-use Prim.Native.Nat.{suc, ◌*◌, ◌-◌, ◌≤◌}
-use native.Mathlib.Omega.{arith}
-use borrow.Author.Rules.{rules}
+use Prim.Native.Nat.{suc, ◌-◌}
 use Rattle.theory.specs.Pool.{words}
 use Rattle.targets.specs.Targets.{painted, given}
-use Rattle.targets.proofs.GivenLaws.{painted_given_small}
-use Rattle.targets.proofs.SearchLaws.{Gathers, gathers_none, gathers_room, gathers_more, gathers_two}
-use Rattle.targets.proofs.SearchLaws.{gathers_all}
+use Rattle.targets.proofs.SearchLaws.{Gathers}
 use Rattle.targets.proofs.search.Given as goal
 
 abbrev pub invariant-loop-i : goal.invariant-loop-i

@@ -2,12 +2,8 @@
 -- as many are, each is eight rights. Assumes nothing.
 use Prim.Native.Nat.{◌+◌, ◌-◌, ◌≤◌}
 use mathlib.Core.Path.{◌≡◌}
-use native.Mathlib.Omega.{arith}
-use borrow.Author.Rules.{rules}
-use borrow.Author.Tests.{eqb-true}
 use lib.ListN.{length}
 use Rattle.words.specs.Passing.{Passed}
-use Rattle.words.proofs.PassingLaws.{passed_more}
 use Rattle.words.proofs.all_rights.Given as goal
 
 abbrev pub invariant-loop-i : goal.invariant-loop-i

@@ -1,12 +1,8 @@
 -- `words::all_same` meets its contract. The loop's invariant: at most as many are counted as were passed, and as many
 -- just where each is the value. Assumes nothing.
-use Prim.Native.Nat.{◌+◌, ◌-◌, ◌≤◌}
 use mathlib.Core.Path.{◌≡◌, sym, ◌∙◌}
 use native.Mathlib.Omega.{arith}
-use borrow.Author.Rules.{rules}
 use borrow.Author.Tests.{eqb-true, eq-eqb}
-use lib.ListN.{length}
-use Rattle.words.specs.Passing.{AllSame}
 use Rattle.words.proofs.PassingLaws.{same_more}
 use Rattle.words.proofs.all_same.Goals as goal
 
@@ -15,13 +11,13 @@ loop-i-init c = (omega arith, omega arith, omega arith, (λ e k b. absurd (omega
 
 pub loop-i-preserved : goal.loop-i-preserved
 loop-i-preserved c = let o = c.one_if_same-n.ensures in (
-      c.loop-i.invariant.0,
-      omega arith,
-      omega arith,
-      (λ e. same_more c.args.pool.now c.pool_index-first.result c.loop-i.i _
-          (c.loop-i.invariant.3 (omega arith)) (o.1 (omega arith))),
-      λ s. omega (arith, c.loop-i.invariant.4 (λ j b. s j (omega arith)), o.2 (s c.loop-i.i (omega arith))),
-    )
+  c.loop-i.invariant.0,
+  omega arith,
+  omega arith,
+  (λ e. same_more c.args.pool.now c.pool_index-first.result c.loop-i.i _
+      (c.loop-i.invariant.3 (omega arith)) (o.1 (omega arith))),
+  λ s. omega (arith, c.loop-i.invariant.4 (λ j b. s j (omega arith)), o.2 (s c.loop-i.i (omega arith))),
+)
 
 pub returns : goal.returns
 returns c = let a = c.args in

@@ -1,13 +1,9 @@
 -- `words::all_same` meets its contract. The loop's invariant: at most as many are counted as were passed, and as many
 -- just where each is the value. Assumes nothing.
 use Prim.Native.Nat.{◌+◌, ◌-◌, ◌≤◌}
-use mathlib.Core.Path.{◌≡◌, sym, ◌∙◌}
-use native.Mathlib.Omega.{arith}
-use borrow.Author.Rules.{rules}
-use borrow.Author.Tests.{eqb-true, eq-eqb}
+use mathlib.Core.Path.{◌≡◌}
 use lib.ListN.{length}
 use Rattle.words.specs.Passing.{AllSame}
-use Rattle.words.proofs.PassingLaws.{same_more}
 use Rattle.words.proofs.all_same.Given as goal
 
 abbrev pub invariant-loop-i : goal.invariant-loop-i

@@ -1,7 +1,6 @@
 -- `words::one_if_rights` meets its contract. Assumes nothing.
 use mathlib.Core.Path.{sym, ◌∙◌}
 use native.Mathlib.Omega.{arith}
-use borrow.Author.Rules.{rules}
 use Rattle.words.proofs.one_if_rights.Goals as goal
 
 pub returns-then-good_rights : goal.returns-then-good_rights

@@ -1,11 +1,7 @@
 -- `words::pass_by` meets its contract. The loop's invariant: the words passed are eight rights. Assumes nothing.
 use Prim.Native.Nat.{◌+◌, ◌-◌, ◌≤◌, ◌<◌}
-use native.Mathlib.Omega.{arith}
-use borrow.Author.Rules.{rules}
-use borrow.Author.Tests.{not-false}
 use lib.ListN.{length}
 use Rattle.words.specs.Passing.{Passed}
-use Rattle.words.proofs.PassingLaws.{passed_join}
 use Rattle.words.proofs.pass_by.Given as goal
 
 abbrev pub invariant-loop-n : goal.invariant-loop-n

@@ -1,7 +1,6 @@
 -- `words::round_region` meets its contract. Assumes nothing.
 use mathlib.Core.Path.{sym, ap, ◌∙◌}
 use native.Mathlib.Omega.{arith}
-use borrow.Author.Rules.{rules}
 use Rattle.words.specs.declared.Rounded.TheVariants.{Covers}
 use Rattle.words.specs.Region.{rounded}
 use Rattle.words.proofs.RegionLaws.{region_equal, region_empty, region_beyond, region_covers}

@@ -1,12 +1,9 @@
 -- `words::skip_rights` meets its contract. The loop's invariant: the words passed are eight rights. Assumes nothing.
-use Prim.Native.Nat.{◌+◌, ◌-◌, ◌≤◌}
+use Prim.Native.Nat.{◌+◌}
 use mathlib.Core.Path.{◌≡◌, sym, ap, ◌∙◌}
 use native.Mathlib.Omega.{arith}
-use borrow.Author.Rules.{rules}
-use borrow.Author.Tests.{not-false, not-true}
-use lib.ListN.{length, get_or}
+use lib.ListN.{get_or}
 use Rattle.words.specs.Rights.{good_rights}
-use Rattle.words.specs.Passing.{Passed}
 use Rattle.words.proofs.PassingLaws.{passed_more, passed_join}
 use Rattle.words.proofs.skip_rights.Goals as goal
 
@@ -22,19 +19,19 @@ loop-n-init c = let e = c.pool_index-first.ensures in
 
 pub loop-n-preserved : goal.loop-n-preserved
 loop-n-preserved c = let first = c.pool_index-first.result in (
-      omega arith,
-      c.loop-n.invariant.1,
-      λ k low high. passed_more c.args.pool.now first (first + c.loop-n.n) c.loop-n.invariant.2
-          (sym c.good_rights-good.ensures ∙ c.if-not-good.false) k low (omega arith),
-    )
+  omega arith,
+  c.loop-n.invariant.1,
+  λ k low high. passed_more c.args.pool.now first (first + c.loop-n.n) c.loop-n.invariant.2
+      (sym c.good_rights-good.ensures ∙ c.if-not-good.false) k low (omega arith),
+)
 
 pub returns-after-loop-n : goal.returns-after-loop-n
 returns-after-loop-n c = record {
-      low = omega arith;
-      high = omega arith;
-      passed = λ k low high. c.loop-n.invariant.2 k (omega arith) (omega arith);
-      stops = λ h. absurd (omega arith);
-    }
+  low = omega arith;
+  high = omega arith;
+  passed = λ k low high. c.loop-n.invariant.2 k (omega arith) (omega arith);
+  stops = λ h. absurd (omega arith);
+}
 
 pub returns-then-not-good : goal.returns-then-not-good
 returns-then-not-good c = let a = c.args in

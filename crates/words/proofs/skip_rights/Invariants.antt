@@ -1,13 +1,7 @@
 -- `words::skip_rights` meets its contract. The loop's invariant: the words passed are eight rights. Assumes nothing.
 use Prim.Native.Nat.{◌+◌, ◌-◌, ◌≤◌}
-use mathlib.Core.Path.{◌≡◌, sym, ap, ◌∙◌}
-use native.Mathlib.Omega.{arith}
-use borrow.Author.Rules.{rules}
-use borrow.Author.Tests.{not-false, not-true}
-use lib.ListN.{length, get_or}
-use Rattle.words.specs.Rights.{good_rights}
+use lib.ListN.{length}
 use Rattle.words.specs.Passing.{Passed}
-use Rattle.words.proofs.PassingLaws.{passed_more, passed_join}
 use Rattle.words.proofs.skip_rights.Given as goal
 
 abbrev pub invariant-loop-n : goal.invariant-loop-n

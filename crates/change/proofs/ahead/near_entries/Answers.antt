@@ -3,7 +3,6 @@ use Prim.Native.Nat.{ℕ, zero, suc, ◌-◌, ◌/◌, ◌<◌}
 use mathlib.Core.Path.{ap}
 use native.Mathlib.Omega.{arith}
 use native.Mathlib.Nat.{div-le_self}
-use borrow.Author.Rules.{rules}
 use Rattle.table.specs.Map.{block}
 use Rattle.plan.specs.Plan.{plan_in}
 use Rattle.change.proofs.TableLaws.{wide}

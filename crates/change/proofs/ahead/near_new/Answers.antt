@@ -1,7 +1,6 @@
 -- `ahead::near_new` meets its contract.
 use mathlib.Core.Path.{ap}
 use native.Mathlib.Omega.{arith}
-use borrow.Author.Rules.{rules}
 use Rattle.change.proofs.TableLaws.{wide}
 use Rattle.change.proofs.AheadLaws.{ahead_as, ahead_all, new_none, new_kept, new_outside}
 use Rattle.change.proofs.ahead.near_new.Goals as goal

@@ -2,7 +2,6 @@
 use mathlib.Core.Path.{refl}
 use mathlib.Core.Logic.{inl, inr}
 use native.Mathlib.Omega.{arith}
-use borrow.Author.Rules.{rules}
 use Rattle.change.proofs.ahead.nearer.Goals as goal
 
 pub returns-then-end-here : goal.returns-then-end-here
@@ -16,18 +15,18 @@ returns-then-limit-first c = record { from = omega arith; upto = omega arith; so
 
 pub returns-then-first-here : goal.returns-then-first-here
 returns-then-first-here c = record {
-      from = omega arith;
-      upto = omega arith;
-      some = inl (omega arith);
-      passed = λ j lo hi start past.
-          omega arith;
-    }
+  from = omega arith;
+  upto = omega arith;
+  some = inl (omega arith);
+  passed = λ j lo hi start past.
+      omega arith;
+}
 
 pub returns : goal.returns
 returns c = record {
-      from = omega arith;
-      upto = omega arith;
-      some = inl (omega arith);
-      passed = λ j lo hi start past.
-          omega arith;
-    }
+  from = omega arith;
+  upto = omega arith;
+  some = inl (omega arith);
+  passed = λ j lo hi start past.
+      omega arith;
+}

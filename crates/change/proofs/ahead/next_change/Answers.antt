@@ -1,12 +1,6 @@
 -- `ahead::next_change` meets its contract. The loop takes every run that stands at the first cursor to the cursor `at`.
-use Prim.Native.Nat.{◌+◌, ◌*◌, ◌-◌, ◌≤◌}
 use mathlib.Core.Path.{sym, ap}
 use native.Mathlib.Omega.{arith}
-use borrow.Author.Rules.{rules}
-use lib.ListN.{length}
-use Rattle.plan.specs.Plan.{plan_in}
-use Rattle.change.specs.declared.Work.TheVariants.{Change}
-use Rattle.change.specs.Runs.{Run, Stands}
 use Rattle.change.proofs.AheadLaws.{few_words}
 use Rattle.change.proofs.StateLaws.{at_end}
 use Rattle.change.proofs.RunLaws.{in_store, in_none, wanted_from}

@@ -2,7 +2,6 @@
 use Prim.Native.Nat.{◌<◌}
 use mathlib.Core.Path.{◌≡◌, sym, ap, ◌∙◌}
 use native.Mathlib.Omega.{arith}
-use borrow.Author.Rules.{rules}
 use lib.ListN.{length}
 use Rattle.theory.specs.Pool.{words}
 use Rattle.plan.specs.Plan.{plan_in}

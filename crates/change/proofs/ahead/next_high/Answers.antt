@@ -2,7 +2,6 @@
 use mathlib.Core.Path.{ap}
 use mathlib.Core.Bool.{true, false}
 use native.Mathlib.Omega.{arith}
-use borrow.Author.Rules.{rules}
 use Rattle.plan.specs.Plan.{edge_of, plan_in}
 use Rattle.plan.proofs.AfterLaws.{each_end}
 use Rattle.change.specs.Ahead.{TableIdle}

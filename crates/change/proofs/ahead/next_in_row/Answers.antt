@@ -1,9 +1,7 @@
 -- `ahead::next_in_row` meets its contract. The loop takes every run that stands at the cursor to word `word` of its
 -- row.
-use Prim.Native.Nat.{◌+◌}
 use mathlib.Core.Path.{◌≡◌, ap}
 use native.Mathlib.Omega.{arith}
-use borrow.Author.Rules.{rules}
 use Rattle.plan.specs.Plan.{plan_in}
 use Rattle.change.specs.declared.Work.TheVariants.{Change}
 use Rattle.change.specs.Runs.{Run, Stands}
@@ -39,9 +37,9 @@ loop-left-init c = let e = ap (λ w. w.0) c.word_after-word.ensures in
 
 pub next_here-next-requires : goal.next_here-next-requires
 next_here-next-requires c = let i = c.loop-left.invariant.0 in (
-      record { fits = c.requires.fits; sound = c.requires.sound; follows = (c.requires.follows.0, omega arith, c.requires.follows.2) },
-      omega (arith, c.loop-left-test.true),
-    )
+  record { fits = c.requires.fits; sound = c.requires.sound; follows = (c.requires.follows.0, omega arith, c.requires.follows.2) },
+  omega (arith, c.loop-left-test.true),
+)
 
 pub returns-in_default : goal.returns-in_default
 returns-in_default c = let g = c.in_default.is in
@@ -59,10 +57,10 @@ loop-left-smaller c = omega (arith, c.loop-left-test.true)
 
 pub loop-left-preserved : goal.loop-left-preserved
 loop-left-preserved c = let e = ap (λ w. w.0) c.word_after-word-in-loop-left.ensures in (
-      omega (arith, c.loop-left.invariant.0, c.loop-left-test.true),
-      λ u y. rw e (in_none _ c.in-None.is c.next_here-next.ensures u
-          (c.loop-left.invariant.1 u y)),
-    )
+  omega (arith, c.loop-left.invariant.0, c.loop-left-test.true),
+  λ u y. rw e (in_none _ c.in-None.is c.next_here-next.ensures u
+      (c.loop-left.invariant.1 u y)),
+)
 
 pub returns : goal.returns
 returns c = let l = c.loop-left in

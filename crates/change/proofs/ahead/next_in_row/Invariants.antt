@@ -1,14 +1,10 @@
 -- `ahead::next_in_row` meets its contract. The loop takes every run that stands at the cursor to word `word` of its
 -- row.
 use Prim.Native.Nat.{◌+◌}
-use mathlib.Core.Path.{◌≡◌, ap}
-use native.Mathlib.Omega.{arith}
-use borrow.Author.Rules.{rules}
+use mathlib.Core.Path.{◌≡◌}
 use Rattle.plan.specs.Plan.{plan_in}
 use Rattle.change.specs.declared.Work.TheVariants.{Change}
 use Rattle.change.specs.Runs.{Run, Stands}
-use Rattle.change.proofs.AheadLaws.{few_words, at_plain}
-use Rattle.change.proofs.RunLaws.{in_store, in_none, wanted_from}
 use Rattle.change.proofs.ahead.next_in_row.Given as goal
 
 abbrev pub invariant-loop-left : goal.invariant-loop-left

@@ -1,7 +1,6 @@
 -- `ahead::next_low` meets its contract.
 use mathlib.Core.Bool.{true, false}
 use native.Mathlib.Omega.{arith}
-use borrow.Author.Rules.{rules}
 use Rattle.plan.specs.Plan.{edge_of, plan_in}
 use Rattle.plan.proofs.AfterLaws.{each_end}
 use Rattle.change.specs.Ahead.{TableIdle}

@@ -1,6 +1,5 @@
 -- `ahead::next_new` meets its contract.
 use mathlib.Core.Bool.{Bool}
-use borrow.Author.Rules.{rules}
 use Rattle.places.proofs.HeightLaws.{each_height}
 use Rattle.plan.specs.Plan.{edge_of, plan_in}
 use Rattle.plan.proofs.AfterLaws.{each_end}

@@ -3,7 +3,6 @@ use Prim.Native.Nat.{◌<◌}
 use mathlib.Core.Path.{ap}
 use mathlib.Core.Logic.{⊎_elim}
 use native.Mathlib.Omega.{arith}
-use borrow.Author.Rules.{rules}
 use Rattle.plan.specs.Plan.{plan_in}
 use Rattle.change.proofs.TurnLaws.{row_turn, row_ahead}
 use Rattle.change.proofs.ahead.next_row.Goals as goal

@@ -1,6 +1,5 @@
 -- `ahead::plain_words` meets its contract.
 use native.Mathlib.Omega.{arith}
-use borrow.Author.Rules.{rules}
 use Rattle.change.proofs.ahead.plain_words.Goals as goal
 
 pub returns-then-phase-ne1 : goal.returns-then-phase-ne1

@@ -1,12 +1,9 @@
 -- `tidying::next_given_up` meets its contract. The loop takes every tidying that stands at word `from` of the table
 -- to its word `i`.
-use Prim.Native.Nat.{◌+◌, ◌-◌, ◌≤◌, ◌<◌}
+use Prim.Native.Nat.{◌+◌, ◌<◌}
 use mathlib.Core.Path.{◌≡◌, refl, ap, ◌∙◌}
 use native.Mathlib.Omega.{arith}
-use borrow.Author.Rules.{rules}
 use Rattle.table.specs.Shape.{first_leaf}
-use Rattle.change.specs.declared.Work.TheVariants.{Tidying}
-use Rattle.change.specs.Runs.{Run, Stands}
 use Rattle.change.proofs.TidyingLaws.{aim_passes, aim_stores}
 use Rattle.change.proofs.TidyAimLaws.{table_inside, table_end, plain_passed}
 use Rattle.change.proofs.tidying.next_given_up.Goals as goal
@@ -33,9 +30,9 @@ plain_ahead-n-requires c = (c.loop-i-test.true, omega (arith, c.loop-i-test.true
 
 pub target_at-target-requires : goal.target_at-target-requires
 target_at-target-requires c = record {
-      fits = c.requires.fits;
-      table = (c.requires.table.0, c.loop-i-test.true);
-    }
+  fits = c.requires.fits;
+  table = (c.requires.table.0, c.loop-i-test.true);
+}
 
 pub word_after-after-requires : goal.word_after-after-requires
 word_after-after-requires c = omega (arith, here (goal.at.word_after-after-requires c).After-word_after-k, inside (goal.at.word_after-after-requires c).In-loop-i, c.requires.fits.0.range)

@@ -1,14 +1,8 @@
 -- `tidying::next_given_up` meets its contract. The loop takes every tidying that stands at word `from` of the table
 -- to its word `i`.
-use Prim.Native.Nat.{◌+◌, ◌-◌, ◌≤◌, ◌<◌}
-use mathlib.Core.Path.{◌≡◌, refl, ap, ◌∙◌}
-use native.Mathlib.Omega.{arith}
-use borrow.Author.Rules.{rules}
-use Rattle.table.specs.Shape.{first_leaf}
+use Prim.Native.Nat.{◌+◌, ◌-◌, ◌≤◌}
 use Rattle.change.specs.declared.Work.TheVariants.{Tidying}
 use Rattle.change.specs.Runs.{Run, Stands}
-use Rattle.change.proofs.TidyingLaws.{aim_passes, aim_stores}
-use Rattle.change.proofs.TidyAimLaws.{table_inside, table_end, plain_passed}
 use Rattle.change.proofs.tidying.next_given_up.Given as goal
 
 abbrev pub invariant-loop-i : goal.invariant-loop-i

@@ -3,7 +3,6 @@ use Prim.Native.Nat.{◌*◌, ◌-◌, ◌/◌, ◌≤◌, ◌<◌}
 use mathlib.Core.Path.{◌≡◌, sym, ap, ◌∙◌}
 use mathlib.Core.Logic.{inl, inr}
 use native.Mathlib.Omega.{arith}
-use borrow.Author.Rules.{rules}
 use lib.ListN.{get_or}
 use Rattle.theory.specs.Pool.{words}
 use Rattle.table.specs.Shape.{first_middle}
@@ -84,17 +83,17 @@ returns-then-w-first c = let a = c.args in
 
 pub next_given_up-requires-2 : goal.next_given_up-requires-2
 next_given_up-requires-2 c = let e = ap (words c.args.pool.now) (owner_word (goal.at.next_given_up-requires-2 c).After-pool_index-k) in record {
-      fits = c.requires.fits;
-      table = (
-        inr (record {
-          root = c.if-owner-roots.false;
-          leads = sym e ∙ c.if-w-first.false
-              ∙ c.pool_index-first.ensures;
-          place = middle (goal.at.next_given_up-requires-2 c).Else-first-roots;
-        }),
-        c.requires.place.1,
-      );
-    }
+  fits = c.requires.fits;
+  table = (
+    inr (record {
+      root = c.if-owner-roots.false;
+      leads = sym e ∙ c.if-w-first.false
+          ∙ c.pool_index-first.ensures;
+      place = middle (goal.at.next_given_up-requires-2 c).Else-first-roots;
+    }),
+    c.requires.place.1,
+  );
+}
 
 pub returns : goal.returns
 returns c = c.next_given_up-2.ensures

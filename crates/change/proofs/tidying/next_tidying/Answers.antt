@@ -2,9 +2,6 @@
 use Prim.Native.Nat.{◌+◌, ◌-◌, ◌%◌}
 use mathlib.Core.Path.{◌≡◌, ap}
 use native.Mathlib.Omega.{arith}
-use borrow.Author.Rules.{rules}
-use Rattle.change.specs.declared.Work.TheVariants.{Tidying}
-use Rattle.change.specs.Runs.{Run, Stands}
 use Rattle.change.proofs.RunLaws.{in_store, in_none, wanted_from}
 use Rattle.change.proofs.TidyAimLaws.{place_at, tidy_end}
 use Rattle.change.proofs.tidying.next_tidying.Goals as goal
@@ -28,13 +25,13 @@ overflow_cast-k c = omega (arith, c.loop-k-test.true, c.requires.looks.fits.rang
 
 pub next_in_place-next-requires : goal.next_in_place-next-requires
 next_in_place-next-requires c = let p = c.requires.looks in record {
-      fits = (p.fits, p.sound);
-      middle_owners = c.requires.middle_owners;
-      place = (
-          rw (base (goal.at.next_in_place-next-requires c).After-pool_word-base) (place_at c.args.shape _ c.loop-k-test.true),
-          omega arith,
-        );
-    }
+  fits = (p.fits, p.sound);
+  middle_owners = c.requires.middle_owners;
+  place = (
+    rw (base (goal.at.next_in_place-next-requires c).After-pool_word-base) (place_at c.args.shape _ c.loop-k-test.true),
+    omega arith,
+  );
+}
 
 pub returns-in_default : goal.returns-in_default
 returns-in_default c = let g = c.in_default.is in

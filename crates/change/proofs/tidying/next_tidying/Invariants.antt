@@ -1,12 +1,7 @@
 -- `tidying::next_tidying` meets its contract. The loop takes every tidying that stands at the cursor to word `k`.
-use Prim.Native.Nat.{◌+◌, ◌-◌, ◌%◌}
-use mathlib.Core.Path.{◌≡◌, ap}
-use native.Mathlib.Omega.{arith}
-use borrow.Author.Rules.{rules}
+use Prim.Native.Nat.{◌-◌}
 use Rattle.change.specs.declared.Work.TheVariants.{Tidying}
 use Rattle.change.specs.Runs.{Run, Stands}
-use Rattle.change.proofs.RunLaws.{in_store, in_none, wanted_from}
-use Rattle.change.proofs.TidyAimLaws.{place_at, tidy_end}
 use Rattle.change.proofs.tidying.next_tidying.Given as goal
 
 abbrev pub invariant-loop-k : goal.invariant-loop-k

@@ -2,7 +2,6 @@
 use mathlib.Core.Path.{sym, ◌∙◌}
 use mathlib.Core.Bool.{true≢false}
 use borrow.Author.Rules.{rules}
-use borrow.Author.Tests.{not-true, not-false}
 use lib.ListN.{length}
 use Rattle.theory.specs.Pool.{words, SoundPool}
 use Rattle.table.specs.Shape.{Fits}
@@ -29,9 +28,9 @@ returns-then-not-shape_fits c = no_shape (λ f. true≢false (sym (fits_test _ _
 
 pub census-sound-requires : goal.census-sound-requires
 census-sound-requires c = record {
-      fits = fits_at (goal.at.census-sound-requires c).Else-not-shape_fits;
-      owners_len = search rules;
-    }
+  fits = fits_at (goal.at.census-sound-requires c).Else-not-shape_fits;
+  owners_len = search rules;
+}
 
 pub returns-then-not-sound : goal.returns-then-not-sound
 returns-then-not-sound c = unsound (fits_at (goal.at.returns-then-not-sound c).Else-not-shape_fits)
@@ -39,10 +38,10 @@ returns-then-not-sound c = unsound (fits_at (goal.at.returns-then-not-sound c).E
 
 pub settled-settled-requires : goal.settled-settled-requires
 settled-settled-requires c = record {
-      fits = fits_at (goal.at.settled-settled-requires c).Else-not-shape_fits;
-      sound_pool = sound_at (goal.at.settled-settled-requires c).Else-not-sound;
-      owners = c.census-sound.ensures.owners (c.if-not-sound.false);
-    }
+  fits = fits_at (goal.at.settled-settled-requires c).Else-not-shape_fits;
+  sound_pool = sound_at (goal.at.settled-settled-requires c).Else-not-sound;
+  owners = c.census-sound.ensures.owners (c.if-not-sound.false);
+}
 
 pub returns-then-settled : goal.returns-then-settled
 returns-then-settled c = settled_tidies (fits_at (goal.at.returns-then-settled c).Else-not-shape_fits)
@@ -50,10 +49,10 @@ returns-then-settled c = settled_tidies (fits_at (goal.at.returns-then-settled c
 
 pub make_stores-requires : goal.make_stores-requires
 make_stores-requires c = let fits = fits_at (goal.at.make_stores-requires c).Else-not-shape_fits in record {
-      ready = tidy_ready _ _ fits (sound_at (goal.at.make_stores-requires c).Else-not-sound);
-      told = owners_begin fits
-          (c.census-sound.ensures.owners (c.if-not-sound.false));
-    }
+  ready = tidy_ready _ _ fits (sound_at (goal.at.make_stores-requires c).Else-not-sound);
+  told = owners_begin fits
+      (c.census-sound.ensures.owners (c.if-not-sound.false));
+}
 
 pub returns : goal.returns
 returns c = tidy_answers (fits_at (goal.at.returns c).Else-not-shape_fits) (sound_at (goal.at.returns c).Else-not-sound)

@@ -1,7 +1,6 @@
 -- `owners::calls::act_on` meets its contract.
 use mathlib.Core.Path.{ap}
 use native.Mathlib.Omega.{arith}
-use borrow.Author.Rules.{rules}
 use Rattle.owners.specs.Calls.{right_named}
 use Rattle.owners.proofs.calls.act_on.Goals as goal
 

@@ -2,7 +2,6 @@
 use Prim.Native.Nat.{◌≤◌}
 use mathlib.Core.Path.{◌≡◌, sym, ap, ◌∙◌}
 use native.Mathlib.Omega.{arith}
-use borrow.Author.Rules.{rules}
 use borrow.Author.Tests.{leb-true}
 use lib.Dec.{leb}
 use Rattle.theory.proofs.Logic.{and_both}

@@ -1,13 +1,11 @@
 -- `owners::calls::give` meets its contract.
 use mathlib.Core.Path.{◌≡◌, sym, ap, ◌∙◌}
 use native.Mathlib.Omega.{arith}
-use borrow.Author.Tests.{not-true, not-false}
 use mathlib.Core.Bool.{true}
 use Prim.Native.Nat.{◌<◌}
 use Rattle.owners.specs.Regions.{count_of, place_of}
 use Rattle.owners.specs.Calls.{same_words, owned_at}
 use Rattle.owners.proofs.CallLaws.{owned_held, give_not, give_self, give_goes}
-use borrow.Author.Rules.{rules}
 use Rattle.owners.proofs.calls.give.Goals as goal
 use Rattle.owners.proofs.calls.give.Goals.{Else-not-owned}
 

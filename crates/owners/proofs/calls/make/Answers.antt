@@ -1,6 +1,5 @@
 -- `owners::calls::make` meets its contract.
 use Prim.Native.Nat.{◌≤◌}
-use borrow.Author.Rules.{rules}
 use Rattle.owners.specs.Regions.{count_of, place_of}
 use Rattle.owners.specs.Calls.{meets}
 use Rattle.owners.proofs.CallLaws.{make_not_zero, make_meets, make_full, make_adds}

@@ -1,13 +1,11 @@
 -- `owners::calls::pass` meets its contract.
 use mathlib.Core.Path.{◌≡◌, sym, ap, ◌∙◌}
 use native.Mathlib.Omega.{arith}
-use borrow.Author.Tests.{not-true, not-false}
 use mathlib.Core.Bool.{true}
 use Prim.Native.Nat.{◌<◌}
 use Rattle.owners.specs.Regions.{count_of, place_of}
 use Rattle.owners.specs.Calls.{same_words, owned_at}
 use Rattle.owners.proofs.CallLaws.{owned_held, pass_not, pass_goes}
-use borrow.Author.Rules.{rules}
 use Rattle.owners.proofs.calls.pass.Goals as goal
 use Rattle.owners.proofs.calls.pass.Goals.{Else-not-owned}
 

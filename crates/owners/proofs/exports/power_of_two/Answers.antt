@@ -3,7 +3,6 @@ use mathlib.Core.Path.{◌∙◌}
 use native.Mathlib.Omega.{arith}
 use native.Mathlib.Nat.{one-mul}
 use lib.Pow.{shl_exact}
-use borrow.Author.Rules.{rules}
 use Rattle.owners.proofs.exports.power_of_two.Goals as goal
 
 pub returns : goal.returns

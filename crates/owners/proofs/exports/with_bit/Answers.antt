@@ -2,7 +2,6 @@
 use native.Mathlib.Omega.{arith}
 use Rattle.owners.proofs.BitLaws.{bit_at, bit_fits}
 use borrow.Author.Tests.{eq-eqb, ne_eqb}
-use borrow.Author.Rules.{rules}
 use Rattle.owners.proofs.exports.with_bit.Goals as goal
 
 pub returns-then-g-k-eq1 : goal.returns-then-g-k-eq1

@@ -1,5 +1,4 @@
 -- `owners::exports::with_export` meets its contract.
-use borrow.Author.Rules.{rules}
 use Rattle.owners.proofs.exports.with_export.Goals as goal
 
 pub returns : goal.returns

@@ -4,7 +4,6 @@ use mathlib.Core.Path.{◌≡◌}
 use Rattle.words.specs.Rights.{right_at}
 use native.Mathlib.Omega.{arith}
 use Rattle.owners.proofs.BitLaws.{right_there, right_fits, right_small}
-use borrow.Author.Rules.{rules}
 use Rattle.owners.proofs.exports.with_right.Goals as goal
 use Rattle.owners.proofs.exports.with_right.Goals.{After-power_of_two-unit}
 

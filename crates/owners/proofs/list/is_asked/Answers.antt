@@ -1,5 +1,4 @@
 -- `owners::list::is_asked` meets its contract.
-use borrow.Author.Rules.{rules}
 use Rattle.owners.proofs.list.is_asked.Goals as goal
 
 pub returns-in-Same : goal.returns-in-Same

@@ -1,5 +1,4 @@
 -- `owners::list::meets_region` meets its contract.
-use borrow.Author.Rules.{rules}
 use Rattle.owners.proofs.list.meets_region.Goals as goal
 
 pub returns : goal.returns

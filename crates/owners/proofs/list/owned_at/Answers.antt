@@ -1,7 +1,6 @@
 -- `owners::list::owned_at` meets its contract.
 use borrow.Author.Tests.{lt-ltb, le-ltb}
 use Rattle.owners.specs.Regions.{count_of}
-use borrow.Author.Rules.{rules}
 use Rattle.owners.proofs.list.owned_at.Goals as goal
 
 pub returns-then-k-count : goal.returns-then-k-count

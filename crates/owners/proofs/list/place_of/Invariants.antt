@@ -1,15 +1,9 @@
 -- `owners::list::place_of` meets its contract. The invariant: none of the regions below `i` is asked for.
-use Prim.Native.Nat.{ℕ, ◌+◌, ◌-◌, ◌≤◌, ◌<◌}
+use Prim.Native.Nat.{ℕ, ◌-◌, ◌≤◌, ◌<◌}
 use mathlib.Core.Bool.{false}
-use mathlib.Core.Path.{◌≡◌, sym, ap, ◌∙◌}
-use native.Mathlib.Omega.{arith}
-use borrow.Author.Rules.{rules}
-use borrow.Author.Tests.{ltb-true, ltb-false}
-use lib.Dec.{ltb}
-use Rattle.theory.proofs.Logic.{by_cases}
+use mathlib.Core.Path.{◌≡◌}
 use Rattle.owners.specs.Regions.{region_at, count_of}
 use Rattle.owners.specs.Reach.{asks}
-use Rattle.owners.proofs.PlaceLaws.{place_is}
 use Rattle.owners.proofs.list.place_of.Given as goal
 
 abbrev pub invariant-loop-i : goal.invariant-loop-i

@@ -3,7 +3,6 @@ use native.Mathlib.Numerals.{add-one}
 use native.Mathlib.Omega.{arith}
 use lib.ListN.{length-set}
 use Rattle.rows.proofs.RowLaws.{add_two, add_three, add_four}
-use borrow.Author.Rules.{rules}
 use Rattle.owners.proofs.list.put_region.Goals as goal
 
 pub bounds-ws-at-2 : goal.bounds-ws-at-2

@@ -1,12 +1,10 @@
 -- `owners::rules::allowed` meets its contract. The invariant: what is left to ask from `w` on gives the whole answer.
-use Prim.Native.Nat.{ℕ, ◌-◌, ◌≤◌, ◌<◌}
+use Prim.Native.Nat.{ℕ, ◌≤◌, ◌<◌}
 use mathlib.Core.Bool.{Bool}
 use mathlib.Core.Path.{◌≡◌, refl, sym, ap, ◌∙◌}
 use native.Mathlib.Omega.{arith}
-use borrow.Author.Rules.{rules}
-use borrow.Author.Tests.{not-true, not-false}
 use Rattle.owners.specs.Rules.{may_at, may_word}
-use Rattle.owners.proofs.RuleLaws.{up_to, every_fails, every_reach, every_none}
+use Rattle.owners.proofs.RuleLaws.{every_fails, every_reach, every_none}
 use Rattle.owners.proofs.rules.allowed.Goals as goal
 use Rattle.owners.proofs.rules.allowed.Goals.{After-may_at-good}
 

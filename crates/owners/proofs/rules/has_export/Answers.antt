@@ -1,6 +1,5 @@
 -- `owners::rules::has_export` meets its contract.
 use borrow.Author.Tests.{lt-ltb, le-ltb}
-use borrow.Author.Rules.{rules}
 use Rattle.owners.proofs.rules.has_export.Goals as goal
 
 pub returns-then-domain-ge-EXPORT_DOMAINS : goal.returns-then-domain-ge-EXPORT_DOMAINS

@@ -1,6 +1,5 @@
 -- `owners::rules::may_at` meets its contract.
 use borrow.Author.Tests.{lt-ltb, le-ltb}
-use borrow.Author.Rules.{rules}
 use Rattle.owners.specs.Regions.{count_of}
 use Rattle.owners.proofs.rules.may_at.Goals as goal
 

@@ -1,8 +1,7 @@
 -- `owners::rules::may_in` meets its contract.
 use mathlib.Core.Path.{◌≡◌, sym, ◌∙◌}
 use mathlib.Core.Bool.{true}
-use borrow.Author.Tests.{eq-eqb, ne_eqb, not-true, not-false}
-use borrow.Author.Rules.{rules}
+use borrow.Author.Tests.{eq-eqb, ne_eqb}
 use Rattle.owners.specs.Rules.{exports}
 use Rattle.owners.proofs.RuleLaws.{export_below}
 use Rattle.owners.proofs.rules.may_in.Goals as goal

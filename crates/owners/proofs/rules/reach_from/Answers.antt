@@ -1,9 +1,8 @@
 -- `owners::rules::reach_from` meets its contract. The invariant: none of the regions below `i` holds a word of the
 -- stretch so far.
-use Prim.Native.Nat.{◌+◌, ◌-◌, ◌≤◌, ◌<◌}
+use Prim.Native.Nat.{◌+◌, ◌<◌}
 use mathlib.Core.Path.{◌≡◌, ap, ◌∙◌}
 use native.Mathlib.Omega.{arith}
-use borrow.Author.Rules.{rules}
 use Rattle.owners.specs.declared.Owned.{Owned}
 use Rattle.owners.specs.Regions.{region_at, count_of}
 use Rattle.owners.specs.Calls.{lesser}
@@ -59,9 +58,9 @@ loop-i-preserved c =
             free_below a.ws.now a.w until c.loop-i.i c.loop-i.invariant.2,
           )
       | else-w-lo+else-w-hi w ↦ rw w.until-is (
-          c.loop-i.invariant.1,
-          free_above a.ws.now a.w until c.loop-i.i (omega (arith, hi_is g, w.if-w-hi.false)) c.loop-i.invariant.2,
-        )
+        c.loop-i.invariant.1,
+        free_above a.ws.now a.w until c.loop-i.i (omega (arith, hi_is g, w.if-w-hi.false)) c.loop-i.invariant.2,
+      )
     ] in
     (omega arith, step.0, step.1)
 

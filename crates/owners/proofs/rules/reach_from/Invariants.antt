@@ -1,14 +1,8 @@
 -- `owners::rules::reach_from` meets its contract. The invariant: none of the regions below `i` holds a word of the
 -- stretch so far.
-use Prim.Native.Nat.{◌+◌, ◌-◌, ◌≤◌, ◌<◌}
-use mathlib.Core.Path.{◌≡◌, ap, ◌∙◌}
-use mathlib.Core.Logic.{⊎_elim}
-use native.Mathlib.Omega.{arith}
-use borrow.Author.Rules.{rules}
-use Rattle.owners.specs.declared.Owned.{Owned}
-use Rattle.owners.specs.Regions.{region_at, count_of}
-use Rattle.owners.specs.Calls.{lesser}
-use Rattle.owners.proofs.ReachLaws.{Free, free_below, free_above, lesser_above, reach_hit, reach_none}
+use Prim.Native.Nat.{◌-◌, ◌≤◌, ◌<◌}
+use Rattle.owners.specs.Regions.{count_of}
+use Rattle.owners.proofs.ReachLaws.{Free}
 use Rattle.owners.proofs.rules.reach_from.Given as goal
 
 abbrev pub invariant-loop-i : goal.invariant-loop-i

@@ -18,16 +18,16 @@ returns-then-n-l c = simp (
 
 pub returns-then-n-f-2 : goal.returns-then-n-f-2
 returns-then-n-f-2 c = simp (
-      eq-eqb _ _ c.if-e-domain.false,
-      ne_eqb _ _ c.if-n-f.false,
-      ne_eqb _ _ c.if-n-l.false,
-      lt-ltb _ _ c.if-n-f-2.true,
-    )
+  eq-eqb _ _ c.if-e-domain.false,
+  ne_eqb _ _ c.if-n-f.false,
+  ne_eqb _ _ c.if-n-l.false,
+  lt-ltb _ _ c.if-n-f-2.true,
+)
 
 pub returns : goal.returns
 returns c = simp (
-      eq-eqb _ _ c.if-e-domain.false,
-      ne_eqb _ _ c.if-n-f.false,
-      ne_eqb _ _ c.if-n-l.false,
-      le-ltb _ _ c.if-n-f-2.false,
-    )
+  eq-eqb _ _ c.if-e-domain.false,
+  ne_eqb _ _ c.if-n-f.false,
+  ne_eqb _ _ c.if-n-l.false,
+  le-ltb _ _ c.if-n-f-2.false,
+)

@@ -1,5 +1,4 @@
 -- `plan::layout::copy_edge` meets its contract.
-use borrow.Author.Rules.{rules}
 use Rattle.plan.proofs.LayoutLaws.{copy_put}
 use Rattle.plan.proofs.layout.copy_edge.Goals as goal
 

@@ -2,7 +2,6 @@
 use Prim.Native.Nat.{ℕ, zero, suc}
 use mathlib.Core.Path.{◌≡◌, refl}
 use mathlib.Core.Bool.{Bool, true, false, cond}
-use borrow.Author.Rules.{rules}
 use Rattle.plan.specs.Plan.{edge_word}
 use Rattle.plan.proofs.layout.edge_index.Goals as goal
 

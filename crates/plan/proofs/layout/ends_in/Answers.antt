@@ -2,7 +2,6 @@
 use Prim.Native.Nat.{ℕ, zero, suc}
 use mathlib.Core.Path.{◌≡◌, refl}
 use mathlib.Core.List.{List}
-use borrow.Author.Rules.{rules}
 use Rattle.plan.specs.Plan.{ends_in, ends_of, plan_in}
 use Rattle.plan.proofs.layout.ends_in.Goals as goal
 

@@ -1,6 +1,5 @@
 -- `table::geometry::leads` meets its contract.
 use mathlib.Core.Path.{refl}
-use borrow.Author.Rules.{rules}
 use Rattle.table.proofs.HeightLaws.{above_leaf}
 use Rattle.table.proofs.geometry.leads.Goals as goal
 

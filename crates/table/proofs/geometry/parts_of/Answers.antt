@@ -1,6 +1,5 @@
 -- `table::geometry::parts_of` meets its contract.
 use mathlib.Core.Path.{refl}
-use borrow.Author.Rules.{rules}
 use Rattle.table.proofs.HeightLaws.{above_leaf}
 use Rattle.table.proofs.geometry.parts_of.Goals as goal
 

@@ -1,7 +1,6 @@
 -- `table::geometry::root_word` meets its contract.
 use mathlib.Core.Path.{refl, ap}
 use native.Mathlib.Omega.{arith}
-use borrow.Author.Rules.{rules}
 use Rattle.table.proofs.geometry.root_word.Goals as goal
 
 pub word_after-requires : goal.word_after-requires

@@ -1,6 +1,5 @@
 -- `table::geometry::same_entry` meets its contract.
 use mathlib.Core.Path.{refl, ◌∙◌}
-use borrow.Author.Rules.{rules}
 use Rattle.table.proofs.HeightLaws.{above_leaf}
 use Rattle.table.proofs.geometry.same_entry.Goals as goal
 

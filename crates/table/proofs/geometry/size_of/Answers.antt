@@ -1,6 +1,5 @@
 -- `table::geometry::size_of` meets its contract.
 use mathlib.Core.Path.{refl}
-use borrow.Author.Rules.{rules}
 use Rattle.table.proofs.HeightLaws.{above_leaf}
 use Rattle.table.proofs.geometry.size_of.Goals as goal
 

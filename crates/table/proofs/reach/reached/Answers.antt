@@ -1,7 +1,6 @@
 -- `table::reach::reached` meets its contract. Assumes nothing.
 use mathlib.Core.Path.{◌≡◌, refl}
 use native.Mathlib.Omega.{arith}
-use borrow.Author.Rules.{rules}
 use Rattle.table.proofs.reach.reached.Goals as goal
 
 pub reached_by-requires : goal.reached_by-requires

@@ -1,6 +1,5 @@
 -- `targets::leaves::even_entries` meets its contract.
 use mathlib.Core.Path.{◌≡◌, sym, ap, ◌∙◌}
-use borrow.Author.Rules.{rules}
 use Rattle.theory.specs.Pool.{words}
 use Rattle.words.specs.Rights.{right_at, sixteen_of}
 use Rattle.words.proofs.RightsLaws.{right_small}

@@ -1,10 +1,7 @@
 -- `targets::leaves::leaf_mixed` meets its contract.
-use Prim.Native.Nat.{◌-◌, ◌≤◌}
 use mathlib.Core.Path.{sym, ap, ◌∙◌}
 use mathlib.Core.Bool.{true≢false, false≢true}
 use native.Mathlib.Omega.{arith}
-use borrow.Author.Rules.{rules}
-use borrow.Author.Tests.{not-true}
 use Rattle.targets.proofs.LeafLaws.{uneven_mixed}
 use Rattle.targets.proofs.leaves.leaf_mixed.Goals as goal
 

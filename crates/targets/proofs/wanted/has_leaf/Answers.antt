@@ -1,8 +1,6 @@
 -- `targets::wanted::has_leaf` meets its contract.
-use Prim.Native.Nat.{◌-◌, ◌≤◌}
 use mathlib.Core.Bool.{false≢true}
 use native.Mathlib.Omega.{arith}
-use borrow.Author.Rules.{rules}
 use Rattle.targets.proofs.wanted.has_leaf.Goals as goal
 
 pub returns-then-n-ge-FIRST_LEAF : goal.returns-then-n-ge-FIRST_LEAF

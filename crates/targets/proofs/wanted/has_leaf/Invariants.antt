@@ -1,8 +1,5 @@
 -- `targets::wanted::has_leaf` meets its contract.
 use Prim.Native.Nat.{◌-◌, ◌≤◌}
-use mathlib.Core.Bool.{false≢true}
-use native.Mathlib.Omega.{arith}
-use borrow.Author.Rules.{rules}
 use Rattle.targets.proofs.wanted.has_leaf.Given as goal
 
 abbrev pub invariant-loop-m : goal.invariant-loop-m

@@ -1,13 +1,12 @@
 -- `targets::wanted::settled` meets its contract. The loop's invariant: the tables at the places from `n` on are wanted.
-use Prim.Native.Nat.{◌-◌, ◌<◌, ◌≤◌}
+use Prim.Native.Nat.{◌-◌, ◌<◌}
 use mathlib.Core.Path.{◌≡◌, refl, sym, ap, ◌∙◌}
 use mathlib.Core.Logic.{⊎_elim}
-use mathlib.Core.Bool.{true, not, true≢false, false≢true}
+use mathlib.Core.Bool.{not, true≢false, false≢true}
 use native.Mathlib.Omega.{arith}
-use borrow.Author.Rules.{rules}
-use borrow.Author.Tests.{eq-eqb, ne_eqb, not-true, not-false}
+use borrow.Author.Tests.{eq-eqb, ne_eqb}
 use Rattle.census.specs.Tally.{none}
-use Rattle.targets.proofs.WantedLaws.{WantedFrom, wanted_more, leaf_wanted, wanted_settled, settled_wanted}
+use Rattle.targets.proofs.WantedLaws.{wanted_more, leaf_wanted, wanted_settled, settled_wanted}
 use Rattle.targets.proofs.wanted.settled.Goals as goal
 
 pub loop-n-init : goal.loop-n-init
@@ -21,47 +20,47 @@ has_leaf-leaf-requires c = c.requires.owners.long
 
 pub table_wanted-wanted-requires : goal.table_wanted-wanted-requires
 table_wanted-wanted-requires c = let b : c.loop-n.n - 1 < 72 = omega arith in record {
-      fits = c.requires.fits;
-      sound_pool = c.requires.sound_pool;
-      n_lt_max_places = (
-          b,
-          ⊎_elim (λ e. absurd (c.if-owner.true e)) (λ x. x)
-              (c.requires.owners.stands (c.loop-n.n - 1) b),
-        );
-    }
+  fits = c.requires.fits;
+  sound_pool = c.requires.sound_pool;
+  n_lt_max_places = (
+    b,
+    ⊎_elim (λ e. absurd (c.if-owner.true e)) (λ x. x)
+        (c.requires.owners.stands (c.loop-n.n - 1) b),
+  );
+}
 
 pub returns-then-not-wanted : goal.returns-then-not-wanted
 returns-then-not-wanted c = record {
-      holds = λ y. absurd (false≢true y);
-      passes = λ z. absurd (true≢false
-          (sym (c.table_wanted-wanted.ensures
-          ∙ settled_wanted _ _ c.requires.fits c.requires.sound_pool _ c.requires.owners z (c.loop-n.n - 1) (omega arith)
-          (omega arith) (ap not (ne_eqb _ none c.if-owner.true)))
-          ∙ c.if-not-wanted.true));
-    }
+  holds = λ y. absurd (false≢true y);
+  passes = λ z. absurd (true≢false
+      (sym (c.table_wanted-wanted.ensures
+      ∙ settled_wanted _ _ c.requires.fits c.requires.sound_pool _ c.requires.owners z (c.loop-n.n - 1) (omega arith)
+      (omega arith) (ap not (ne_eqb _ none c.if-owner.true)))
+      ∙ c.if-not-wanted.true));
+}
 
 pub loop-n-preserved-else-not-wanted : goal.loop-n-preserved-else-not-wanted
 loop-n-preserved-else-not-wanted c = let a = c.args in (
-      omega arith,
-      wanted_more a.pool.now a.shape a.owners.now c.loop-n.n c.loop-n.invariant.1
-          (λ x. sym c.table_wanted-wanted.ensures ∙ c.if-not-wanted.false),
-    )
+  omega arith,
+  wanted_more a.pool.now a.shape a.owners.now c.loop-n.n c.loop-n.invariant.1
+      (λ x. sym c.table_wanted-wanted.ensures ∙ c.if-not-wanted.false),
+)
 
 pub loop-n-preserved-else-not-leaf : goal.loop-n-preserved-else-not-leaf
 loop-n-preserved-else-not-leaf c = let a = c.args in (
-      omega arith,
-      wanted_more a.pool.now a.shape a.owners.now c.loop-n.n c.loop-n.invariant.1 (λ x.
-          leaf_wanted _ _ c.requires.fits c.requires.sound_pool _ c.requires.owners (c.loop-n.n - 1) c.loop-n.n (omega arith)
-          (omega arith) x
-          (c.has_leaf-leaf.ensures (c.if-not-leaf.false)) c.loop-n.invariant.1),
-    )
+  omega arith,
+  wanted_more a.pool.now a.shape a.owners.now c.loop-n.n c.loop-n.invariant.1 (λ x.
+      leaf_wanted _ _ c.requires.fits c.requires.sound_pool _ c.requires.owners (c.loop-n.n - 1) c.loop-n.n (omega arith)
+      (omega arith) x
+      (c.has_leaf-leaf.ensures (c.if-not-leaf.false)) c.loop-n.invariant.1),
+)
 
 pub loop-n-preserved : goal.loop-n-preserved
 loop-n-preserved c = let a = c.args in (
-      omega arith,
-      wanted_more a.pool.now a.shape a.owners.now c.loop-n.n c.loop-n.invariant.1
-          (λ x. absurd (true≢false (sym x ∙ ap not (eq-eqb _ none c.if-owner.false)))),
-    )
+  omega arith,
+  wanted_more a.pool.now a.shape a.owners.now c.loop-n.n c.loop-n.invariant.1
+      (λ x. absurd (true≢false (sym x ∙ ap not (eq-eqb _ none c.if-owner.false)))),
+)
 
 pub returns : goal.returns
 returns c = let all : c.loop-n.n ≡ 0 = omega arith in

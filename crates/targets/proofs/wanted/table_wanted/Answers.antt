@@ -3,7 +3,6 @@ use Prim.Native.Nat.{◌<◌}
 use mathlib.Core.Path.{◌≡◌, ap, ◌∙◌}
 use mathlib.Core.Logic.{⊎_elim}
 use native.Mathlib.Omega.{arith}
-use borrow.Author.Rules.{rules}
 use Rattle.census.specs.Places.{place_word}
 use Rattle.census.proofs.PlaceLaws.{place_kinds}
 use Rattle.census.proofs.CensusLaws.{place_low}

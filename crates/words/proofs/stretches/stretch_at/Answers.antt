@@ -3,8 +3,7 @@ use Prim.Native.Nat.{ℕ, ◌-◌, ◌*◌, ◌/◌, ◌%◌, ◌^◌, ◌≤◌
 use mathlib.Core.Path.{◌≡◌, refl, ◌∙◌}
 use native.Mathlib.Omega.{arith}
 use native.Mathlib.Nat.{one-mul, le_trans}
-use borrow.Author.Rules.{rules}
-use lib.Pow.{pow_pos, shl_exact}
+use lib.Pow.{shl_exact}
 use lib.Count.{leading_le, trailing_le}
 use Rattle.words.proofs.TurnLaws.{stretch_found}
 use Rattle.words.proofs.stretches.stretch_at.Goals as goal

@@ -1,0 +1,16 @@
+-- `goleuthan::gol_lookup` meets its contract. Assumes nothing.
+use mathlib.Core.Path.{ap}
+use Rattle.words.specs.declared.ByteAddr.{ByteAddr}
+use Rattle.goleuthan.specs.Calls.{length_wrong, shaped}
+use Rattle.goleuthan.proofs.gol_lookup.Goals as goal
+
+pub returns-then-shape-ne-SHAPE_WORDS : goal.returns-then-shape-ne-SHAPE_WORDS
+returns-then-shape-ne-SHAPE_WORDS c = rw c.five.ensures (length_wrong c.if-shape-ne-SHAPE_WORDS.true)
+
+pub returns : goal.returns
+returns c = let e = ap (λ (x : ByteAddr). x.0) c.byte_addr-at.ensures in
+    rw (c.give_found.ensures.0, c.give_found.ensures.1)
+    (shaped c.if-shape-ne-SHAPE_WORDS.false
+    c.lookup-found.result
+    (rw (c.read_shape-by.ensures, e)
+    at c.lookup-found.ensures))
