@@ -55,7 +55,7 @@ one_hears e g h = one_replies (hears_lines g) (rw (← e) at (hears_lines h))
 -- ---- Chunk after chunk.
 
 -- Chunks that came one after the other, and what is heard after them.
-chunks_then : {cs ds : List (List ℕ)} {t u : LineSoFar} {p q r ks ns : List ℕ} → Chunks t p cs ks u q
+chunks_then : {t : LineSoFar} {p : List ℕ} {cs ds : List (List ℕ)} {u : LineSoFar} {q r ks ns : List ℕ} → Chunks t p cs ks u q
     → Hears ds u q ns r → Hears (cs ++ ds) t p (ks ++ ns) r
 chunks_then serves.none h = h
 chunks_then (serves.more {c = c} {cs = cs} {ks = ks} {ns = ms} g s k) h =

@@ -7,7 +7,6 @@ use mathlib.Core.List.{List, [], ◌∷◌, ◌++◌, append_assoc}
 use mathlib.Core.Logic.{⊎_elim}
 use lib.ListN.{length, take, drop, length-append, length-drop, take-append-drop}
 use lib.Seq.{length-take-le, take_all, take_at}
-use Rattle.io.specs.Counts.{IsPrefixLen}
 use Rattle.theory.specs.Pool.{words, SoundPool}
 use Rattle.table.specs.Shape.{Fits}
 use Rattle.table.specs.Map.{form_of}
@@ -18,7 +17,7 @@ use Rattle.listing.specs.Runs.{memory_words, AllRuns, four_of, flat, shown}
 use Rattle.listing.specs.Listing.{word_right, Lists, no_shape, unsound, listed}
 use Rattle.listing.proofs.RunLaws.{lt_or_ge, one_all_runs}
 use Rattle.rights_listing.specs.declared.pages.Page.{Page}
-use Rattle.rights_listing.specs.Text.{numeral, end_of, text_from, text}
+use Rattle.rights_listing.specs.Text.{IsPrefixLen, numeral, end_of, text_from, text}
 use Rattle.rights_listing.specs.Serves.{whole}
 use Rattle.rights_listing.specs.Pages.{ShowsPage, no_listing, page}
 use Rattle.rights_listing.proofs.TextLaws.{text_none}
@@ -67,13 +66,13 @@ record Found (p : List ℕ) (from : ℕ) (old new : List ℕ) (n : ℕ) : Type 0
   many : length runs ≡ n
   words : new ≡ shown from runs old
 
-found : {p old new : List ℕ} {from n : ℕ} {a : Listed} → Lists p whole from old a new → a ≡ Runs n
+found : {p : List ℕ} {from n : ℕ} {old new : List ℕ} {a : Listed} → Lists p whole from old a new → a ≡ Runs n
     → Found p from old new n
 found (no_shape f) e = absurd (not_runs e)
 found (unsound f u) e = absurd (not_runs e)
 found (listed f s rs all) e = record { fits = f; sound = s; runs = rs; all = all; many = runs_same e; words = refl }
 
-pub page_refused : {p old new out : List ℕ} {from k : ℕ} {a : Listed} → Lists p whole from old a new → a ≡ Refused k
+pub page_refused : {p : List ℕ} {from k : ℕ} {old new out : List ℕ} {a : Listed} → Lists p whole from old a new → a ≡ Refused k
     → ShowsPage p from (record { len = 0; left = 0 }) out
 page_refused (no_shape f) e = no_listing (λ g s. f g)
 page_refused (unsound f u) e = no_listing (λ g s. u s)

@@ -13,8 +13,8 @@ mod text;
 ghost use Rattle.rights_listing.specs.Serves.{HearsOnce, HearsLast, HearsAll};
 ghost use Rattle.rights_listing.specs.Pages.{HandsOver, ShowsAll};
 
-use libc::{STDERR_FILENO, STDIN_FILENO, STDOUT_FILENO};
 use lines::LineSoFar;
+use std::io::{Read, Stderr, Stdin, Stdout};
 
 // Nothing in a contract bounds an input, and a proved loop must end: the greatest number there is, and to come to its
 // end is an outcome of its own.
@@ -22,7 +22,7 @@ const TURNS: u64 = 0xFFFF_FFFF_FFFF_FFFF;
 
 // What came of one reading: a chunk, whose lines were answered; the end of the input; or a reading or writing that
 // failed.
-#[derive(Drop)]
+#[derive(Clone, Copy)]
 enum Came {
     Chunk,
     End,
@@ -38,7 +38,7 @@ struct Heard {
 }
 
 // How the input ended.
-#[derive(Drop)]
+#[derive(Clone, Copy)]
 enum Ending {
     Whole,
     TooLong,
@@ -47,7 +47,7 @@ enum Ending {
 }
 
 // How many runs come after a page, and whether the page was written.
-#[derive(Drop)]
+#[derive(Clone, Copy)]
 struct Shown {
     left: usize,
     written: bool,
@@ -55,25 +55,23 @@ struct Shown {
 
 // Reads once and answers each line that has ended. A chunk comes as soon as there is one, so that each line is
 // answered before the next is waited for.
-fn hear(pool: &mut [u32], line: LineSoFar) -> Heard
+fn hear(mut input: Stdin, output: Stdout, pool: &mut [u32], line: LineSoFar) -> Heard
     ensures { HearsOnce line pool.old result pool.new }
 {
-    let mut chunk = io::buffer();
-    let got = libc::read(STDIN_FILENO, &mut chunk);
-    if got < 0 {
+    let mut chunk = [0u8; 4096];
+    let Ok(n) = input.read(&mut chunk) else {
         let came = Came::NotRead;
         return Heard { line, came };
-    }
-    let n = io::count(got, &chunk);
+    };
     if n == 0 {
         let came = Came::End;
         return Heard { line, came };
     }
-    let mut out = io::large_buffer();
+    let mut out = [0u8; 65536];
     let served = serving::serve(pool, &chunk[..n], line, &mut out);
     let len = served.len;
     let rest = served.line;
-    let written = io::write_all(STDOUT_FILENO, &out[..len]);
+    let written = output.write_all(&out[..len]).is_ok();
     if !written {
         let came = Came::NotWritten;
         return Heard { line: rest, came };
@@ -83,22 +81,22 @@ fn hear(pool: &mut [u32], line: LineSoFar) -> Heard
 }
 
 // Answers a last line that no newline ended.
-fn hear_last(pool: &mut [u32], line: LineSoFar) -> bool
+fn hear_last(output: Stdout, pool: &mut [u32], line: LineSoFar) -> bool
     ensures { HearsLast line pool.old pool.new }
 {
-    let mut out = io::buffer();
+    let mut out = [0u8; 4096];
     let len = serving::serve_last(pool, line, &mut out);
-    io::write_all(STDOUT_FILENO, &out[..len])
+    output.write_all(&out[..len]).is_ok()
 }
 
 // Answers every line, and then a last one that no newline ended.
-fn hear_all(pool: &mut [u32]) -> Ending
+fn hear_all(input: Stdin, output: Stdout, pool: &mut [u32]) -> Ending
     ensures { HearsAll pool.old result pool.new }
 {
     let mut line = lines::blank_line();
     let mut turns = TURNS;
     while turns > 0 {
-        let heard = hear(pool, line);
+        let heard = hear(input, output, pool, line);
         line = heard.line;
         let came = heard.came;
         match came {
@@ -106,7 +104,7 @@ fn hear_all(pool: &mut [u32]) -> Ending
             Came::NotRead => return Ending::NoInput,
             Came::NotWritten => return Ending::NoOutput,
             Came::End => {
-                let written = hear_last(pool, line);
+                let written = hear_last(output, pool, line);
                 return if written {
                     Ending::Whole
                 } else {
@@ -119,24 +117,24 @@ fn hear_all(pool: &mut [u32]) -> Ending
 }
 
 // Hands a page over to be written.
-fn show(pool: &[u32], from: u32) -> Shown
+fn show(output: Stdout, pool: &[u32], from: u32) -> Shown
     ensures { HandsOver pool.now from result }
 {
-    let mut out = io::large_buffer();
+    let mut out = [0u8; 65536];
     let page = pages::write_page(pool, from, &mut out);
     let len = page.len;
     let left = page.left;
-    let written = io::write_all(STDOUT_FILENO, &out[..len]);
+    let written = output.write_all(&out[..len]).is_ok();
     Shown { left, written }
 }
 
 // Writes the listing, page after page until nothing is left: how many pages, or 0 where one could not be written.
-fn show_all(pool: &[u32]) -> usize
+fn show_all(output: Stdout, pool: &[u32]) -> usize
     ensures { ShowsAll pool.now result }
 {
     let mut count = 0;
     loop {
-        let shown = show(pool, (count * pages::RUNS) as u32);
+        let shown = show(output, pool, (count * pages::RUNS) as u32);
         let left = shown.left;
         let written = shown.written;
         if !written {
@@ -150,22 +148,24 @@ fn show_all(pool: &[u32]) -> usize
 }
 
 // Says a sentence on standard error.
-fn say(sentence: &[u8]) {
-    io::write_all(STDERR_FILENO, sentence);
+fn say(messages: Stderr, sentence: &[u8]) {
+    let _ = messages.write_all(sentence);
 }
 
 // Hears the input and shows the listing; where it stops before the end of either, it says so.
-fn main() {
+fn main(rt: HostRuntime) {
+    let output = rt.stdout();
+    let messages = rt.stderr();
     let mut pool = [0u32; 16384];
     table::fresh(&mut pool, serving::shape());
-    let ending = hear_all(&mut pool);
+    let ending = hear_all(rt.stdin(), output, &mut pool);
     match ending {
-        Ending::TooLong => say(b"The input is too long.\n"),
-        Ending::NoInput => say(b"The input cannot be read.\n"),
-        Ending::NoOutput => say(b"The output cannot be written.\n"),
+        Ending::TooLong => say(messages, b"The input is too long.\n"),
+        Ending::NoInput => say(messages, b"The input cannot be read.\n"),
+        Ending::NoOutput => say(messages, b"The output cannot be written.\n"),
         Ending::Whole => {
-            if show_all(&pool) == 0 {
-                say(b"The output cannot be written.\n");
+            if show_all(output, &pool) == 0 {
+                say(messages, b"The output cannot be written.\n");
             }
         }
     }

@@ -11,7 +11,7 @@ use listing::Listed;
 pub const RUNS: usize = 1024;
 
 // What came of a page: how many bytes were written, and how many runs come after it.
-#[derive(Drop)]
+#[derive(Clone, Copy)]
 pub struct Page {
     pub len: usize,
     pub left: usize,
