@@ -5,9 +5,10 @@ use mathlib.Core.Path.{◌≡◌, refl, sym, ◌∙◌}
 use mathlib.Core.Logic.{⊎_elim}
 use mathlib.Core.List.{List, [], ◌∷◌, ◌++◌}
 use borrow.Author.Tests.{lt-ltb, le-ltb}
+use Rattle.io.specs.Digits.{hex_digit_ascii, last_digits}
 use Rattle.lines.specs.Forms.{Digits, value_on, value_of, Number}
 use Rattle.listing.proofs.RunLaws.{lt_or_ge}
-use Rattle.rights_listing.specs.Text.{hex_digit_ascii, last_digits, places_in, numeral}
+use Rattle.rights_listing.specs.Text.{places_in, numeral}
 use Rattle.rights_listing.proofs.TextLaws.{digits_length}
 
 glyph_is : (d : ℕ) → d < 10 → hex_digit_ascii d ≡ 48 + d

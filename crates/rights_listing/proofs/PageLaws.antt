@@ -17,7 +17,8 @@ use Rattle.listing.specs.Runs.{memory_words, AllRuns, four_of, flat, shown}
 use Rattle.listing.specs.Listing.{word_right, Lists, no_shape, unsound, listed}
 use Rattle.listing.proofs.RunLaws.{lt_or_ge, one_all_runs}
 use Rattle.rights_listing.specs.declared.pages.Page.{Page}
-use Rattle.rights_listing.specs.Text.{IsPrefixLen, numeral, end_of, text_from, text}
+use Rattle.io.specs.Counts.{IsPrefixLen}
+use Rattle.rights_listing.specs.Text.{numeral, end_of, text_from, text}
 use Rattle.rights_listing.specs.Serves.{whole}
 use Rattle.rights_listing.specs.Pages.{ShowsPage, no_listing, page}
 use Rattle.rights_listing.proofs.TextLaws.{text_none}

@@ -1,19 +1,53 @@
 -- Numbers as text.
-use Prim.Native.Nat.{ℕ, zero, suc, ◌+◌, ◌/◌, ◌%◌, ◌^◌, ◌<◌, ◌≤◌}
+use Prim.Native.Nat.{ℕ, zero, suc, ◌+◌, ◌-◌, ◌/◌, ◌%◌, ◌^◌, ◌<◌, ◌≤◌}
 use native.Mathlib.Omega.{arith}
 use native.Mathlib.Nat.{add-zero, zero-add}
 use native.Mathlib.Numerals.{add-one}
-use mathlib.Core.Path.{◌≡◌, refl, sym, ap, ◌∙◌}
-use mathlib.Core.Logic.{◌≢◌, ⊎_elim}
+use mathlib.Core.Path.{◌≡◌, refl, sym, ap, subst, ◌∙◌}
+use mathlib.Core.Logic.{⊎_elim}
 use mathlib.Core.Bool.{Bool, true, false, cond}
-use mathlib.Core.List.{List, [], ◌∷◌, ◌++◌, append_assoc, append-nil}
+use mathlib.Core.List.{List, [], ◌∷◌, ◌++◌, append_assoc}
 use lib.ListN.{length, take, get_or, set, length-append}
 use lib.Seq.{length-take-le, take-suc, take-suc-set}
 use lib.Dec.{ltb}
-use borrow.Author.Tests.{eq-eqb, ne_eqb, lt-ltb, le-ltb}
-use Rattle.std.specs.Fmt.{decimal, digits, digits_onto}
+use borrow.Author.Tests.{lt-ltb, le-ltb}
+use Rattle.io.specs.Digits.{hex_digit_ascii, last_digits, IsDigitCount}
 use Rattle.listing.proofs.RunLaws.{lt_or_ge}
-use Rattle.rights_listing.specs.Text.{hex_digit_ascii, last_digits, places_in, numeral, end_of, text_from, text}
+use Rattle.rights_listing.specs.Text.{places_in, numeral, end_of, text_from, text}
+
+-- More places hold more numbers.
+power_least : (j : ℕ) → 1 ≤ 10 ^ j
+power_least zero = omega arith
+power_least (suc j) = let z = power_least j in omega arith
+
+few : (n k : ℕ) → n < 10 → IsDigitCount 10 1 n k → k ≡ 1
+few n zero h (a, b, c) = omega arith
+few n (suc zero) h w = refl
+few n (suc (suc j)) h (a, b, c) =
+    let e : suc (suc j) - 1 ≡ suc j = omega arith in
+    let z = subst (λ m. 10 ^ m ≤ n) e (c (omega arith)) in
+    let y = power_least j in
+    omega arith
+
+-- A digit fewer.
+fewer : (n k : ℕ) → 10 ≤ n → IsDigitCount 10 1 n (suc k) → IsDigitCount 10 1 (n / 10) k
+fewer n zero h (a, b, c) = absurd (omega arith)
+fewer n (suc zero) h (a, b, c) = (omega arith, omega arith, λ g. absurd (omega arith))
+fewer n (suc (suc j)) h (a, b, c) =
+    let e : suc (suc (suc j)) - 1 ≡ suc (suc j) = omega arith in
+    let d : suc (suc j) - 1 ≡ suc j = omega arith in
+    let z = subst (λ m. 10 ^ m ≤ n) e (c (omega arith)) in
+    (omega arith, omega arith, λ g. subst (λ m. 10 ^ m ≤ n / 10) (sym d) (omega arith))
+
+-- The fewest digits that hold a number are as many as it takes.
+pub fewest_places : (f n k : ℕ) → n < 10 ^ suc f → IsDigitCount 10 1 n k → k ≡ places_in f n
+unfolding places_in
+fewest_places zero n k h w = few n k (omega arith) w
+fewest_places (suc f) n zero h (a, b, c) = absurd (omega arith)
+fewest_places (suc f) n (suc k) h w = ⊎_elim
+    (λ g. few n (suc k) g w ∙ sym (simp (lt-ltb n 10 g)))
+    (λ g. ap suc (fewest_places f (n / 10) k (omega arith) (fewer n k g w)) ∙ sym (simp (le-ltb n 10 g)))
+    (lt_or_ge n 10)
 
 pub digits_length : (k n : ℕ) → length (last_digits 10 k n) ≡ k
 digits_length zero n = refl
@@ -30,36 +64,14 @@ places_most (suc f) n = go (ltb n 10) (places_most f (n / 10))
     go true h = omega arith
     go false h = omega arith
 
--- Where the library of numbers goes on with a number of more than one digit, so does the numeral.
-onto_digits : (f m n : ℕ) (acc : List ℕ) → f ≤ m → n < 10 ^ suc f
-    → digits_onto (suc m) 10 false n acc ≡ last_digits 10 (places_in f n) n ++ acc
-unfolding places_in
-onto_digits zero m n acc b h =
-    let z : n / 10 ≡ 0 = omega arith in
-    simp (eq-eqb (n / 10) 0 z)
-onto_digits (suc f) zero n acc b h = absurd (omega arith)
-onto_digits (suc f) (suc m) n acc b h = ⊎_elim
-    (λ g. let z : n / 10 ≡ 0 = omega arith in
-    simp (eq-eqb (n / 10) 0 z, lt-ltb n 10 g))
-    (λ g. let z : n / 10 ≢ 0 = omega arith in
-    let lo : f ≤ m = omega arith in
-    let hi : n / 10 < 10 ^ suc f = omega arith in
-    let front = last_digits 10 (places_in f (n / 10)) (n / 10) in
-    let digit = hex_digit_ascii (n % 10) in
-    let more : digits_onto (suc m) 10 false (n / 10) (digit ∷ acc) ≡ front ++ (digit ∷ acc)
-    = onto_digits f m (n / 10) (digit ∷ acc) lo hi in
-    simp (ne_eqb (n / 10) 0 z, le-ltb n 10 g) (more ∙ sym (append_assoc front (digit ∷ []) acc)))
-    (lt_or_ge n 10)
+-- What the library of numbers writes is the numeral, of at most ten digits.
+module _ (n k : ℕ) (h : n < 4294967296) (w : IsDigitCount 10 1 n k) where
+  pub fewest_most : k ≤ 10
+  fewest_most = let e = fewest_places 9 n k (omega arith) w in let z = places_most 9 n in omega arith
 
--- What it writes is the numeral,
-pub decimal_numeral : (n : ℕ) → n < 4294967296 → decimal n ≡ numeral n
-unfolding digits numeral
-decimal_numeral n h = onto_digits 9 63 n [] (omega arith) (omega arith) ∙ append-nil (last_digits 10 (places_in 9 n) n)
-
--- which has at most ten digits.
-pub numeral_most : (n : ℕ) → length (numeral n) ≤ 10
-unfolding numeral
-numeral_most n = let e = digits_length (places_in 9 n) n in let z = places_most 9 n in omega arith
+  pub fewest_numeral : last_digits 10 k n ≡ numeral n
+  unfolding numeral
+  fewest_numeral = ap (λ j. last_digits 10 j n) (fewest_places 9 n k (omega arith) w)
 
 -- A number more.
 pub text_more : (per i n : ℕ) (ns : List ℕ)

@@ -1,5 +1,6 @@
 -- The listing as text, in pages of 1,024 runs.
 use Rattle.std.specs.Prelude.{ℕ, ◌+◌, ◌-◌, ◌≡◌, ◌≢◌, List, ◌++◌, length, take, drop}
+use Rattle.io.specs.Counts.{IsPrefixLen}
 use Rattle.theory.specs.Pool.{words, SoundPool}
 use Rattle.table.specs.Shape.{Fits}
 use Rattle.table.specs.Map.{form_of}
@@ -8,7 +9,7 @@ use Rattle.listing.specs.Runs.{memory_words, AllRuns, flat}
 use Rattle.listing.specs.Listing.{word_right}
 use Rattle.rights_listing.specs.declared.Shown.{Shown}
 use Rattle.rights_listing.specs.declared.pages.Page.{Page}
-use Rattle.rights_listing.specs.Text.{IsPrefixLen, text}
+use Rattle.rights_listing.specs.Text.{text}
 use Rattle.rights_listing.specs.Serves.{whole}
 
 -- The page from run number `from` on, of the pool `p`: its text in the lent bytes, and how many runs come after it.

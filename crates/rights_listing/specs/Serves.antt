@@ -1,5 +1,6 @@
 -- What the program answers to lines: a number for each, and what becomes of the pool.
 use Rattle.std.specs.Prelude.{ℕ, ◌<◌, ◌≡◌, List, [], ◌∷◌, ◌++◌, length, take, drop}
+use Rattle.io.specs.Counts.{IsPrefixLen}
 use Rattle.table.specs.declared.Shape.{Shape}
 use Rattle.change.specs.declared.Answer.{Answer}
 use Rattle.change.specs.Answers.{numbers, Changes}
@@ -13,7 +14,7 @@ use Rattle.rights_listing.specs.declared.Heard.{Heard}
 use Rattle.rights_listing.specs.declared.Ending.{Ending}
 use Rattle.rights_listing.specs.declared.Ending.TheVariants.{Whole, TooLong, NoInput, NoOutput}
 use Rattle.rights_listing.specs.declared.serving.Served.{Served}
-use Rattle.rights_listing.specs.Text.{IsPrefixLen, text}
+use Rattle.rights_listing.specs.Text.{text}
 
 -- The program's pool has D 4, M 8, L 64.
 abbrev pub whole : Shape

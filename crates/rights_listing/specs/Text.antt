@@ -1,19 +1,6 @@
 -- Numbers as text: decimal digits without leading zeros, as many numbers to a line as is said.
-use Rattle.std.specs.Prelude.{ℕ, zero, suc, ◌+◌, ◌-◌, ◌/◌, ◌%◌, ◌≤◌, ◌≡◌, cond, List, [], ◌∷◌, ◌++◌, length, take}
-use Rattle.std.specs.Prelude.{eqb, ltb, nat_lt}
-
--- There are `n` bytes at the front of `xs`.
-abbrev pub IsPrefixLen : ℕ → List ℕ → Type 0
-IsPrefixLen n xs = (n ≤ length xs) × (n ≡ length (take n xs))
-
--- The byte of a digit below 16: `0` to `9`, then `a` to `f`.
-abbrev pub hex_digit_ascii : ℕ → ℕ
-hex_digit_ascii d = cond (nat_lt d 10) (48 + d) (87 + d)
-
--- The last `k` digits of `n` in base `b`, the most significant first.
-abbrev pub last_digits : ℕ → ℕ → ℕ → List ℕ
-last_digits b zero n = []
-last_digits b (suc k) n = last_digits b k (n / b) ++ (hex_digit_ascii (n % b) ∷ [])
+use Rattle.std.specs.Prelude.{ℕ, zero, suc, ◌+◌, ◌-◌, ◌/◌, ◌%◌, cond, List, [], ◌∷◌, ◌++◌, eqb, ltb}
+use Rattle.io.specs.Digits.{last_digits}
 
 -- How many decimal digits a number takes; it has at most one more than the first argument says.
 unfoldable pub places_in : ℕ → ℕ → ℕ

@@ -2,8 +2,6 @@
 ghost use Rattle.std.specs.Prelude.{◌+◌, ◌≤◌, ◌≡◌, [], ◌∷◌, ◌++◌, length, take};
 ghost use Rattle.rights_listing.specs.Text.{numeral};
 
-use itoa::Buffer;
-
 // A number of 32 bits as one of 64.
 fn wide(n: u32) -> u64
     ensures { result ≡ n }
@@ -32,9 +30,9 @@ pub fn write_number(out: &mut [u8], at: usize, n: u32, end: u8) -> usize
     ensures { (result ≤ at + 11)
         × (take result out.new ≡ take at out.old ++ (numeral n ++ end ∷ [])) }
 {
-    let mut digits = Buffer::new();
-    let text = digits.format(wide(n)).as_bytes();
-    let past = copy(out, at, text);
+    let mut digits = [0u8; 20];
+    let k = io::decimal(wide(n), &mut digits);
+    let past = copy(out, at, &digits[..k]);
     out[past] = end;
     past + 1
 }
