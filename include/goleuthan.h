@@ -111,22 +111,22 @@
  * passed on the stack and its return address included.
  *
  *   gol_fresh               24
- *   gol_change             936
- *   gol_change_by        1,000
- *   gol_tidy               976
- *   gol_lookup              40
- *   gol_list               984
+ *   gol_change             928
+ *   gol_change_by          960
+ *   gol_tidy             1,008
+ *   gol_lookup              56
+ *   gol_list               872
  *   gol_check              136
  *   gol_flush_all           24
  *   gol_flush_domain         8
- *   gol_flush_region        32
- *   gol_set_switch_gate      8
+ *   gol_flush_region         8
+ *   gol_set_switch_gate     16
  *   gol_set_return_gate      8
  *   gol_remove_gate          8
- *   gol_step               104
- *   gol_make_region         32
- *   gol_pass_region         24
- *   gol_give_export         88
+ *   gol_step               160
+ *   gol_make_region         40
+ *   gol_pass_region         40
+ *   gol_give_export         48
  *
  * It takes no other memory than its stack and what is lent. The figures are measured, not proved: rust/stack makes the
  * calls on a painted stack, with full pools, deep tables and full states, and fails where one takes more than is said

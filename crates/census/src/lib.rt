@@ -191,6 +191,7 @@ fn entry_check(
 
 // Whether the pool is sound, and, where it is, the owners of its places: of each place the number of the block whose
 // table stands there, over all domains (1024 * d + b for block b of domain d, 1048576 * d + p for page p), or NONE.
+#[inline(never)]
 pub fn census(pool: &[u32], shape: Shape, owners: &mut [u32]) -> bool
     requires fits { Fits shape (length pool.now) }
     requires owners_len { length owners.old ≡ max_places }

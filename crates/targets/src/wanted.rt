@@ -61,6 +61,7 @@ fn has_leaf(owners: &[u32], n: usize, block: u32) -> bool
 // Whether a sound pool is settled: every table in it, by the owners of its places, is wanted. (In a sound pool a
 // block that wants a table has one.) The leaves come first: a table with a leaf that is wanted is wanted too, so only
 // one without leaves is searched.
+#[inline(never)]
 pub fn settled(pool: &[u32], shape: Shape, owners: &[u32]) -> bool
     requires fits { Fits shape (length pool.now) }
     requires sound_pool { SoundPool (form_of shape) (words pool.now) }
