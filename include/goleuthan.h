@@ -6,7 +6,8 @@
  * library keeps nothing between calls, allocates nothing, and calls nothing but memcpy and memset. Every call returns,
  * whatever the numbers are and whatever the words hold. Each is proved to do what is said here.
  *
- * BUILDING. `rt lib` in crates/goleuthan proves the library and writes out/libgoleuthan.a there, for x86-64.
+ * BUILDING. `rt lib --cpu=x86-64` in crates/goleuthan proves the library and writes out/libgoleuthan.a there, for any
+ * x86-64. Without the word on the processor it is one for x86-64-v2.
  *
  * POINTERS. A lent memory is a pointer and a length, counted in words of four bytes. The pointer is not NULL, is a
  * multiple of 4, and its words are the caller's to lend: readable, and for a pointer that is not const writable, for

@@ -15,6 +15,9 @@ PARTS = ("src", "specs", "proofs", "out/rlib")
 ERROR = re.compile(r"^(?:\./)?(\S+?):\d+:\d+: error(\[[\w-]+\])?: (?:(`[^`]+`): )?(.*)", re.M)
 # It only names what is not there: this is no fact about what the changed text means.
 MISSING = re.compile(r"has no (?:`|field)|is not in scope|is no name|was rejected|was not admitted")
+# What must not be the first that the check says: then it is a name that the edit took away.
+ABSENT = re.compile(r"has no (?:`|field)")
+
 # A goal that is left open, where no answer of ours could be tried.
 OPEN = re.compile(r"^note: (\S+:\d+:\d+: it is not proved that .*)", re.M)
 
@@ -29,7 +32,8 @@ def verdict(status, said):
     errors = ERROR.findall(said)
     unread = [code or file.startswith(("src/", "specs/")) and (not of or MISSING.search(what))
               for file, code, of, what in errors]
-    if any(unread) or not re.search(r"^logic=not-proved", said, re.M):
+    unnamed = errors and ABSENT.search(errors[0][3])
+    if any(unread) or unnamed or not re.search(r"^logic=not-proved", said, re.M):
         return "unfit", ""
     facts = [f"{file}: {of}: {what}" for file, _, of, what in errors if of and not MISSING.search(what)]
     facts += [] if errors else OPEN.findall(said)

@@ -10,7 +10,7 @@ library=$root/crates/goleuthan/out/libgoleuthan.a
 flags="-std=c11 -O2 -Wall -Wextra -Werror"
 
 if [ ! -f "$library" ]; then
-    echo "The proved library $library is missing: run 'rt lib' in crates/goleuthan first." >&2
+    echo "The proved library $library is missing: run 'rt lib --cpu=x86-64' in crates/goleuthan first." >&2
     exit 1
 fi
 

@@ -14,7 +14,7 @@ fn main() {
     let library = folder.join("libgoleuthan.a");
     println!("cargo:rerun-if-changed={}", library.display());
     if !library.exists() {
-        eprintln!("The proved library {} is missing: run `rt lib` in crates/goleuthan first.", library.display());
+        eprintln!("The proved library {} is missing: run `rt lib --cpu=x86-64` in crates/goleuthan first.", library.display());
         std::process::exit(1);
     }
     if linked {

@@ -51,7 +51,7 @@ unfoldable pub every_word : (ℕ → Bool) → ℕ → ℕ → Bool
 every_word t zero w = true
 every_word t (suc n) w = t w && every_word t n (suc w)
 
--- `Allowed` as a test, word by word (`allowed-exact`).
+-- `Allowed` as a test, word by word (`allowed_exact`).
 abbrev pub allowed_of : List ℕ → ℕ → ℕ → ℕ → Region → Bool
 allowed_of list caller domain right region =
     every_word (may_word list caller domain right) (region.hi - region.lo) region.lo
