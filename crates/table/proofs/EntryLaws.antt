@@ -4,9 +4,8 @@ use mathlib.Core.Path.{◌≡◌, refl, sym, ap}
 use mathlib.Core.Logic.{◌≢◌}
 use mathlib.Core.Bool.{Bool, true, false, cond}
 use native.Mathlib.Omega.{arith}
-use native.Mathlib.Nat.{div-lt_iff_lt-mul}
 use lib.Dec.{ltb}
-use borrow.Author.Tests.{le-leb, lt-leb, lt-ltb, le-ltb, eq-eqb, ne_eqb, leb-true, ltb-true, eqb-true}
+use borrow.Author.Tests.{lt-ltb, le-ltb, eq-eqb, ne_eqb, leb-true, ltb-true, eqb-true}
 use Rattle.words.specs.Rights.{good_rights}
 use Rattle.words.specs.declared.PoolWord.{PoolWord}
 use Rattle.table.specs.declared.Shape.{Shape}
@@ -19,21 +18,6 @@ use Rattle.theory.proofs.Logic.{and_both}
 
 -- The test of a place, by its three halves.
 module _ (from long n w : ℕ) where
-  pub place_low : w < from → is_place from long n w ≡ false
-  place_low a = simp (lt-leb from w a)
-
-  pub place_high : from ≤ w → from + long * n ≤ w → is_place from long n w ≡ false
-  place_high a b = simp (le-leb from w a, le-ltb w (from + long * n) b)
-
-  pub place_off : from ≤ w → w < from + long * n → (w - from) % long ≢ 0 → is_place from long n w ≡ false
-  place_off a b c = simp (le-leb from w a, lt-ltb w (from + long * n) b, ne_eqb ((w - from) % long) 0 c)
-
-  pub place_is : from ≤ w → w < from + long * n → (w - from) % long ≡ 0 → is_place from long n w ≡ true
-  place_is a b c = simp (le-leb from w a, lt-ltb w (from + long * n) b, eq-eqb ((w - from) % long) 0 c)
-
-  pub place_below : from ≤ w → w < from + long * n → 0 < long → (w - from) / long < n
-  place_below a b c = (div-lt_iff_lt-mul c).1 (omega arith)
-
   pub is_place_lem : is_place from long n w ≡ true → (from ≤ w) × (w < from + long * n) × ((w - from) % long ≡ 0)
   is_place_lem e =
       let (e1, c) = and_both _ _ e in

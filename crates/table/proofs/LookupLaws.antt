@@ -172,9 +172,6 @@ walks_by (By x) y e = (x, refl, cc, cc, cc)
 walks_by (Refused m) y e = let z : ◌≡◌ {A = ℕ} 0 1 = cc in absurd (omega arith)
 
 module _ (p : List ℕ) (s : Shape) (d a : ℕ) where
-  pub walked_refused : (n : ℕ) → Refuses n ≡ without_reach (lookup_of p s d a) → LooksUp p s d a (Refused n)
-  walked_refused n e = looks_up p s d a (Refused n) (sym (walks_refused (lookup_of p s d a) n e))
-
   module _ (y : Decided) (e : Decides y ≡ without_reach (lookup_of p s d a)) where
     pub walked_loads : (1 ≤ y.loads) × (y.loads ≤ 3)
     walked_loads =
