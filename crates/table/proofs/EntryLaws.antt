@@ -55,13 +55,13 @@ module _ (l p g : Bool) (w : ℕ) (t : PoolWord) (n : ℕ) where
   shown = cond l (cond p (Leads t n) Bad) (cond g (Rights w) Bad)
 
 pub bad_rights : {w : ℕ} → Bad ≡ Rights w → ⊥
-bad_rights e = let z : ◌≡◌ {A = ℕ} 0 1 = cc in omega arith
+bad_rights e = cc
 
 pub bad_leads : {t : PoolWord} {n : ℕ} → Bad ≡ Leads t n → ⊥
-bad_leads e = let z : ◌≡◌ {A = ℕ} 0 1 = cc in omega arith
+bad_leads e = cc
 
 pub rights_leads : {w n : ℕ} {t : PoolWord} → Rights w ≡ Leads t n → ⊥
-rights_leads e = let z : ◌≡◌ {A = ℕ} 0 1 = cc in omega arith
+rights_leads e = cc
 
 shown_bad : (l p g : Bool) (w : ℕ) (t : PoolWord) (n : ℕ) → shown l p g w t n ≡ Bad → cond l p g ≡ false
 shown_bad true true g w t n e = absurd (bad_leads (sym e))

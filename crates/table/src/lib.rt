@@ -11,6 +11,7 @@ ghost use Rattle.table.specs.Fresh.{MakesFresh};
 ghost use Rattle.table.specs.Lookup.{found_at, without_reach, lookup_of, LooksUp};
 ghost use Rattle.table.specs.Access.{passes_of};
 
+use refusals::Refusal;
 use words::{ByteAddr, PoolWord};
 
 mod geometry; // geometry.rt: blocks, parts, sizes and places by the height
@@ -63,24 +64,12 @@ pub struct Loaded {
     pub loads: u32,
 }
 
-#[derive(Clone, Copy)]
-pub enum Made {
-    Done,
-    Refused(u32),
-}
-
 // The right that a walk finds, the entry that decides it, and how many words were read.
 #[derive(Clone, Copy)]
 pub struct Decided {
     pub right: u32,
     pub entry: u32,
     pub loads: u32,
-}
-
-#[derive(Clone, Copy)]
-pub enum Walked {
-    By(Decided),
-    Refused(u32),
 }
 
 // What a lookup answers: the same, and the first and the last byte of the stretch that has this right, inside the
@@ -92,12 +81,6 @@ pub struct Deciding {
     pub loads: u32,
     pub first: ByteAddr,
     pub last: ByteAddr,
-}
-
-#[derive(Clone, Copy)]
-pub enum Found {
-    By(Deciding),
-    Refused(u32),
 }
 
 // How many words a pool of this shape has.
@@ -185,17 +168,17 @@ pub fn decode(shape: Shape, height: u32, w: u32) -> Entry
 }
 
 // Every root word says eight times none; all places are zero.
-pub fn fresh(pool: &mut [u32], shape: Shape) -> Made
+pub fn fresh(pool: &mut [u32], shape: Shape) -> Result<(), Refusal>
     ensures { MakesFresh shape pool.old result pool.new }
 {
     if !shape_fits(shape, pool.len()) {
-        return Made::Refused(1);
+        return Err(Refusal::NoShape);
     }
     let past_roots = first_place(shape, 1);
     let roots = words::pool_index(past_roots);
     pool[..roots].fill(words::BIT_31);
     pool[roots..].fill(0);
-    Made::Done
+    Ok(())
 }
 
 // The one read of a walk, and its count: the loads that a lookup reports are the reads that it makes.
@@ -211,7 +194,7 @@ fn load(pool: &[u32], at: PoolWord, before: u32) -> Loaded
 }
 
 // The walk from the root word of an address down to the entry that decides.
-fn walk_down(pool: &[u32], shape: Shape, domain: u32, address: ByteAddr) -> Walked
+fn walk_down(pool: &[u32], shape: Shape, domain: u32, address: ByteAddr) -> Result<Decided, Refusal>
     requires fits { Fits shape (length pool.now) }
     requires domain_lt_domains { domain < shape.domains }
     ensures { result ≡ without_reach (found_at (form_of shape) (words pool.now) address.0
@@ -228,10 +211,10 @@ fn walk_down(pool: &[u32], shape: Shape, domain: u32, address: ByteAddr) -> Walk
         let got = load(pool, at, loads);
         loads = got.loads;
         match decode(shape, height, got.word) {
-            Entry::Bad => return Walked::Refused(6),
+            Entry::Bad => return Err(Refusal::NotSound),
             Entry::Rights(entry) => {
                 let right = words::right_at(entry, part_in(height, address));
-                return Walked::By(Decided {
+                return Ok(Decided {
                     right,
                     entry,
                     loads,
@@ -246,27 +229,35 @@ fn walk_down(pool: &[u32], shape: Shape, domain: u32, address: ByteAddr) -> Walk
 }
 
 // What a lookup answers, but for how far it reaches: checks and steps ask no more.
-pub fn decide(pool: &[u32], shape: Shape, domain: u32, address: ByteAddr) -> Walked
+pub fn decide(
+    pool: &[u32],
+    shape: Shape,
+    domain: u32,
+    address: ByteAddr,
+) -> Result<Decided, Refusal>
     ensures { result ≡ without_reach (lookup_of pool.now shape domain address.0) }
 {
     if !shape_fits(shape, pool.len()) {
-        return Walked::Refused(1);
+        return Err(Refusal::NoShape);
     }
     if domain >= shape.domains {
-        return Walked::Refused(2);
+        return Err(Refusal::NoDomain);
     }
     walk_down(pool, shape, domain, address)
 }
 
 // The right of a domain at an address, the entry that decides it, how many words were read, and how far the right
 // reaches inside the entry's block.
-pub fn lookup(pool: &[u32], shape: Shape, domain: u32, address: ByteAddr) -> Found
+pub fn lookup(
+    pool: &[u32],
+    shape: Shape,
+    domain: u32,
+    address: ByteAddr,
+) -> Result<Deciding, Refusal>
     ensures { LooksUp pool.now shape domain address.0 result }
 {
-    match decide(pool, shape, domain, address) {
-        Walked::Refused(n) => Found::Refused(n),
-        Walked::By(by) => Found::By(reach::reached(by.entry, by.loads, address)),
-    }
+    let by = decide(pool, shape, domain, address)?;
+    Ok(reach::reached(by.entry, by.loads, address))
 }
 
 // Whether an access of a kind passes on a right.

@@ -6,9 +6,9 @@ use Rattle.table.proofs.lookup.Goals as goal
 pub reached-requires : goal.reached-requires
 reached-requires c = let a = c.args in
     walked_loads a.pool.now a.shape a.domain a.address.0 _
-    (sym c.in-By.is ∙ c.decide.ensures)
+    (sym c.in_ok-by.was ∙ c.decide.ensures)
 
-pub returns-in-By : goal.returns-in-By
-returns-in-By c = let a = c.args in
+pub returns : goal.returns
+returns c = let a = c.args in
     walked_by a.pool.now a.shape a.domain a.address.0 _
-    (sym c.in-By.is ∙ c.decide.ensures) c.reached.result c.reached.ensures
+    (sym c.in_ok-by.was ∙ c.decide.ensures) c.reached.result c.reached.ensures
