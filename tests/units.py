@@ -66,7 +66,6 @@ BARE = {
     ("lookaside", "put_slot", "at"): "a word of a lent state",
     ("gates", "gate_at", "at"): "a word of a lent state",
     ("gates", "put_gate", "at"): "a word of a lent state",
-    ("gates", "move_gate", "at"): "a word of a lent state",
     ("gates", "frame_at", "at"): "a word of a lent state",
     ("gates", "put_frame", "at"): "a word of a lent state",
 }
@@ -178,7 +177,7 @@ def sources():
 WRONG = [
     ("census", "let word = words::word_after(base, i as usize);", "let word = PoolWord(i as usize);", "made by hand"),
     ("lookaside/slots", "words::byte_addr(a - past)", "ByteAddr(a - past)", "made by hand"),
-    ("gates/steps", "let back = words::addr_number(b);", "let back = b.0;", "taken apart"),
+    ("gates/steps", "if words::addr_number(f.back) !=", "if f.back.0 !=", "taken apart"),
     ("listing", "let k = words::pool_index(entry);", "let k = entry.0;", "taken apart"),
     ("table", "let i = words::pool_index(at);", "let i = before as usize;", "load: pool[i]"),
     ("table", "fill(&mut pool[..roots], words::BIT_31);", "fill(&mut pool[..n], words::BIT_31);", "fresh: pool[..n]"),

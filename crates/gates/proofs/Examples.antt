@@ -11,7 +11,7 @@ use Rattle.gates.specs.declared.Gate.{Gate}
 use Rattle.gates.specs.declared.Gate.TheVariants.{Switch, Return}
 use Rattle.gates.specs.declared.GateAt.{GateAt}
 use Rattle.gates.specs.declared.Gates.{Gates}
-use Rattle.gates.specs.declared.Here.TheVariants.{Nothing, Stands}
+use Rattle.std.proofs.Common.{Some, None}
 use Rattle.gates.specs.declared.CallStack.{CallStack}
 use Rattle.gates.specs.declared.Stepped.{Stepped}
 use Rattle.gates.specs.declared.Stepped.TheVariants.{Pass, Deny}
@@ -46,11 +46,11 @@ unfolding set_of place_refusal set_at_place before
 replaces = refl
 
 -- Of two gates at one place the earlier counts; without it the later one does.
-earlier_counts : gate_of (holding four 4) 0 4096 ≡ Stands (Switch 1)
+earlier_counts : gate_of (holding four 4) 0 4096 ≡ Some (Switch 1)
 unfolding gate_in
 earlier_counts = refl
 
-later_next : gate_of (remove_of 4 (holding four 4) 0 (at 4096)).gates 0 4096 ≡ Stands (Switch 2)
+later_next : gate_of (remove_of 4 (holding four 4) 0 (at 4096)).gates 0 4096 ≡ Some (Switch 2)
 unfolding gate_in remove_of place_refusal before
 later_next = refl
 
@@ -117,7 +117,7 @@ all_but_one d = cond (eqb d 1) Deny Pass
 
 -- By gates: a call into domain 2 that is checked there, and its return to domain 0; one into domain 1, which is
 -- denied there.
-calls : gate_step all_but_one (empty_stack 0) (at 64) (Stands (Switch 2))
+calls : gate_step all_but_one (empty_stack 0) (at 64) (Some (Switch 2))
     ≡ record {
       answer = Pass;
       stack = record {
@@ -129,7 +129,7 @@ calls : gate_step all_but_one (empty_stack 0) (at 64) (Stands (Switch 2))
 unfolding switch_step
 calls = refl
 
-comes_back : gate_step all_but_one (pushed (empty_stack 0) 2 (at 64)) (at 64) (Stands Return)
+comes_back : gate_step all_but_one (pushed (empty_stack 0) 2 (at 64)) (at 64) (Some Return)
     ≡ record {
       answer = Pass;
       stack = record {
@@ -141,7 +141,7 @@ comes_back : gate_step all_but_one (pushed (empty_stack 0) 2 (at 64)) (at 64) (S
 unfolding given_back
 comes_back = refl
 
-denied_there : gate_step all_but_one (empty_stack 0) (at 64) (Stands (Switch 1))
+denied_there : gate_step all_but_one (empty_stack 0) (at 64) (Some (Switch 1))
     ≡ record { answer = Deny; stack = empty_stack 0 }
 unfolding switch_step
 denied_there = refl
@@ -149,11 +149,11 @@ denied_there = refl
 -- At the gate: 15 before the fetch check, a deny before 16, and 16 before 17.
 gate_answers :
     map (λ r. numbers r.answer)
-    (gate_step all_but_one (stack 16 0) (at 64) (Stands (Switch 1)) ∷ gate_step all_but_one (stack 15 0) (at 64)
-    (Stands (Switch 1))
-    ∷ gate_step all_but_one (stack 0 1) (at 4) (Stands Return) ∷ gate_step all_but_one (stack 0 0) (at 4) (Stands Return)
-    ∷ gate_step all_but_one (stack 1 0) (at 4) (Stands Return) ∷ gate_step all_but_one (stack 1 0) (at 64) (Stands Return)
-    ∷ gate_step all_but_one (stack 0 1) (at 4) Nothing ∷ gate_step all_but_one (stack 0 0) (at 4) Nothing ∷ [])
+    (gate_step all_but_one (stack 16 0) (at 64) (Some (Switch 1)) ∷ gate_step all_but_one (stack 15 0) (at 64)
+    (Some (Switch 1))
+    ∷ gate_step all_but_one (stack 0 1) (at 4) (Some Return) ∷ gate_step all_but_one (stack 0 0) (at 4) (Some Return)
+    ∷ gate_step all_but_one (stack 1 0) (at 4) (Some Return) ∷ gate_step all_but_one (stack 1 0) (at 64) (Some Return)
+    ∷ gate_step all_but_one (stack 0 1) (at 4) None ∷ gate_step all_but_one (stack 0 0) (at 4) None ∷ [])
     ≡ record { refusal = 15; pass = 0 } ∷ record { refusal = 0; pass = 0 } ∷ record { refusal = 0; pass = 0 } ∷
     record { refusal = 16; pass = 0 }
     ∷ record { refusal = 17; pass = 0 } ∷ record { refusal = 0; pass = 1 } ∷ record { refusal = 0; pass = 0 } ∷

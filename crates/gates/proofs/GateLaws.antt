@@ -15,7 +15,7 @@ use Rattle.gates.specs.declared.Gate.{Gate}
 use Rattle.gates.specs.declared.Gate.TheVariants.{Return}
 use Rattle.gates.specs.declared.GateAt.{GateAt}
 use Rattle.gates.specs.declared.Gates.{Gates}
-use Rattle.gates.specs.declared.Here.TheVariants.{Nothing, Stands}
+use Rattle.std.proofs.Common.{Some, None}
 use Rattle.gates.specs.Lists.{before, others, take_out}
 use Rattle.gates.specs.Gates.{max_gates, held, stands_at, place_of, gate_in, gate_of, leads_to, place_refusal}
 use Rattle.gates.specs.Gates.{set_refused, set_done, stored, set_at_place, set_of, without, remove_of}
@@ -38,13 +38,13 @@ stands x d a e =
 module _ (d a : ℕ) where
   -- The gate found is that of the first place that stands there.
   pub gate_found : (g : GateAt) (l : List GateAt) → before (stands_at d a) l < length l
-      → gate_in d a l ≡ Stands (get_or l (before (stands_at d a) l) g).gate
+      → gate_in d a l ≡ Some (get_or l (before (stands_at d a) l) g).gate
   unfolding before gate_in
   gate_found g [] h = absurd (not-suc-le-zero h)
   gate_found g (x ∷ l) h =
       by_cases (stands_at d a x) (λ e. rw e) (λ e. rw e (gate_found g l (le_of_suc-le-suc (rw e at h))))
 
-  pub no_gate_found : (l : List GateAt) → length l ≤ before (stands_at d a) l → gate_in d a l ≡ Nothing
+  pub no_gate_found : (l : List GateAt) → length l ≤ before (stands_at d a) l → gate_in d a l ≡ None
   unfolding before gate_in
   no_gate_found [] h = refl
   no_gate_found (x ∷ l) h =
@@ -53,14 +53,14 @@ module _ (d a : ℕ) where
 
   -- A gate that stands there is found in the place of the first, and after gates that do not.
   pub gate_set : (g : GateAt) → stands_at d a g ≡ true → (l : List GateAt) → before (stands_at d a) l < length l
-      → gate_in d a (set l (before (stands_at d a) l) g) ≡ Stands g.gate
+      → gate_in d a (set l (before (stands_at d a) l) g) ≡ Some g.gate
   unfolding before gate_in
   gate_set g p [] h = absurd (not-suc-le-zero h)
   gate_set g p (x ∷ l) h =
       by_cases (stands_at d a x) (λ e. rw (e, p)) (λ e. rw (e, e) (gate_set g p l (le_of_suc-le-suc (rw e at h))))
 
   pub gate_last : (g : GateAt) → stands_at d a g ≡ true → (l : List GateAt) → length l ≤ before (stands_at d a) l
-      → gate_in d a (l ++ g ∷ []) ≡ Stands g.gate
+      → gate_in d a (l ++ g ∷ []) ≡ Some g.gate
   unfolding before gate_in
   gate_last g p [] h = rw p
   gate_last g p (x ∷ l) h =
@@ -87,7 +87,7 @@ module _ (d a : ℕ) where
     gate_others [] = refl
     gate_others (x ∷ l) =
         by_cases (stands_at d a x) (λ e. rw (e, not_both x e) (gate_others l))
-        (λ e. rw e (ap (cond (stands_at d' a' x) (Stands x.gate)) (gate_others l)))
+        (λ e. rw e (ap (cond (stands_at d' a' x) (Some x.gate)) (gate_others l)))
 
 -- The same of a set.
 module _ (G : Gates) (d a : ℕ) (long : G.count ≤ length G.places) where
@@ -95,12 +95,12 @@ module _ (G : Gates) (d a : ℕ) (long : G.count ≤ length G.places) where
   held_long = length-take-le G.count G.places long
 
   pub gate_at_lem : (g : GateAt) → place_of G d a < G.count → gate_of G d a
-      ≡ Stands (get_or G.places (place_of G d a) g).gate
+      ≡ Some (get_or G.places (place_of G d a) g).gate
   gate_at_lem g h =
       let e = held_long in
       gate_found d a g (held G) (omega arith) ∙ rw (get_or-take G.count G.places (place_of G d a) g h)
 
-  pub no_gate_at : G.count ≤ place_of G d a → gate_of G d a ≡ Nothing
+  pub no_gate_at : G.count ≤ place_of G d a → gate_of G d a ≡ None
   no_gate_at h = let e = held_long in no_gate_found d a (held G) (omega arith)
 
 -- The cases of setting a gate.

@@ -17,7 +17,7 @@ use Rattle.gates.specs.declared.Gate.TheVariants.{Return}
 use Rattle.gates.specs.declared.GateAt.{GateAt}
 use Rattle.gates.specs.declared.Gates.{Gates}
 use Rattle.gates.specs.declared.GatesSet.{GatesSet}
-use Rattle.gates.specs.declared.Here.TheVariants.{Stands}
+use Rattle.std.proofs.Common.{Some}
 use Rattle.gates.specs.Lists.{others, take_out}
 use Rattle.gates.specs.Gates.{max_gates, held, stands_at, place_of, gate_in, gate_of, leads_to, set_refused, set_done}
 use Rattle.gates.specs.Gates.{stored, set_of, without, remove_of}
@@ -101,7 +101,7 @@ module _ (D : ℕ) (G : Gates) (d : ℕ) (a : ByteAddr) (x : Gate) where
     here = rw (eq-eqb d d refl, eq-eqb a.0 a.0 refl)
 
     -- The gate found there is the new one.
-    pub set_here : gate_of after d a.0 ≡ Stands x
+    pub set_here : gate_of after d a.0 ≡ Some x
     set_here = ⊎_elim (λ (l, e). rw e (gate_set d a.0 g here (held G) l))
         (λ (l, e). rw e (gate_last d a.0 g here (held G) l)) held_set
 

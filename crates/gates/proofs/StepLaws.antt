@@ -18,10 +18,10 @@ use Rattle.table.specs.declared.Found.{Found}
 use Rattle.table.specs.declared.Found.TheVariants.{By, Refused as NotFound}
 use Rattle.table.specs.Shape.{fits_of}
 use Rattle.table.specs.Lookup.{lookup_of}
+use Rattle.gates.specs.declared.Gate.{Gate}
 use Rattle.gates.specs.declared.Gate.TheVariants.{Switch, Return}
 use Rattle.gates.specs.declared.Gates.{Gates}
-use Rattle.gates.specs.declared.Here.{Here}
-use Rattle.gates.specs.declared.Here.TheVariants.{Nothing, Stands}
+use Rattle.std.proofs.Common.{Option, Some, None}
 use Rattle.gates.specs.declared.CallStack.{CallStack}
 use Rattle.gates.specs.declared.Stepped.{Stepped}
 use Rattle.gates.specs.declared.Stepped.TheVariants.{Pass, Deny, Refused}
@@ -51,7 +51,7 @@ module _ (p : List ℕ) (s : Shape) (G : Gates) (k : CallStack) (a t : ByteAddr)
   unfolding step_of
   step_refused_lem h = rw (ne_eqb refusal 0 h)
 
-  pub step_by_gate : refusal ≡ 0 → {g : Here} → gate_of G k.current a.0 ≡ g → step_of p s G k a t
+  pub step_by_gate : refusal ≡ 0 → {g : Option Gate} → gate_of G k.current a.0 ≡ g → step_of p s G k a t
       ≡ gate_step (fetch_of p s a.0) k t g
   unfolding step_of
   step_by_gate h e = rw (eq-eqb refusal 0 h, e)
@@ -80,10 +80,10 @@ module _ (t : ByteAddr) (k : CallStack) where
       (returns (omega arith) (eqb-true (top k).back.0 t.0 b)))
       (λ b. rw (z, b) (stays (Refused 17))))
 
-  gate_moves : (v : ℕ → Stepped) (h : Here) → Moves t k (gate_step v k t h)
-  gate_moves v Nothing = stays (v k.current)
-  gate_moves v (Stands (Switch e)) = switch_moves v e
-  gate_moves v (Stands Return) = on_pass_lem (v k.current) give_back_moves
+  gate_moves : (v : ℕ → Stepped) (h : Option Gate) → Moves t k (gate_step v k t h)
+  gate_moves v None = stays (v k.current)
+  gate_moves v (Some (Switch e)) = switch_moves v e
+  gate_moves v (Some Return) = on_pass_lem (v k.current) give_back_moves
 
 -- Whatever is handed in, a step is one of the three moves.
 pub step_moves : (p : List ℕ) (s : Shape) (G : Gates) (k : CallStack) (a t : ByteAddr) → Moves t k (step_of p s G k a t)
@@ -94,10 +94,10 @@ step_moves p s G k a t =
     (λ y. rw (step_refused_lem p s G k a t (eqb-false (refusal p s G k a t) 0 y)) (stays (Refused (refusal p s G k a t))))
 
 -- The domain in which a step checks the fetch.
-abbrev pub checked_in : CallStack → Here → ℕ
-checked_in k Nothing = k.current
-checked_in k (Stands (Switch e)) = e
-checked_in k (Stands Return) = k.current
+abbrev pub checked_in : CallStack → Option Gate → ℕ
+checked_in k None = k.current
+checked_in k (Some (Switch e)) = e
+checked_in k (Some Return) = k.current
 
 abbrev Unrefused : Stepped → Type 0
 Unrefused w = (n : ℕ) → w ≡ Refused n → ⊥
@@ -122,12 +122,12 @@ module _ (t : ByteAddr) (k : CallStack) where
   give_back_passes false true h = refl
   give_back_passes false false h = absurd (h 17 refl)
 
-  gate_verdict : (v : ℕ → Stepped) (g : Here) → Unrefused (gate_step v k t g).answer → v (checked_in k g)
+  gate_verdict : (v : ℕ → Stepped) (g : Option Gate) → Unrefused (gate_step v k t g).answer → v (checked_in k g)
       ≡ (gate_step v k t g).answer
   unfolding switch_step given_back
-  gate_verdict v Nothing h = refl
-  gate_verdict v (Stands (Switch e)) h = switch_verdict (ltb k.depth max_depth) (v e) e h
-  gate_verdict v (Stands Return) h =
+  gate_verdict v None h = refl
+  gate_verdict v (Some (Switch e)) h = switch_verdict (ltb k.depth max_depth) (v e) e h
+  gate_verdict v (Some Return) h =
       verdict_on (v k.current) (given_back k t) (give_back_passes (eqb k.depth 0) (eqb (top k).back.0 t.0)) h
 
 -- A step that is not refused answers what the fetch answers in the domain in which it is checked.

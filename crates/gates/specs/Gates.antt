@@ -1,5 +1,5 @@
 -- Gate sets: which gate is found, and what setting and removing answer and leave.
-use Rattle.std.specs.Prelude.{ℕ, ◌+◌, ◌-◌, ◌%◌, Bool, true, false, cond, not, ◌&&◌, List, [], ◌∷◌, ◌++◌, take, drop, set, replicate, eqb, ltb, leb}
+use Rattle.std.specs.Prelude.{ℕ, ◌+◌, ◌-◌, ◌%◌, Bool, true, false, cond, not, ◌&&◌, Option, Some, None, List, [], ◌∷◌, ◌++◌, take, drop, set, replicate, eqb, ltb, leb}
 use Rattle.words.specs.declared.ByteAddr.{ByteAddr}
 use Rattle.table.specs.Shape.{max_domains}
 use Rattle.gates.specs.declared.Gate.{Gate}
@@ -7,8 +7,6 @@ use Rattle.gates.specs.declared.Gate.TheVariants.{Switch, Return}
 use Rattle.gates.specs.declared.GateAt.{GateAt}
 use Rattle.gates.specs.declared.Gates.{Gates}
 use Rattle.gates.specs.declared.GatesSet.{GatesSet}
-use Rattle.gates.specs.declared.Here.{Here}
-use Rattle.gates.specs.declared.Here.TheVariants.{Nothing, Stands}
 use Rattle.gates.specs.Lists.{before, take_out}
 
 -- A set holds at most this many gates.
@@ -36,12 +34,12 @@ abbrev pub place_of : Gates → ℕ → ℕ → ℕ
 place_of G d a = before (stands_at d a) (held G)
 
 -- The gate found in a list: of two at one place, the earlier counts.
-unfoldable pub gate_in : ℕ → ℕ → List GateAt → Here
-gate_in d a [] = Nothing
-gate_in d a (g ∷ gs) = cond (stands_at d a g) (Stands g.gate) (gate_in d a gs)
+unfoldable pub gate_in : ℕ → ℕ → List GateAt → Option Gate
+gate_in d a [] = None
+gate_in d a (g ∷ gs) = cond (stands_at d a g) (Some g.gate) (gate_in d a gs)
 
 -- The gate found in a set.
-abbrev pub gate_of : Gates → ℕ → ℕ → Here
+abbrev pub gate_of : Gates → ℕ → ℕ → Option Gate
 gate_of G d a = gate_in d a (held G)
 
 -- A switch's destination is below D; a return has none.

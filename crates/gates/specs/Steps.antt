@@ -1,5 +1,5 @@
 -- The call stack and one fetch step: what a step answers, and the stack that it leaves.
-use Rattle.std.specs.Prelude.{ℕ, ◌+◌, ◌-◌, ◌%◌, Bool, true, false, cond, not, ◌&&◌, ◌||◌, List, length, get_or, take, set, replicate, eqb, ltb}
+use Rattle.std.specs.Prelude.{ℕ, ◌+◌, ◌-◌, ◌%◌, Bool, true, false, cond, not, ◌&&◌, ◌||◌, Option, Some, None, List, length, get_or, take, set, replicate, eqb, ltb}
 use Rattle.words.specs.declared.ByteAddr.{ByteAddr}
 use Rattle.table.specs.declared.Shape.{Shape}
 use Rattle.table.specs.declared.Found.{Found}
@@ -7,11 +7,10 @@ use Rattle.table.specs.declared.Found.TheVariants.{By, Refused as NotFound}
 use Rattle.table.specs.Shape.{fits_of}
 use Rattle.table.specs.Lookup.{lookup_of}
 use Rattle.table.specs.Access.{passes_of, fetch}
+use Rattle.gates.specs.declared.Gate.{Gate}
 use Rattle.gates.specs.declared.Gate.TheVariants.{Switch, Return}
 use Rattle.gates.specs.declared.GateAt.{GateAt}
 use Rattle.gates.specs.declared.Gates.{Gates}
-use Rattle.gates.specs.declared.Here.{Here}
-use Rattle.gates.specs.declared.Here.TheVariants.{Nothing, Stands}
 use Rattle.gates.specs.declared.Frame.{Frame}
 use Rattle.gates.specs.declared.CallStack.{CallStack}
 use Rattle.gates.specs.declared.Stepped.{Stepped}
@@ -130,10 +129,10 @@ abbrev pub return_step : (ℕ → Stepped) → CallStack → ByteAddr → Step
 return_step v k t = on_pass (v k.current) k (given_back k t)
 
 -- A step by what stands at its address for the current domain.
-abbrev pub gate_step : (ℕ → Stepped) → CallStack → ByteAddr → Here → Step
-gate_step v k t Nothing = plain_step v k
-gate_step v k t (Stands (Switch e)) = switch_step v k e t
-gate_step v k t (Stands Return) = return_step v k t
+abbrev pub gate_step : (ℕ → Stepped) → CallStack → ByteAddr → Option Gate → Step
+gate_step v k t None = plain_step v k
+gate_step v k t (Some (Switch e)) = switch_step v k e t
+gate_step v k t (Some Return) = return_step v k t
 
 -- What a step at the address `a` with the target `t` answers and leaves.
 unfoldable pub step_of : List ℕ → Shape → Gates → CallStack → ByteAddr → ByteAddr → Step

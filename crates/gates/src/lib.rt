@@ -63,13 +63,6 @@ pub struct GatesSet {
     pub gates: Gates,
 }
 
-// What stands at a domain and an address.
-#[derive(Clone, Copy)]
-pub enum Here {
-    Nothing,
-    Stands(Gate),
-}
-
 // Who called, and the address to return to.
 #[derive(Clone, Copy)]
 pub struct Frame {
@@ -106,17 +99,13 @@ pub fn no_gates(gates: &mut [u32])
     requires { IsGates gates.old }
     ensures { gates.new ≡ gates_words no_gates }
 {
-    let address = words::byte_addr(0);
-    let gate = Gate::Return;
     let idle = GateAt {
         domain: 0,
-        address,
-        gate,
+        address: words::byte_addr(0),
+        gate: Gate::Return,
     };
-    let mut i: usize = 0;
-    while i < 64 {
+    for i in 0..64 {
         layout::put_gate(gates, 3 * i, idle);
-        i += 1;
     }
     gates[COUNT] = 0;
 }
@@ -126,12 +115,12 @@ pub fn call_stack(stack: &mut [u32], domain: u32)
     requires { IsStack stack.old }
     ensures { stack.new ≡ stack_words (empty_stack domain) }
 {
-    let back = words::byte_addr(0);
-    let idle = Frame { domain: 0, back };
-    let mut i: usize = 0;
-    while i < 16 {
+    let idle = Frame {
+        domain: 0,
+        back: words::byte_addr(0),
+    };
+    for i in 0..16 {
         layout::put_frame(stack, 2 * i, idle);
-        i += 1;
     }
     stack[DEPTH] = 0;
     stack[CURRENT] = domain;
@@ -147,25 +136,19 @@ pub fn set_gate(domains: u32, gates: &mut [u32], domain: u32, address: ByteAddr,
     if refusal != 0 {
         return refusal;
     }
-    let own = places::leads_to(gate, domain);
-    if own {
+    if places::leads_to(gate, domain) {
         return 14;
     }
-    let place = places::place_of(gates, domain, address);
-    let last = count as usize;
     let g = GateAt {
         domain,
         address,
         gate,
     };
-    if place < last {
-        places::store_gate(gates, place, g, count);
-        return 0;
+    match places::place_of(gates, domain, address) {
+        Some(place) => places::store_gate(gates, place, g, count),
+        None if count == MAX_GATES => return 12,
+        None => places::store_gate(gates, count as usize, g, count + 1),
     }
-    if count == MAX_GATES {
-        return 12;
-    }
-    places::store_gate(gates, last, g, count + 1);
     0
 }
 
@@ -176,18 +159,17 @@ pub fn remove_gate(domains: u32, gates: &mut [u32], domain: u32, address: ByteAd
 {
     let count = gates[COUNT];
     // A return gate has no destination that could be refused, and a removal names none.
-    let no_destination = Gate::Return;
-    let refusal = places::place_refusal(domains, count, domain, no_destination, address);
+    let refusal = places::place_refusal(domains, count, domain, Gate::Return, address);
     if refusal != 0 {
         return refusal;
     }
-    let place = places::place_of(gates, domain, address);
-    let last = count as usize;
-    if place < last {
-        places::close_up(gates, place);
-        return 0;
+    match places::place_of(gates, domain, address) {
+        Some(place) => {
+            places::close_up(gates, place);
+            0
+        }
+        None => 13,
     }
-    13
 }
 
 // One fetch step: by a switch gate into its destination, by a return gate back to the caller, else within the current
@@ -204,18 +186,13 @@ pub fn fetch_step(
     ensures { SteppedAs (step_of pool.now shape (gates_of gates.now)
         (stack_of stack.old) address target) result stack.new }
 {
-    let long = pool.len();
-    let refusal = steps::step_refusal(long, shape, gates, stack, address, target);
+    let refusal = steps::step_refusal(pool.len(), shape, gates, stack, address, target);
     if refusal != 0 {
         return Stepped::Refused(refusal);
     }
-    let current = stack[CURRENT];
-    let here = places::gate_here(gates, current, address);
-    match here {
-        Here::Nothing => steps::plain_step(pool, shape, stack, address),
-        Here::Stands(gate) => match gate {
-            Gate::Switch(to) => steps::switch_step(pool, shape, stack, to, address, target),
-            Gate::Return => steps::return_step(pool, shape, stack, address, target),
-        },
+    match places::gate_here(gates, stack[CURRENT], address) {
+        None => steps::plain_step(pool, shape, stack, address),
+        Some(Gate::Switch(to)) => steps::switch_step(pool, shape, stack, to, address, target),
+        Some(Gate::Return) => steps::return_step(pool, shape, stack, address, target),
     }
 }

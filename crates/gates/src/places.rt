@@ -1,10 +1,10 @@
 // The gates held: which one stands at a place, what setting and removing refuse, and the stores that they make.
-ghost use Rattle.std.specs.Prelude.{◌≡◌, ◌<◌, ◌≤◌};
+ghost use Rattle.std.specs.Prelude.{◌≡◌, ◌<◌, ◌≤◌, MatchOption};
 ghost use Rattle.gates.specs.Gates.{stands_at, place_of, gate_of, leads_below, leads_to, place_refusal};
 ghost use Rattle.gates.specs.Gates.{stored, without};
 ghost use Rattle.gates.specs.Layout.{IsGates, gates_of, gates_words};
 
-use crate::{COUNT, Gate, GateAt, Here, MAX_GATES, layout};
+use crate::{COUNT, Gate, GateAt, MAX_GATES, layout};
 use words::ByteAddr;
 
 // Whether a switch leads below D; a return leads nowhere of its own.
@@ -20,13 +20,11 @@ pub(crate) fn leads_below(gate: Gate, domains: u32) -> bool
 pub(crate) fn leads_to(gate: Gate, domain: u32) -> bool
     ensures { result ≡ leads_to domain gate }
 {
-    match gate {
-        Gate::Switch(to) => to == domain,
-        Gate::Return => false,
-    }
+    matches!(gate, Gate::Switch(to) if to == domain)
 }
 
 // What setting and removing refuse alike, or 0.
+#[tactic(auto, unfolding(crate::specs::Gates::place_refusal))]
 pub(crate) fn place_refusal(
     domains: u32,
     count: u32,
@@ -48,12 +46,10 @@ pub(crate) fn place_refusal(
     if domain >= domains {
         return 2;
     }
-    let known = leads_below(gate, domains);
-    if !known {
+    if !leads_below(gate, domains) {
         return 2;
     }
-    let a = words::addr_number(address);
-    if a % 4 != 0 {
+    if words::addr_number(address) % 4 != 0 {
         return 11;
     }
     0
@@ -62,48 +58,25 @@ pub(crate) fn place_refusal(
 fn stands_at(g: GateAt, domain: u32, address: ByteAddr) -> bool
     ensures { result ≡ stands_at domain address.0 g }
 {
-    let d = g.domain;
-    if d != domain {
-        return false;
-    }
-    let a = g.address;
-    let here = words::addr_number(a);
-    let asked = words::addr_number(address);
-    here == asked
+    g.domain == domain && words::addr_number(g.address) == words::addr_number(address)
 }
 
-// The place of the first gate that stands there, or the count. The earlier of two counts because the search goes up.
-pub(crate) fn place_of(ws: &[u32], domain: u32, address: ByteAddr) -> usize
+// The place of the first gate that stands there, if one does. The earlier of two counts because the search goes up.
+pub(crate) fn place_of(ws: &[u32], domain: u32, address: ByteAddr) -> Option<usize>
     requires { IsGates ws.now × ((gates_of ws.now).count ≤ 64) }
-    ensures { result ≡ place_of (gates_of ws.now) domain address.0 }
+    ensures { let G = gates_of ws.now in
+        MatchOption result (G.count ≤ place_of G domain address.0)
+        (λ k. (k ≡ place_of G domain address.0) × (k < G.count)) }
 {
-    let n = ws[COUNT];
-    let count = n as usize;
-    let mut i: usize = 0;
-    while i < count {
-        let g = layout::gate_at(ws, 3 * i);
-        let here = stands_at(g, domain, address);
-        if here {
-            return i;
-        }
-        i += 1;
-    }
-    count
+    (0..ws[COUNT] as usize).find(|i| stands_at(layout::gate_at(ws, 3 * *i), domain, address))
 }
 
-pub(crate) fn gate_here(ws: &[u32], domain: u32, address: ByteAddr) -> Here
+pub(crate) fn gate_here(ws: &[u32], domain: u32, address: ByteAddr) -> Option<Gate>
     requires { IsGates ws.now × ((gates_of ws.now).count ≤ 64) }
     ensures { result ≡ gate_of (gates_of ws.now) domain address.0 }
 {
-    let n = ws[COUNT];
-    let count = n as usize;
-    let place = place_of(ws, domain, address);
-    if place < count {
-        let g = layout::gate_at(ws, 3 * place);
-        let gate = g.gate;
-        return Here::Stands(gate);
-    }
-    Here::Nothing
+    let place = place_of(ws, domain, address)?;
+    Some(layout::gate_at(ws, 3 * place).gate)
 }
 
 // One gate stored, and the count.
@@ -120,14 +93,10 @@ pub(crate) fn close_up(ws: &mut [u32], place: usize)
     requires { IsGates ws.old × (place < (gates_of ws.old).count) × ((gates_of ws.old).count ≤ 64) }
     ensures { ws.new ≡ gates_words (without (gates_of ws.old) place) }
 {
-    let n = ws[COUNT];
-    let left = n - 1;
-    let last = left as usize;
-    let mut i = place;
-    while i < last {
-        let j = i + 1;
-        layout::move_gate(ws, 3 * i, 3 * j);
-        i = j;
+    let left = ws[COUNT] - 1;
+    for i in place..left as usize {
+        let next = layout::gate_at(ws, 3 * (i + 1));
+        layout::put_gate(ws, 3 * i, next);
     }
     ws[COUNT] = left;
 }

@@ -14,68 +14,35 @@ use words::ByteAddr;
 fn gate_below(g: GateAt, domains: u32) -> bool
     ensures { result ≡ gate_below domains g }
 {
-    let domain = g.domain;
-    if domain >= domains {
-        return false;
-    }
-    let gate = g.gate;
-    leads_below(gate, domains)
+    g.domain < domains && leads_below(g.gate, domains)
 }
 
 fn gates_below(ws: &[u32], domains: u32) -> bool
     requires { IsGates ws.now × ((gates_of ws.now).count ≤ 64) }
     ensures { result ≡ every (gate_below domains) (held (gates_of ws.now)) }
 {
-    let n = ws[COUNT];
-    let count = n as usize;
-    let mut i: usize = 0;
-    while i < count {
-        let g = layout::gate_at(ws, 3 * i);
-        let known = gate_below(g, domains);
-        if !known {
-            return false;
-        }
-        i += 1;
-    }
-    true
+    (0..ws[COUNT] as usize).all(|i| gate_below(layout::gate_at(ws, 3 * i), domains))
 }
 
 fn frames_below(ws: &[u32], domains: u32) -> bool
     requires { IsStack ws.now × ((stack_of ws.now).depth ≤ 16) }
     ensures { result ≡ every (frame_below domains) (in_use (stack_of ws.now)) }
 {
-    let n = ws[DEPTH];
-    let depth = n as usize;
-    let mut i: usize = 0;
-    while i < depth {
-        let f = layout::frame_at(ws, 2 * i);
-        let domain = f.domain;
-        if domain >= domains {
-            return false;
-        }
-        i += 1;
-    }
-    true
+    (0..ws[DEPTH] as usize).all(|i| layout::frame_at(ws, 2 * i).domain < domains)
 }
 
 // Whether every domain that a step could enter is below D.
+#[tactic(auto, unfolding(crate::specs::Steps::domains_known))]
 fn domains_known(gates: &[u32], stack: &[u32], domains: u32) -> bool
     requires gates { IsGates gates.now × ((gates_of gates.now).count ≤ 64) }
     requires stack { IsStack stack.now × ((stack_of stack.now).depth ≤ 16) }
     ensures { result ≡ domains_known (gates_of gates.now) (stack_of stack.now) domains }
 {
-    let current = stack[CURRENT];
-    if current >= domains {
-        return false;
-    }
-    let frames = frames_below(stack, domains);
-    if !frames {
-        return false;
-    }
-    gates_below(gates, domains)
+    stack[CURRENT] < domains && frames_below(stack, domains) && gates_below(gates, domains)
 }
 
 // What a step refuses before it looks at the gate, or 0.
+#[tactic(auto, unfolding(crate::specs::Steps::step_refusal))]
 pub(crate) fn step_refusal(
     long: usize,
     shape: Shape,
@@ -88,60 +55,37 @@ pub(crate) fn step_refusal(
     ensures { result ≡ step_refusal long shape (gates_of gates.now) (stack_of stack.now)
         address.0 target.0 }
 {
-    let fits = table::shape_fits(shape, long);
-    if !fits {
+    if !table::shape_fits(shape, long) {
         return 1;
     }
-    let count = gates[COUNT];
-    if count > MAX_GATES {
+    if gates[COUNT] > MAX_GATES || stack[DEPTH] > MAX_DEPTH {
         return 18;
     }
-    let depth = stack[DEPTH];
-    if depth > MAX_DEPTH {
-        return 18;
-    }
-    let domains = shape.domains;
-    let known = domains_known(gates, stack, domains);
-    if !known {
+    if !domains_known(gates, stack, shape.domains) {
         return 2;
     }
-    let a = words::addr_number(address);
-    if a % 4 != 0 {
-        return 10;
-    }
-    let t = words::addr_number(target);
-    if t % 4 != 0 {
+    if words::addr_number(address) % 4 != 0 || words::addr_number(target) % 4 != 0 {
         return 10;
     }
     0
 }
 
 // The fetch of the word at an address, checked in a domain by a walk.
+#[tactic(auto, unfolding(crate::specs::Steps::fetch_of))]
 fn fetch(pool: &[u32], shape: Shape, domain: u32, address: ByteAddr) -> Stepped
     ensures { result ≡ fetch_of pool.now shape address.0 domain }
 {
-    let walked = table::decide(pool, shape, domain, address);
-    match walked {
+    match table::decide(pool, shape, domain, address) {
         Walked::Refused(n) => Stepped::Refused(n),
-        Walked::By(by) => {
-            let right = by.right;
-            let good = table::passes(table::FETCH, right);
-            if good {
-                return Stepped::Pass;
-            }
-            Stepped::Deny
-        }
+        Walked::By(by) if table::passes(table::FETCH, by.right) => Stepped::Pass,
+        Walked::By(_) => Stepped::Deny,
     }
 }
 
 fn is_pass(answer: Stepped) -> bool
     ensures { result ≡ is_pass answer }
 {
-    match answer {
-        Stepped::Pass => true,
-        Stepped::Deny => false,
-        Stepped::Refused(_) => false,
-    }
+    matches!(answer, Stepped::Pass)
 }
 
 // A frame goes on the stack, and the destination becomes current.
@@ -154,8 +98,7 @@ fn push(ws: &mut [u32], f: Frame, to: u32)
     }) }
 {
     let depth = ws[DEPTH];
-    let at = depth as usize;
-    layout::put_frame(ws, 2 * at, f);
+    layout::put_frame(ws, 2 * depth as usize, f);
     ws[DEPTH] = depth + 1;
     ws[CURRENT] = to;
 }
@@ -165,10 +108,10 @@ pub(crate) fn plain_step(pool: &[u32], shape: Shape, stack: &[u32], address: Byt
     ensures { result ≡ (plain_step (fetch_of pool.now shape address.0) (stack_of stack.now)
         ).answer }
 {
-    let current = stack[CURRENT];
-    fetch(pool, shape, current, address)
+    fetch(pool, shape, stack[CURRENT], address)
 }
 
+#[tactic(auto, unfolding(crate::specs::Steps::switch_step))]
 pub(crate) fn switch_step(
     pool: &[u32],
     shape: Shape,
@@ -181,25 +124,23 @@ pub(crate) fn switch_step(
     ensures { SteppedAs (switch_step (fetch_of pool.now shape address.0)
         (stack_of stack.old) to target) result stack.new }
 {
-    let caller = stack[CURRENT];
-    let depth = stack[DEPTH];
-    if depth >= MAX_DEPTH {
+    if stack[DEPTH] >= MAX_DEPTH {
         return Stepped::Refused(15);
     }
     let answer = fetch(pool, shape, to, address);
-    let enters = is_pass(answer);
-    if !enters {
-        return answer;
+    if is_pass(answer) {
+        let caller = stack[CURRENT];
+        let f = Frame {
+            domain: caller,
+            back: target,
+        };
+        push(stack, f, to);
     }
-    let f = Frame {
-        domain: caller,
-        back: target,
-    };
-    push(stack, f, to);
-    Stepped::Pass
+    answer
 }
 
 // The top frame is popped where its return address is the target, and its domain becomes current.
+#[tactic(auto, unfolding(crate::specs::Steps::given_back))]
 fn give_back(stack: &mut [u32], target: ByteAddr) -> Stepped
     requires { IsStack stack.old × ((stack_of stack.old).depth ≤ 16) }
     ensures { SteppedAs (given_back (stack_of stack.old) target) result stack.new }
@@ -209,12 +150,8 @@ fn give_back(stack: &mut [u32], target: ByteAddr) -> Stepped
         return Stepped::Refused(16);
     }
     let left = depth - 1;
-    let at = left as usize;
-    let f = layout::frame_at(stack, 2 * at);
-    let b = f.back;
-    let back = words::addr_number(b);
-    let asked = words::addr_number(target);
-    if back != asked {
+    let f = layout::frame_at(stack, 2 * left as usize);
+    if words::addr_number(f.back) != words::addr_number(target) {
         return Stepped::Refused(17);
     }
     stack[DEPTH] = left;
@@ -233,11 +170,10 @@ pub(crate) fn return_step(
     ensures { SteppedAs (return_step (fetch_of pool.now shape address.0)
         (stack_of stack.old) target) result stack.new }
 {
-    let current = stack[CURRENT];
-    let answer = fetch(pool, shape, current, address);
-    let leaves = is_pass(answer);
-    if !leaves {
-        return answer;
+    let answer = fetch(pool, shape, stack[CURRENT], address);
+    if is_pass(answer) {
+        give_back(stack, target)
+    } else {
+        answer
     }
-    give_back(stack, target)
 }

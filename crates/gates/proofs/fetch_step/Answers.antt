@@ -1,7 +1,6 @@
--- `gates::fetch_step` meets its contract. Assumes nothing.
 use mathlib.Core.Path.{sym, ap, ◌∙◌}
+use Rattle.std.proofs.Common.{Some}
 use lib.ListN.{length}
-use Rattle.gates.specs.declared.Here.TheVariants.{Stands}
 use Rattle.gates.specs.Layout.{gates_of, stack_of}
 use Rattle.gates.proofs.StepLaws.{step_in_order, step_refused_lem, step_by_gate}
 use Rattle.gates.proofs.LayoutLaws.{stack_words_lem, step_stays_as}
@@ -14,8 +13,8 @@ returns-then-refusal-ne0 c = let r = c.step_refusal-refusal in
     (gates_of a.gates.now) (stack_of a.stack.now) a.address a.target
     (λ e. c.if-refusal-ne0.true (r.ensures ∙ e))))
 
-pub gate_here-here-requires : goal.gate_here-here-requires
-gate_here-here-requires c = let a = c.args in
+pub gate_here-requires : goal.gate_here-requires
+gate_here-requires c = let a = c.args in
     let in_order = sym c.step_refusal-refusal.ensures ∙ c.if-refusal-ne0.false in (
       c.requires.0,
       (step_in_order (length a.pool.now) a.shape (gates_of a.gates.now) (stack_of a.stack.now) a.address.0 a.target.0
@@ -31,23 +30,23 @@ return_step-requires c = let a = c.args in
     )
 
 -- In each of the three below, the step goes by what was found.
-pub returns-in-Nothing : goal.returns-in-Nothing
-returns-in-Nothing c = let a = c.args in
+pub returns-in-None : goal.returns-in-None
+returns-in-None c = let a = c.args in
     let in_order = sym c.step_refusal-refusal.ensures ∙ c.if-refusal-ne0.false in
     let by_gate = step_by_gate a.pool.now a.shape (gates_of a.gates.now) (stack_of a.stack.now) a.address a.target
-    in_order (sym c.gate_here-here.ensures ∙ c.in-Nothing.is) in
+    in_order (sym c.in-None.ensures) in
     rw by_gate (c.plain_step.ensures, sym (stack_words_lem a.stack.now c.requires.1))
 
-pub returns-in-Switch : goal.returns-in-Switch
-returns-in-Switch c = let a = c.args in
+pub returns-in-Some-Switch : goal.returns-in-Some-Switch
+returns-in-Some-Switch c = let a = c.args in
     let in_order = sym c.step_refusal-refusal.ensures ∙ c.if-refusal-ne0.false in
     let by_gate = step_by_gate a.pool.now a.shape (gates_of a.gates.now) (stack_of a.stack.now) a.address a.target
-    in_order (sym c.gate_here-here.ensures ∙ c.in-Stands.is ∙ ap Stands c.in-Switch.is) in
+    in_order (sym c.in-Some-Switch.ensures ∙ ap Some c.in-Some-Switch.field-0-is) in
     rw by_gate c.switch_step.ensures
 
-pub returns-in-Return : goal.returns-in-Return
-returns-in-Return c = let a = c.args in
+pub returns-in-Some-Return : goal.returns-in-Some-Return
+returns-in-Some-Return c = let a = c.args in
     let in_order = sym c.step_refusal-refusal.ensures ∙ c.if-refusal-ne0.false in
     let by_gate = step_by_gate a.pool.now a.shape (gates_of a.gates.now) (stack_of a.stack.now) a.address a.target
-    in_order (sym c.gate_here-here.ensures ∙ c.in-Stands.is ∙ ap Stands c.in-Return.is) in
+    in_order (sym c.in-Some-Return.ensures ∙ ap Some c.in-Some-Return.field-0-is) in
     rw by_gate c.return_step.ensures

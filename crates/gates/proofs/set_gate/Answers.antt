@@ -1,4 +1,3 @@
--- `gates::set_gate` meets its contract. Assumes nothing.
 use Prim.Native.Nat.{ℕ, ◌+◌}
 use mathlib.Core.Path.{sym, ap, ◌∙◌}
 use native.Mathlib.Omega.{arith}
@@ -14,46 +13,40 @@ unfolding set_of
 returns-then-refusal-ne0 c = let r = c.place_refusal-refusal in
     set_refused_as c.args.gates.now c.requires _ _ (rw (← r.ensures, ne_eqb r.result 0 c.if-refusal-ne0.true))
 
-pub returns-then-own : goal.returns-then-own
-returns-then-own c = let a = c.args in
+pub returns-then-leads_to : goal.returns-then-leads_to
+returns-then-leads_to c = let a = c.args in
     let in_order = sym c.place_refusal-refusal.ensures ∙ c.if-refusal-ne0.false in
     set_refused_as a.gates.now c.requires _ _ (set_own a.domains (gates_of a.gates.now) a.domain a.address a.gate
-    in_order (sym c.leads_to-own.ensures ∙ c.if-own.true))
+    in_order (sym c.leads_to.ensures ∙ c.if-leads_to.true))
 
-pub place_of-place-requires : goal.place_of-place-requires
-place_of-place-requires c = let a = c.args in
+pub place_of-requires : goal.place_of-requires
+place_of-requires c = let a = c.args in
     let in_order = sym c.place_refusal-refusal.ensures ∙ c.if-refusal-ne0.false in
-    let few = place_in_order a.domains (gates_of a.gates.now).count a.domain a.gate a.address.0 in_order in
-    (c.requires, few)
-
-pub overflow_cast-last : goal.overflow_cast-last
-overflow_cast-last c = let a = c.args in
-    let in_order = sym c.place_refusal-refusal.ensures ∙ c.if-refusal-ne0.false in
-    let few = place_in_order a.domains (gates_of a.gates.now).count a.domain a.gate a.address.0 in_order in
-    omega arith
+    (c.requires, place_in_order a.domains (gates_of a.gates.now).count a.domain a.gate a.address.0 in_order)
 
 pub store_gate-requires : goal.store_gate-requires
 store_gate-requires c = let a = c.args in
     let in_order = sym c.place_refusal-refusal.ensures ∙ c.if-refusal-ne0.false in
     let few = place_in_order a.domains (gates_of a.gates.now).count a.domain a.gate a.address.0 in_order in
+    let (e, l) = c.in-Some.ensures in
     (c.requires, omega arith)
 
-pub returns-then-place-last : goal.returns-then-place-last
-returns-then-place-last c = let a = c.args in
+pub returns-in-Some : goal.returns-in-Some
+returns-in-Some c = let a = c.args in
     let in_order = sym c.place_refusal-refusal.ensures ∙ c.if-refusal-ne0.false in
     let G = gates_of a.gates.now in
+    let (e, l) = c.in-Some.ensures in
     set_done_as _ _ (stored G _ (new a.domains G a.domain a.address a.gate) G.count)
     (set_replaces a.domains G a.domain a.address a.gate in_order
-    (sym c.leads_to-own.ensures ∙ c.if-own.false) (rw c.place_of-place.ensures at c.if-place-last.true))
+    (sym c.leads_to.ensures ∙ c.if-leads_to.false) (omega arith))
     (c.store_gate.ensures ∙ ap (λ (k : ℕ). gates_words (stored G k
-    (new a.domains G a.domain a.address a.gate) G.count)) c.place_of-place.ensures)
+    (new a.domains G a.domain a.address a.gate) G.count)) e)
 
-pub returns-then-count-eq-MAX_GATES : goal.returns-then-count-eq-MAX_GATES
-returns-then-count-eq-MAX_GATES c = let a = c.args in
+pub returns-in-None : goal.returns-in-None
+returns-in-None c = let a = c.args in
     let in_order = sym c.place_refusal-refusal.ensures ∙ c.if-refusal-ne0.false in
     set_refused_as a.gates.now c.requires _ _ (set_full a.domains (gates_of a.gates.now) a.domain a.address a.gate
-    in_order (sym c.leads_to-own.ensures ∙ c.if-own.false)
-    (rw c.place_of-place.ensures at c.if-place-last.false) c.if-count-eq-MAX_GATES.true)
+    in_order (sym c.leads_to.ensures ∙ c.if-leads_to.false) c.in-None.ensures c.if-count-eq-MAX_GATES.true)
 
 pub overflow_add-count : goal.overflow_add-count
 overflow_add-count c = let a = c.args in
@@ -61,18 +54,18 @@ overflow_add-count c = let a = c.args in
     let few = place_in_order a.domains (gates_of a.gates.now).count a.domain a.gate a.address.0 in_order in
     omega arith
 
-pub store_gate-requires-2 : goal.store_gate-requires-2
-store_gate-requires-2 c = let a = c.args in
+pub store_gate-requires-in-None-2 : goal.store_gate-requires-in-None-2
+store_gate-requires-in-None-2 c = let a = c.args in
     let in_order = sym c.place_refusal-refusal.ensures ∙ c.if-refusal-ne0.false in
     let few = place_in_order a.domains (gates_of a.gates.now).count a.domain a.gate a.address.0 in_order in
+    let m = c.if-count-eq-MAX_GATES.false in
     (c.requires, omega arith)
 
-pub returns : goal.returns
-returns c = let a = c.args in
+pub returns-in-None-2 : goal.returns-in-None-2
+returns-in-None-2 c = let a = c.args in
     let in_order = sym c.place_refusal-refusal.ensures ∙ c.if-refusal-ne0.false in
     let G = gates_of a.gates.now in
     set_done_as _ _ (stored G G.count (new a.domains G a.domain a.address a.gate) (G.count + 1))
     (set_adds a.domains G a.domain a.address a.gate in_order
-    (sym c.leads_to-own.ensures ∙ c.if-own.false) (rw c.place_of-place.ensures at c.if-place-last.false)
-    c.if-count-eq-MAX_GATES.false)
-    c.store_gate-2.ensures
+    (sym c.leads_to.ensures ∙ c.if-leads_to.false) c.in-None-2.ensures c.if-count-eq-MAX_GATES.false)
+    c.store_gate-in-None-2.ensures

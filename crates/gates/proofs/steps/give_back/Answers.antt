@@ -1,4 +1,3 @@
--- `gates::steps::give_back` meets its contract. Assumes nothing.
 use mathlib.Core.Path.{◌≡◌, refl, sym, ap, ◌∙◌}
 use native.Mathlib.Omega.{arith}
 use borrow.Author.Tests.{eq-eqb, ne_eqb}
@@ -19,13 +18,13 @@ pub returns-then-depth-eq0 : goal.returns-then-depth-eq0
 unfolding given_back
 returns-then-depth-eq0 c = step_stays_as c.args.stack.now c.requires.0 _ _ (rw (eq-eqb _ 0 c.if-depth-eq0.true))
 
-pub returns-then-back-asked : goal.returns-then-back-asked
+pub returns-then-addr_number : goal.returns-then-addr_number
 unfolding given_back
-returns-then-back-asked c = step_stays_as c.args.stack.now c.requires.0 _ _ (rw (
+returns-then-addr_number c = step_stays_as c.args.stack.now c.requires.0 _ _ (rw (
   ne_eqb _ 0 c.if-depth-eq0.false,
   ne_eqb (top (stack_of c.args.stack.now)).back.0 c.args.target.0
-      (λ q. c.if-back-asked.true (c.addr_number-back.ensures ∙ ap (λ (x : Frame). x.back.0) (sym (is_top (goal.at.returns-then-back-asked c).After-frame_at-f)) ∙ q
-      ∙ sym c.addr_number-asked.ensures)),
+      (λ q. c.if-addr_number.true (c.addr_number.ensures ∙ ap (λ (x : Frame). x.back.0) (sym (is_top (goal.at.returns-then-addr_number c).After-frame_at-f)) ∙ q
+      ∙ sym c.addr_number-2.ensures)),
 ))
 
 pub returns : goal.returns
@@ -33,7 +32,7 @@ unfolding given_back
 returns c = rw (
   ne_eqb _ 0 c.if-depth-eq0.false,
   eq-eqb (top (stack_of c.args.stack.now)).back.0 c.args.target.0
-      (ap (λ (x : Frame). x.back.0) (is_top (goal.at.returns c).After-frame_at-f) ∙ sym c.addr_number-back.ensures ∙ c.if-back-asked.false
-      ∙ c.addr_number-asked.ensures),
+      (ap (λ (x : Frame). x.back.0) (is_top (goal.at.returns c).After-frame_at-f) ∙ sym c.addr_number.ensures ∙ c.if-addr_number.false
+      ∙ c.addr_number-2.ensures),
   is_top (goal.at.returns c).After-frame_at-f,
 ) (refl, popped_words c.args.stack.now _ _ c.requires.0)
