@@ -9,7 +9,9 @@ use native.Mathlib.Numerals.{add-one}
 use native.Mathlib.Omega.{arith}
 use lib.ListN.{length, get_or, take, drop, set, drop_of_length-le, take-append-drop}
 use lib.Seq.{get_or-take, length-take-le, take-take, take_at, drop_at, take-set-lt, drop-set-lt}
+use Rattle.std.proofs.Common.{Result, Ok, Err}
 use Rattle.std.specs.List.{list_all, range_with_len}
+use Rattle.refusals.specs.declared.Refusal.{Refusal}
 use Rattle.gates.specs.Lists.{before, every, others, take_out}
 use Rattle.theory.proofs.Logic.{by_cases}
 
@@ -18,9 +20,15 @@ neither true b e = absurd (true≢false e)
 neither false b e = (refl, e)
 
 -- No refusal: the first test fails, and none of those after it refuses.
-pub none_refuses : (b : Bool) (n r : ℕ) → 0 < n → cond b n r ≡ 0 → (b ≡ false) × (r ≡ 0)
-none_refuses true n r h e = absurd (omega arith)
-none_refuses false n r h e = (refl, e)
+pub none_refuses : (b : Bool) (n : Refusal) (r : Result (Unit {0}) Refusal) → cond b (Err n) r ≡ Ok tt
+    → (b ≡ false) × (r ≡ Ok tt)
+none_refuses true n r e = absurd cc
+none_refuses false n r e = (refl, e)
+
+-- What is asked is in order or refused.
+pub by_refusal : {P : Type 0} (r : Result (Unit {0}) Refusal) → (r ≡ Ok tt → P) → ((n : Refusal) → r ≡ Err n → P) → P
+by_refusal (Ok u) f g = f refl
+by_refusal (Err n) f g = g n refl
 
 module _ {A : Type 0} (t : A → Bool) (d : A) where
   -- The search goes by every element that fails the test, and stops at the first that passes it.

@@ -1,9 +1,9 @@
 // Gates and frames in their lent words: one read, one stored.
-ghost use Rattle.std.specs.Prelude.{◌≡◌, ◌+◌, ◌≤◌, length};
+ghost use Rattle.std.specs.Prelude.{◌≡◌, ◌*◌, ◌<◌};
 ghost use Rattle.std.proofs.lemmas.List.Edits.{sets};
 ghost use Rattle.gates.specs.Layout.{gate_said, gate_word, gate_at, gate_words, frame_at, frame_words};
 
-use crate::{Frame, Gate, GateAt};
+use crate::{Frame, GATES_WORDS, Gate, GateAt, STACK_WORDS};
 use words::ByteAddr;
 
 // The word of a return gate; any other word is the destination of a switch.
@@ -27,40 +27,40 @@ fn gate_word(gate: Gate) -> u32
     }
 }
 
-pub(crate) fn gate_at(ws: &[u32], at: usize) -> GateAt
-    requires { at + 3 ≤ length ws.now }
-    ensures { result ≡ gate_at ws.now at }
+pub(crate) fn gate_at(gates: &[u32; GATES_WORDS], i: usize) -> GateAt
+    requires { i < 64 }
+    ensures { result ≡ gate_at gates.now (3 * i) }
 {
     GateAt {
-        domain: ws[at],
-        address: words::byte_addr(ws[at + 1]),
-        gate: gate_said(ws[at + 2]),
+        domain: gates[3 * i],
+        address: words::byte_addr(gates[3 * i + 1]),
+        gate: gate_said(gates[3 * i + 2]),
     }
 }
 
-pub(crate) fn put_gate(ws: &mut [u32], at: usize, g: GateAt)
-    requires { at + 3 ≤ length ws.old }
-    ensures { ws.new ≡ sets ws.old at (gate_words g) }
+pub(crate) fn put_gate(gates: &mut [u32; GATES_WORDS], i: usize, g: GateAt)
+    requires { i < 64 }
+    ensures { gates.new ≡ sets gates.old (3 * i) (gate_words g) }
 {
-    ws[at] = g.domain;
-    ws[at + 1] = words::addr_number(g.address);
-    ws[at + 2] = gate_word(g.gate);
+    gates[3 * i] = g.domain;
+    gates[3 * i + 1] = words::addr_number(g.address);
+    gates[3 * i + 2] = gate_word(g.gate);
 }
 
-pub(crate) fn frame_at(ws: &[u32], at: usize) -> Frame
-    requires { at + 2 ≤ length ws.now }
-    ensures { result ≡ frame_at ws.now at }
+pub(crate) fn frame_at(stack: &[u32; STACK_WORDS], i: usize) -> Frame
+    requires { i < 16 }
+    ensures { result ≡ frame_at stack.now (2 * i) }
 {
     Frame {
-        domain: ws[at],
-        back: words::byte_addr(ws[at + 1]),
+        domain: stack[2 * i],
+        back: words::byte_addr(stack[2 * i + 1]),
     }
 }
 
-pub(crate) fn put_frame(ws: &mut [u32], at: usize, f: Frame)
-    requires { at + 2 ≤ length ws.old }
-    ensures { ws.new ≡ sets ws.old at (frame_words f) }
+pub(crate) fn put_frame(stack: &mut [u32; STACK_WORDS], i: usize, f: Frame)
+    requires { i < 16 }
+    ensures { stack.new ≡ sets stack.old (2 * i) (frame_words f) }
 {
-    ws[at] = f.domain;
-    ws[at + 1] = words::addr_number(f.back);
+    stack[2 * i] = f.domain;
+    stack[2 * i + 1] = words::addr_number(f.back);
 }

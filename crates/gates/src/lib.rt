@@ -9,9 +9,10 @@ mod steps;
 ghost use Rattle.std.specs.Prelude.{◌≡◌};
 ghost use Rattle.gates.specs.Gates.{no_gates, set_of, remove_of};
 ghost use Rattle.gates.specs.Steps.{empty_stack, step_of};
-ghost use Rattle.gates.specs.Layout.{IsGates, IsStack, gates_of, gates_words, stack_of, stack_words};
+ghost use Rattle.gates.specs.Layout.{gates_of, gates_words, stack_of, stack_words};
 ghost use Rattle.gates.specs.Layout.{SetAs, SteppedAs};
 
+use refusals::Refusal;
 use table::Shape;
 use words::ByteAddr;
 
@@ -48,21 +49,6 @@ pub struct GateAt {
     pub gate: Gate,
 }
 
-// What the words of a gate set say. The gates held are the first `count`; a place past them keeps what it held and is
-// never looked at.
-#[derive(Drop)]
-pub struct Gates {
-    pub places: [GateAt; 64],
-    pub count: u32,
-}
-
-// Setting or removing a gate as contracts tell it: the number of the refusal, 0 for none, and the set afterwards.
-#[derive(Drop)]
-pub struct GatesSet {
-    pub refusal: u32,
-    pub gates: Gates,
-}
-
 // Who called, and the address to return to.
 #[derive(Clone, Copy)]
 pub struct Frame {
@@ -70,33 +56,15 @@ pub struct Frame {
     pub back: ByteAddr,
 }
 
-// What the words of a call stack say, with the current domain. The frames in use are the first `depth`; a popped one
-// keeps its words and is never looked at.
-#[derive(Drop)]
-pub struct CallStack {
-    pub frames: [Frame; 16],
-    pub depth: u32,
-    pub current: u32,
-}
-
-// What a step answers.
-#[derive(Clone, Copy)]
+// What a step that is not refused answers.
+#[derive(Clone, Copy, Debug, PartialEq, Eq)]
 pub enum Stepped {
     Pass,
     Deny,
-    Refused(u32),
-}
-
-// A step as contracts tell it: its answer, and the stack afterwards.
-#[derive(Drop)]
-pub struct Step {
-    pub answer: Stepped,
-    pub stack: CallStack,
 }
 
 // A set that holds no gate, whatever its words were.
-pub fn no_gates(gates: &mut [u32])
-    requires { IsGates gates.old }
+pub fn no_gates(gates: &mut [u32; GATES_WORDS])
     ensures { gates.new ≡ gates_words no_gates }
 {
     let idle = GateAt {
@@ -105,14 +73,13 @@ pub fn no_gates(gates: &mut [u32])
         gate: Gate::Return,
     };
     for i in 0..64 {
-        layout::put_gate(gates, 3 * i, idle);
+        layout::put_gate(gates, i, idle);
     }
     gates[COUNT] = 0;
 }
 
 // A stack with no frame, in a domain, whatever its words were.
-pub fn call_stack(stack: &mut [u32], domain: u32)
-    requires { IsStack stack.old }
+pub fn call_stack(stack: &mut [u32; STACK_WORDS], domain: u32)
     ensures { stack.new ≡ stack_words (empty_stack domain) }
 {
     let idle = Frame {
@@ -120,24 +87,26 @@ pub fn call_stack(stack: &mut [u32], domain: u32)
         back: words::byte_addr(0),
     };
     for i in 0..16 {
-        layout::put_frame(stack, 2 * i, idle);
+        layout::put_frame(stack, i, idle);
     }
     stack[DEPTH] = 0;
     stack[CURRENT] = domain;
 }
 
 // Sets a gate: in the place of the one that stands there, else last. One gate is stored, and the count.
-pub fn set_gate(domains: u32, gates: &mut [u32], domain: u32, address: ByteAddr, gate: Gate) -> u32
-    requires { IsGates gates.old }
+pub fn set_gate(
+    domains: u32,
+    gates: &mut [u32; GATES_WORDS],
+    domain: u32,
+    address: ByteAddr,
+    gate: Gate,
+) -> Result<(), Refusal>
     ensures { SetAs (set_of domains (gates_of gates.old) domain address gate) result gates.new }
 {
     let count = gates[COUNT];
-    let refusal = places::place_refusal(domains, count, domain, gate, address);
-    if refusal != 0 {
-        return refusal;
-    }
+    places::place_refusal(domains, count, domain, gate, address)?;
     if places::leads_to(gate, domain) {
-        return 14;
+        return Err(Refusal::GateToItself);
     }
     let g = GateAt {
         domain,
@@ -146,30 +115,27 @@ pub fn set_gate(domains: u32, gates: &mut [u32], domain: u32, address: ByteAddr,
     };
     match places::place_of(gates, domain, address) {
         Some(place) => places::store_gate(gates, place, g, count),
-        None if count == MAX_GATES => return 12,
+        None if count == MAX_GATES => return Err(Refusal::GatesFull),
         None => places::store_gate(gates, count as usize, g, count + 1),
     }
-    0
+    Ok(())
 }
 
 // Removes the gate that stands there, the earlier of two. The later ones move down.
-pub fn remove_gate(domains: u32, gates: &mut [u32], domain: u32, address: ByteAddr) -> u32
-    requires { IsGates gates.old }
+pub fn remove_gate(
+    domains: u32,
+    gates: &mut [u32; GATES_WORDS],
+    domain: u32,
+    address: ByteAddr,
+) -> Result<(), Refusal>
     ensures { SetAs (remove_of domains (gates_of gates.old) domain address) result gates.new }
 {
     let count = gates[COUNT];
     // A return gate has no destination that could be refused, and a removal names none.
-    let refusal = places::place_refusal(domains, count, domain, Gate::Return, address);
-    if refusal != 0 {
-        return refusal;
-    }
-    match places::place_of(gates, domain, address) {
-        Some(place) => {
-            places::close_up(gates, place);
-            0
-        }
-        None => 13,
-    }
+    places::place_refusal(domains, count, domain, Gate::Return, address)?;
+    let place = places::place_of(gates, domain, address).ok_or(Refusal::NoGate)?;
+    places::close_up(gates, place);
+    Ok(())
 }
 
 // One fetch step: by a switch gate into its destination, by a return gate back to the caller, else within the current
@@ -177,19 +143,15 @@ pub fn remove_gate(domains: u32, gates: &mut [u32], domain: u32, address: ByteAd
 pub fn fetch_step(
     pool: &[u32],
     shape: Shape,
-    gates: &[u32],
-    stack: &mut [u32],
+    gates: &[u32; GATES_WORDS],
+    stack: &mut [u32; STACK_WORDS],
     address: ByteAddr,
     target: ByteAddr,
-) -> Stepped
-    requires { IsGates gates.now × IsStack stack.old }
+) -> Result<Stepped, Refusal>
     ensures { SteppedAs (step_of pool.now shape (gates_of gates.now)
         (stack_of stack.old) address target) result stack.new }
 {
-    let refusal = steps::step_refusal(pool.len(), shape, gates, stack, address, target);
-    if refusal != 0 {
-        return Stepped::Refused(refusal);
-    }
+    steps::step_refusal(pool.len(), shape, gates, stack, address, target)?;
     match places::gate_here(gates, stack[CURRENT], address) {
         None => steps::plain_step(pool, shape, stack, address),
         Some(Gate::Switch(to)) => steps::switch_step(pool, shape, stack, to, address, target),

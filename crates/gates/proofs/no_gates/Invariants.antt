@@ -9,5 +9,5 @@ use Rattle.gates.proofs.LayoutLaws.{of_places}
 use Rattle.gates.proofs.no_gates.Given as goal
 
 abbrev pub invariant-loop-i : goal.invariant-loop-i
-invariant-loop-i l = (length l.gates ≡ 193) × (x : List GateAt) × (length x ≡ 64)
+invariant-loop-i l = (x : List GateAt) × (length x ≡ 64)
     × (l.gates ≡ of_places x (get_or l.initial.gates 192 0)) × Filling no_gate 64 x l.i

@@ -9,7 +9,7 @@ use Rattle.gates.proofs.LayoutLaws.{of_places}
 use Rattle.gates.proofs.places.close_up.Given as goal
 
 abbrev pub invariant-loop-i : goal.invariant-loop-i
-invariant-loop-i l = (length l.ws ≡ 193) × (x : List GateAt) × (length x ≡ 64)
-    × (l.ws ≡ of_places x (get_or l.initial.ws 192 0))
-    × (closed (get_or l.initial.ws 192 0) l.i x
-    ≡ closed (get_or l.initial.ws 192 0) l.place (gates_of l.initial.ws).places)
+invariant-loop-i l = (x : List GateAt) × (length x ≡ 64)
+    × (l.gates ≡ of_places x (get_or l.initial.gates 192 0))
+    × (closed (get_or l.initial.gates 192 0) l.i x
+    ≡ closed (get_or l.initial.gates 192 0) l.place (gates_of l.initial.gates).places)

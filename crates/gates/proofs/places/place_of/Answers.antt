@@ -36,7 +36,7 @@ module _ (ws : List ℕ) (d a : ℕ) (few : get_or ws 192 0 ≤ 64) where
 pub returns : goal.returns
 returns c =
     let a = c.args in
-    first a.ws.now a.domain a.address.0 c.requires.1 c.find.result
-    (first_from_Range _ _ _ c.find.result (λ i. stands_at a.domain a.address.0 (gate_at a.ws.now (3 * i)) ≡ true)
-    (λ i. stands_at a.domain a.address.0 (gate_at a.ws.now (3 * i)) ≡ false) c.find.ensures.ran
+    first a.gates.now a.domain a.address.0 c.requires c.find.result
+    (first_from_Range _ _ _ c.find.result (λ i. stands_at a.domain a.address.0 (gate_at a.gates.now (3 * i)) ≡ true)
+    (λ i. stands_at a.domain a.address.0 (gate_at a.gates.now (3 * i)) ≡ false) c.find.ensures.ran
     (λ x q k. search (rules, tests)) (λ x q k. search (rules, tests)))

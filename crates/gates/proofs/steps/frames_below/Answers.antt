@@ -14,7 +14,7 @@ use Rattle.gates.proofs.steps.frames_below.Goals as goal
 
 pub returns : goal.returns
 returns c =
-    let ws = c.args.ws.now in
+    let ws = c.args.stack.now in
     let n = get_or ws 32 0 in
     let long = frames_said ws in
     all_from_yields_List (λ i. frame_below c.args.domains (frame_at ws (2 * i))) _ _ c.all.result c.all.ensures.ran

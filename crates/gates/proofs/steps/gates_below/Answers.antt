@@ -15,7 +15,7 @@ use Rattle.gates.proofs.steps.gates_below.Goals as goal
 
 pub returns : goal.returns
 returns c =
-    let ws = c.args.ws.now in
+    let ws = c.args.gates.now in
     let n = get_or ws 192 0 in
     let long = gates_said ws in
     all_from_yields_List (λ i. gate_below c.args.domains (gate_at ws (3 * i))) _ _ c.all.result c.all.ensures.ran
