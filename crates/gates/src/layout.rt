@@ -33,7 +33,7 @@ pub(crate) fn gate_at(gates: &[u32; GATES_WORDS], i: usize) -> GateAt
 {
     GateAt {
         domain: gates[3 * i],
-        address: words::byte_addr(gates[3 * i + 1]),
+        address: ByteAddr::from(gates[3 * i + 1]),
         gate: gate_said(gates[3 * i + 2]),
     }
 }
@@ -43,7 +43,7 @@ pub(crate) fn put_gate(gates: &mut [u32; GATES_WORDS], i: usize, g: GateAt)
     ensures { gates.new ≡ sets gates.old (3 * i) (gate_words g) }
 {
     gates[3 * i] = g.domain;
-    gates[3 * i + 1] = words::addr_number(g.address);
+    gates[3 * i + 1] = u32::from(g.address);
     gates[3 * i + 2] = gate_word(g.gate);
 }
 
@@ -53,7 +53,7 @@ pub(crate) fn frame_at(stack: &[u32; STACK_WORDS], i: usize) -> Frame
 {
     Frame {
         domain: stack[2 * i],
-        back: words::byte_addr(stack[2 * i + 1]),
+        back: ByteAddr::from(stack[2 * i + 1]),
     }
 }
 
@@ -62,5 +62,5 @@ pub(crate) fn put_frame(stack: &mut [u32; STACK_WORDS], i: usize, f: Frame)
     ensures { stack.new ≡ sets stack.old (2 * i) (frame_words f) }
 {
     stack[2 * i] = f.domain;
-    stack[2 * i + 1] = words::addr_number(f.back);
+    stack[2 * i + 1] = u32::from(f.back);
 }

@@ -69,7 +69,7 @@ pub fn no_gates(gates: &mut [u32; GATES_WORDS])
 {
     let idle = GateAt {
         domain: 0,
-        address: words::byte_addr(0),
+        address: ByteAddr::from(0),
         gate: Gate::Return,
     };
     for i in 0..64 {
@@ -84,7 +84,7 @@ pub fn call_stack(stack: &mut [u32; STACK_WORDS], domain: u32)
 {
     let idle = Frame {
         domain: 0,
-        back: words::byte_addr(0),
+        back: ByteAddr::from(0),
     };
     for i in 0..16 {
         layout::put_frame(stack, i, idle);

@@ -45,7 +45,7 @@ pub(crate) fn place_refusal(
     if domain >= domains || !leads_below(gate, domains) {
         return Err(Refusal::NoDomain);
     }
-    if words::addr_number(address) % 4 != 0 {
+    if u32::from(address) % 4 != 0 {
         return Err(Refusal::GateNotAligned);
     }
     Ok(())
@@ -54,7 +54,7 @@ pub(crate) fn place_refusal(
 fn stands_at(g: GateAt, domain: u32, address: ByteAddr) -> bool
     ensures { result ≡ stands_at domain address.0 g }
 {
-    g.domain == domain && words::addr_number(g.address) == words::addr_number(address)
+    g.domain == domain && g.address == address
 }
 
 // The place of the first gate that stands there, if one does. The earlier of two counts because the search goes up.

@@ -70,7 +70,7 @@ pub(crate) fn step_refusal(
     if !domains_known(gates, stack, shape.domains) {
         return Err(Refusal::NoDomain);
     }
-    if words::addr_number(address) % 4 != 0 || words::addr_number(target) % 4 != 0 {
+    if u32::from(address) % 4 != 0 || u32::from(target) % 4 != 0 {
         return Err(Refusal::NotAligned);
     }
     Ok(())
@@ -155,7 +155,7 @@ fn give_back(stack: &mut [u32; STACK_WORDS], target: ByteAddr) -> Result<Stepped
         return Err(Refusal::StackEmpty);
     }
     let caller = layout::frame_at(stack, depth as usize - 1);
-    if words::addr_number(caller.back) != words::addr_number(target) {
+    if caller.back != target {
         return Err(Refusal::OtherReturn);
     }
     stack[DEPTH] = depth - 1;
