@@ -1,6 +1,6 @@
 -- How a gate set and a call stack lie in lent words: what words say, the words of a state, and what a call on words
 -- leaves. The first two are inverse to each other (proofs/LayoutLaws).
-use Rattle.std.specs.Prelude.{ℕ, ◌+◌, ◌*◌, ◌≡◌, cond, Result, List, [], ◌∷◌, ◌++◌, eqb, length, get_or}
+use Rattle.std.specs.Prelude.{ℕ, ◌+◌, ◌*◌, ◌≡◌, cond, Result, List, [], ◌∷◌, ◌++◌, eqb, get_or}
 use Rattle.refusals.specs.declared.Refusal.{Refusal}
 use Rattle.rows.specs.Rows.{rows_of, words_of}
 use Rattle.gates.specs.declared.Gate.{Gate}

@@ -1,5 +1,5 @@
 -- The call stack and one fetch step: what a step answers, and the stack that it leaves.
-use Rattle.std.specs.Prelude.{ℕ, ◌+◌, ◌-◌, ◌%◌, Bool, true, false, cond, not, ◌&&◌, ◌||◌, Option, Some, None, Result, Ok, Err, List, length, get_or, take, set, replicate, eqb, ltb}
+use Rattle.std.specs.Prelude.{ℕ, ◌+◌, ◌-◌, ◌%◌, Bool, cond, not, ◌&&◌, ◌||◌, Option, Some, None, Result, Ok, Err, List, length, get_or, take, set, replicate, eqb, ltb}
 use Rattle.words.specs.declared.ByteAddr.{ByteAddr}
 use Rattle.refusals.specs.declared.Refusal.{Refusal}
 use Rattle.refusals.specs.declared.Refusal.TheVariants.{NoShape, NoDomain, NotAligned, StackFull, StackEmpty, OtherReturn, BadState}

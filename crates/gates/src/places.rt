@@ -58,11 +58,7 @@ fn stands_at(g: GateAt, domain: u32, address: ByteAddr) -> bool
 }
 
 // The place of the first gate that stands there, if one does. The earlier of two counts because the search goes up.
-pub(crate) fn place_of(
-    gates: &[u32; GATES_WORDS],
-    domain: u32,
-    address: ByteAddr,
-) -> Option<usize>
+pub(crate) fn place_of(gates: &[u32; GATES_WORDS], domain: u32, address: ByteAddr) -> Option<usize>
     requires { (gates_of gates.now).count ≤ 64 }
     ensures { let G = gates_of gates.now in
         MatchOption result (G.count ≤ place_of G domain address.0)
@@ -71,11 +67,7 @@ pub(crate) fn place_of(
     (0..gates[COUNT] as usize).find(|i| stands_at(layout::gate_at(gates, *i), domain, address))
 }
 
-pub(crate) fn gate_here(
-    gates: &[u32; GATES_WORDS],
-    domain: u32,
-    address: ByteAddr,
-) -> Option<Gate>
+pub(crate) fn gate_here(gates: &[u32; GATES_WORDS], domain: u32, address: ByteAddr) -> Option<Gate>
     requires { (gates_of gates.now).count ≤ 64 }
     ensures { result ≡ gate_of (gates_of gates.now) domain address.0 }
 {

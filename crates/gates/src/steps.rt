@@ -7,8 +7,10 @@ ghost use Rattle.gates.specs.Steps.{plain_step, switch_step, given_back, return_
 ghost use Rattle.gates.specs.Layout.{gates_of, stack_of, stack_words, SteppedAs};
 
 use crate::places::leads_below;
-use crate::{COUNT, CURRENT, DEPTH, GATES_WORDS, MAX_DEPTH, MAX_GATES, STACK_WORDS};
-use crate::{Frame, GateAt, Stepped, layout};
+use crate::{
+    COUNT, CURRENT, DEPTH, Frame, GATES_WORDS, GateAt, MAX_DEPTH, MAX_GATES, STACK_WORDS, Stepped,
+    layout,
+};
 use refusals::Refusal;
 use table::Shape;
 use words::ByteAddr;
@@ -35,11 +37,7 @@ fn frames_below(stack: &[u32; STACK_WORDS], domains: u32) -> bool
 
 // Whether every domain that a step could enter is below D.
 #[tactic(auto, unfolding(crate::specs::Steps::domains_known))]
-fn domains_known(
-    gates: &[u32; GATES_WORDS],
-    stack: &[u32; STACK_WORDS],
-    domains: u32,
-) -> bool
+fn domains_known(gates: &[u32; GATES_WORDS], stack: &[u32; STACK_WORDS], domains: u32) -> bool
     requires { ((gates_of gates.now).count ≤ 64) × ((stack_of stack.now).depth ≤ 16) }
     ensures { result ≡ domains_known (gates_of gates.now) (stack_of stack.now) domains }
 {

@@ -2,7 +2,7 @@ use Prim.Native.Nat.{ℕ, ◌*◌}
 use mathlib.Core.Path.{sym, ap, ◌∙◌}
 use mathlib.Core.List.{List}
 use native.Mathlib.Omega.{arith}
-use lib.ListN.{length, set, length-set}
+use lib.ListN.{set, length-set}
 use lib.Seq.{sets}
 use Rattle.words.specs.declared.ByteAddr.{ByteAddr}
 use Rattle.rows.proofs.RowLaws.{filling_none, filling_turn, filling_all}
@@ -23,7 +23,7 @@ loop-i-preserved c = let old = c.args.stack.now in
     let (x, long, e, left) = c.loop-i.invariant in
     let k = length-set x i no_frame ∙ long in
     let q = c.put_frame.ensures
-    ∙ ap (λ (a : ByteAddr). sets c.loop-i.stack (2 * i) (frame_words (record { domain = 0; back = a }))) c.byte_addr.ensures
+    ∙ ap (λ (a : ByteAddr). sets c.loop-i.stack (2 * i) (frame_words (record { domain = 0; back = a }))) c.from.ensures
     ∙ ap (λ (w : List ℕ). sets w (2 * i) (frame_words no_frame)) e
     ∙ frame_stored (with_frames x old) i no_frame (omega arith) in
     (set x i no_frame, k, q, filling_turn no_frame 16 x i long (omega arith) left)

@@ -24,7 +24,7 @@ loop-i-preserved c = let n = get_or c.args.gates.now 192 0 in
     let k = length-set x i no_gate ∙ long in
     let q = c.put_gate.ensures
     ∙ ap (λ (a : ByteAddr). sets c.loop-i.gates (3 * i) (gate_words
-    (record { domain = 0; address = a; gate = Return }))) c.byte_addr.ensures
+    (record { domain = 0; address = a; gate = Return }))) c.from.ensures
     ∙ ap (λ (w : List ℕ). sets w (3 * i) (gate_words no_gate)) e ∙ gate_stored x n i no_gate (omega arith) in
     (set x i no_gate, k, q, filling_turn no_gate 64 x i long (omega arith) left)
 

@@ -1,4 +1,4 @@
-use mathlib.Core.Path.{sym, ◌∙◌}
+use mathlib.Core.Path.{sym}
 use Rattle.std.proofs.lemmas.Result.{err_from_is_err_and}
 use Rattle.gates.proofs.LayoutLaws.{step_stays_as}
 use Rattle.gates.proofs.steps.return_step.Goals as goal
