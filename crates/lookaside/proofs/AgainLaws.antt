@@ -1,5 +1,5 @@
 -- A fill serves: a check made again at once is answered by the buffer, with no load. Assumes nothing.
-use Prim.Native.Nat.{ℕ, zero, suc, ◌-◌, ◌≤◌, ◌<◌}
+use Prim.Native.Nat.{ℕ, zero, suc, ◌-◌, ◌*◌, ◌/◌, ◌≤◌, ◌<◌}
 use mathlib.Core.Path.{◌≡◌, refl, ap, ◌∙◌}
 use mathlib.Core.Logic.{⊎_elim}
 use mathlib.Core.Bool.{Bool, true, false, cond}
@@ -20,7 +20,7 @@ use Rattle.lookaside.specs.declared.Slot.{Slot}
 use Rattle.lookaside.specs.declared.Buffer.{Buffer}
 use Rattle.lookaside.specs.declared.Hit.{Hit}
 use Rattle.lookaside.specs.declared.Hit.TheVariants.{At, Miss}
-use Rattle.lookaside.specs.Slots.{good_entry, matches, first_match, slot_for}
+use Rattle.lookaside.specs.Slots.{block_bytes, good_entry, matches, first_match, slot_for}
 use Rattle.lookaside.specs.Check.{refusal_of, walked, answered, check_of}
 use Rattle.lookaside.proofs.SlotLaws.{range_level, match_test}
 use Rattle.lookaside.proofs.CheckLaws.{Allowed, allowed, check_answered}
@@ -45,7 +45,7 @@ filling_matches p s d a x e =
     let (lo, up) = right_loads p s d a x e in
     let g : good_entry n w ≡ true =
     ap (λ m. good_entry m w) o ∙ ap (λ v. good_entry (3 - h) v) q ∙ good_entry_lem s h (words p k) hi y.good y.rights in
-    rw (match_test (slot_for d a w n) d a refl (range_level n lo up), eq-eqb _ _ refl, g)
+    rw (match_test (slot_for d a w n) d a, eq-eqb d d refl, range_level n lo up, eq-eqb (a / block_bytes n * block_bytes n) (a / block_bytes n * block_bytes n) refl, g)
 
 first_set : (l : List Slot) (i d a : ℕ) (s : Slot) → i < length l → matches s d a ≡ true → (t : Slot)
     × (first_match (set l i s) d a ≡ At t)

@@ -18,8 +18,7 @@ use Rattle.table.specs.Access.{load, store, fetch}
 use Rattle.lookaside.specs.declared.Buffer.{Buffer}
 use Rattle.lookaside.specs.declared.Checked.{Checked}
 use Rattle.lookaside.specs.declared.Ruling.{Ruling}
-use Rattle.lookaside.specs.declared.Fill.TheVariants.{Keep, Put}
-use Rattle.lookaside.specs.declared.Slot.{Slot}
+use Rattle.std.specs.Prelude.{None, IsSome}
 use Rattle.lookaside.specs.declared.Verdict.TheVariants.{Refused}
 use Rattle.lookaside.specs.declared.Hit.{Hit}
 use Rattle.lookaside.specs.declared.Hit.TheVariants.{At, Miss}
@@ -28,23 +27,6 @@ use Rattle.lookaside.specs.Check.{is_access, demand, refusal_of, refusing, walke
 use Rattle.lookaside.specs.Check.{walk_decided, hit_decided, decide_of, filled_by}
 
 -- Accesses.
-
-pub access_fetch : (kind size : ℕ) → kind ≡ 2 → is_access kind size ≡ eqb size 4
-access_fetch kind size e = rw e
-
-pub access_other : (kind size : ℕ) → 2 < kind → is_access kind size ≡ false
-access_other kind size h = simp (
-  ne_eqb kind 0 (λ e. omega arith),
-  ne_eqb kind 1 (λ e. omega arith),
-  ne_eqb kind 2
-      (λ e. omega arith),
-)
-
-pub access_data : (kind size : ℕ) → kind < 2 → is_access kind size ≡ (eqb size 1 || eqb size 2 || eqb size 4)
-access_data kind size h = elim (ℕ_discrete kind 0) [
-  | yes e ↦ rw e
-  | no n ↦ let e : kind ≡ 1 = omega arith in rw e
-]
 
 pub access_some : (kind size : ℕ) → is_access kind size ≡ true → 0 < size
 access_some kind size e = elim (ℕ_discrete size 0) [
@@ -150,7 +132,7 @@ module _ (p : List ℕ) (s : Shape) (b : Buffer) (d kind size a : ℕ) where
 
 module _ (p : List ℕ) (s : Shape) (next : ℕ) (h : Hit) (d kind size a : ℕ) where
   pub decide_refused : (n : ℕ) → refusal_of s (length p) next d kind size a ≡ n → n ≢ 0
-      → decide_of p s next h d kind size a ≡ record { verdict = Refused n; fill = Keep }
+      → decide_of p s next h d kind size a ≡ record { verdict = Refused n; fill = None }
   unfolding decide_of
   decide_refused n e z = rw (e, ne_eqb n 0 z)
 
@@ -160,11 +142,10 @@ module _ (p : List ℕ) (s : Shape) (next : ℕ) (h : Hit) (d kind size a : ℕ)
   decide_answered e = rw e
 
   -- Only where the pointer is a slot's is a slot put there.
-  pub decide_put : (t : Slot) → (decide_of p s next h d kind size a).fill ≡ Put t → next < 64
-  decide_put t e = elim (ℕ_discrete (refusal_of s (length p) next d kind size a) 0) [
+  pub decide_put : IsSome (decide_of p s next h d kind size a).fill → next < 64
+  decide_put e = elim (ℕ_discrete (refusal_of s (length p) next d kind size a) 0) [
     | yes z ↦ (allowed s (length p) next d kind size a z).pointer
-    | no z ↦ absurd (let y = ap (λ x. x.fill) (sym (decide_refused _ refl z)) ∙ e in let w : ◌≡◌ {A = ℕ} 0 1 = cc in
-        omega arith)
+    | no z ↦ absurd (false≢true (rw (decide_refused _ refl z) at e))
   ]
 
 -- A check is what it decides, done to its buffer.

@@ -6,7 +6,7 @@ use mathlib.Core.Bool.{true, false}
 use mathlib.Core.List.{List, [], ◌∷◌, ◌++◌, map}
 use native.Mathlib.Numerals.{add-one}
 use native.Mathlib.Omega.{arith}
-use lib.ListN.{length, get_or, take, drop, set, replicate, length-set, length-append, length-map, drop_of_length-le}
+use lib.ListN.{length, get_or, take, drop, set, replicate, length-set, length-map, drop_of_length-le}
 use lib.Seq.{sets, set-get_or, drop-cons, get_or_at, get_or-append_seam, get_or-append-add}
 use Rattle.rows.specs.Rows.{words_of}
 use Rattle.rows.proofs.Layouts.{Layout}
@@ -103,13 +103,6 @@ fill_words ws s h l =
 -- The words of a buffer whose first `i` slots are flushed.
 abbrev pub flushed_to : Flushing → ℕ → List Slot → ℕ → List ℕ
 flushed_to f i l n = buffer_words (record { slots = map_to (flushed_slot f) i l; next = n })
-
-pub flushed_long : (f : Flushing) (i : ℕ) (l : List Slot) (n : ℕ) → length l ≡ 64 → length (flushed_to f i l n) ≡ 257
-flushed_long f i l n h =
-    let x = map_to (flushed_slot f) i l in
-    let k = length_map_to (flushed_slot f) i l in
-    let m = length_words slot_layout x in
-    length-append (words_of slot_words x) (n ∷ []) ∙ omega arith
 
 -- One turn of the flush: a slot that is emptied, and one that stays.
 module _ (f : Flushing) (l : List Slot) (n i : ℕ) (h : i < length l) (ws : List ℕ) (e : ws ≡ flushed_to f i l n) where

@@ -10,11 +10,11 @@ use Rattle.words.specs.declared.Rounded.{Rounded}
 use Rattle.words.specs.declared.Rounded.TheVariants.{Covers, Refused as NoRegion}
 use Rattle.words.specs.Region.{region_of}
 use Rattle.table.specs.declared.Shape.{Shape}
+use Rattle.lookaside.specs.declared.Slot.{Slot}
 use Rattle.lookaside.specs.declared.Buffer.{Buffer}
 use Rattle.lookaside.specs.declared.Flushed.{Flushed}
 use Rattle.lookaside.specs.declared.Flushing.{Flushing}
-use Rattle.lookaside.specs.declared.Fill.{Fill}
-use Rattle.lookaside.specs.declared.Fill.TheVariants.{Keep, Put}
+use Rattle.std.specs.Prelude.{Option, Some, None}
 use Rattle.lookaside.specs.Slots.{first_match}
 use Rattle.lookaside.specs.Check.{check_of, filled_by, decide_of}
 use Rattle.lookaside.specs.Flushes.{flushed_slot, flushed_buffer, done, refused, pointed, flushed_rounded}
@@ -24,9 +24,9 @@ use Rattle.lookaside.proofs.CheckLaws.{check_decided}
 use Rattle.lookaside.proofs.LayoutLaws.{slots_said, buffer_again}
 
 -- A check keeps the number of slots.
-after_slots : (b : Buffer) (x : Fill) → length (filled_by b x).slots ≡ length b.slots
-after_slots b Keep = refl
-after_slots b (Put s) = length-set b.slots b.next s
+after_slots : (b : Buffer) (x : Option Slot) → length (filled_by b x).slots ≡ length b.slots
+after_slots b None = refl
+after_slots b (Some s) = length-set b.slots b.next s
 
 pub check_says : (p : List ℕ) (s : Shape) (ws : List ℕ) (d kind size a : ℕ)
     → let b = (check_of p s (buffer_of ws) d kind size a).buffer in buffer_of (buffer_words b) ≡ b

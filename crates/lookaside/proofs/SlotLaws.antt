@@ -1,9 +1,9 @@
 -- Laws of slots: what a match says, as facts and as the program tests it. Assumes nothing.
 use Prim.Native.Nat.{ℕ, zero, suc, ◌+◌, ◌*◌, ◌/◌, ◌%◌, ◌≤◌, ◌<◌}
-use mathlib.Core.Path.{◌≡◌, refl, sym, ap, ◌∙◌}
+use mathlib.Core.Path.{◌≡◌, refl, sym, ◌∙◌}
 use mathlib.Core.Bool.{Bool, true, false, ◌&&◌, ◌||◌, false≢true}
 use native.Mathlib.Omega.{arith}
-use lib.Dec.{eqb}
+use lib.Dec.{eqb, leb, ltb}
 use borrow.Author.Tests.{eqb-true, leb-true, ltb-true, eq-eqb, le-leb}
 use Rattle.table.specs.Map.{block}
 use Rattle.lookaside.specs.declared.Slot.{Slot}
@@ -23,22 +23,26 @@ level_range n e =
 pub range_level : (n : ℕ) → 1 ≤ n → n ≤ 3 → is_level n ≡ true
 range_level n lo hi = rw (le-leb 1 n lo, le-leb n 3 hi)
 
--- A match as the program tests it, once domain and level are right.
+-- A slot that holds something for a domain, and a match, as the program tests them.
 
-pub holds_test : (s : Slot) (d : ℕ) → s.domain ≡ d → is_level s.level ≡ true
-    → holds_for s d ≡ eqb (s.block.0 / block_bytes s.level * block_bytes s.level) s.block.0
+pub holds_test : (s : Slot) (d : ℕ) → holds_for s d
+    ≡ (eqb s.domain d && (is_level s.level && eqb (s.block.0 / block_bytes s.level * block_bytes s.level) s.block.0))
 unfolding holds_for holds
-holds_test s d e l = rw (eq-eqb s.domain d e, l)
-    (sym (round_self (block_bytes s.level) (block_some (height_of s.level)) s.block.0))
+holds_test s d = rw (round_self (block_bytes s.level) (block_some (height_of s.level)) s.block.0)
 
-pub match_test : (s : Slot) (d a : ℕ) → s.domain ≡ d → is_level s.level ≡ true
-    → matches s d a ≡ (eqb (a / block_bytes s.level * block_bytes s.level) s.block.0 && good_entry s.level
-    s.entry)
+pub match_test : (s : Slot) (d a : ℕ) → matches s d a
+    ≡ (eqb s.domain d && (is_level s.level && (eqb (a / block_bytes s.level * block_bytes s.level) s.block.0
+    && good_entry s.level s.entry)))
 unfolding matches holds_for holds in_block
-match_test s d a e l =
-    rw (eq-eqb s.domain d e, l)
-    (ap (λ t. t && good_entry s.level s.entry)
-    (round_block (block_bytes s.level) (block_some (height_of s.level)) s.block.0 a))
+match_test s d a =
+    rw (← round_block (block_bytes s.level) (block_some (height_of s.level)) s.block.0 a)
+    (regroup (eqb s.domain d) (is_level s.level) (eqb (s.block.0 % block_bytes s.level) 0)
+    (leb s.block.0 a && ltb a (s.block.0 + block_bytes s.level)) (good_entry s.level s.entry))
+  where
+    regroup : (x y z u v : Bool) → ((x && (y && z)) && u && v) ≡ (x && (y && ((z && u) && v)))
+    regroup true true z u v = refl
+    regroup true false z u v = refl
+    regroup false y z u v = refl
 
 -- What a match says.
 pub record Match (s : Slot) (d a : ℕ) : Type 0 where
@@ -107,5 +111,5 @@ far_slot s d a e = go (matches s d a) refl
     go true m =
         let g = match_is s d a m in
         let (lo, hi) = level_range s.level g.level in
-        sym m ∙ match_test s d a g.domain g.level ∙ rw (far_level a s.block.0 e s.level lo hi)
+        sym m ∙ match_test s d a ∙ rw (eq-eqb s.domain d g.domain, g.level, far_level a s.block.0 e s.level lo hi)
     go false m = refl

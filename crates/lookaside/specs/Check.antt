@@ -1,15 +1,14 @@
 -- Checks: which accesses there are, what is refused and in which order, and what a check answers.
-use Rattle.std.specs.Prelude.{ℕ, ◌%◌, Bool, cond, ◌&&◌, ◌||◌, List, length, eqb, ltb}
+use Rattle.std.specs.Prelude.{ℕ, ◌%◌, Bool, cond, ◌&&◌, ◌||◌, List, length, eqb, ltb, Option, Some, None}
 use Rattle.table.specs.declared.Shape.{Shape}
 use Rattle.table.specs.declared.Found.{Found}
 use Rattle.table.specs.declared.Found.TheVariants.{By, Refused as NotFound}
 use Rattle.table.specs.Shape.{fits_of}
 use Rattle.table.specs.Lookup.{lookup_of}
 use Rattle.table.specs.Access.{load, store, fetch, passes_of}
+use Rattle.lookaside.specs.declared.Slot.{Slot}
 use Rattle.lookaside.specs.declared.Buffer.{Buffer}
 use Rattle.lookaside.specs.declared.Ruling.{Ruling}
-use Rattle.lookaside.specs.declared.Fill.{Fill}
-use Rattle.lookaside.specs.declared.Fill.TheVariants.{Keep, Put}
 use Rattle.lookaside.specs.declared.Hit.{Hit}
 use Rattle.lookaside.specs.declared.Hit.TheVariants.{At, Miss}
 use Rattle.lookaside.specs.declared.Verdict.{Verdict}
@@ -83,21 +82,21 @@ check_of p s b d kind size a =
 -- A miss, by what the lookup found.
 abbrev pub walk_decided : Found → ℕ → ℕ → ℕ → Ruling
 walk_decided (By x) d kind a =
-    record { verdict = verdict_of kind x.right x.loads; fill = Put (slot_for d a x.entry x.loads) }
-walk_decided (NotFound n) d kind a = record { verdict = Refused n; fill = Keep }
+    record { verdict = verdict_of kind x.right x.loads; fill = Some (slot_for d a x.entry x.loads) }
+walk_decided (NotFound n) d kind a = record { verdict = Refused n; fill = None }
 
 -- A check that is not refused, by the slot that answers.
 abbrev pub hit_decided : Hit → List ℕ → Shape → ℕ → ℕ → ℕ → Ruling
-hit_decided (At t) p s d kind a = record { verdict = verdict_of kind (slot_right t a) 0; fill = Keep }
+hit_decided (At t) p s d kind a = record { verdict = verdict_of kind (slot_right t a) 0; fill = None }
 hit_decided Miss p s d kind a = walk_decided (lookup_of p s d a) d kind a
 
 -- What a check decides, by the pointer and the lowest slot that matches.
 unfoldable pub decide_of : List ℕ → Shape → ℕ → Hit → ℕ → ℕ → ℕ → ℕ → Ruling
 decide_of p s next h d kind size a =
     let n = refusal_of s (length p) next d kind size a in
-    cond (eqb n 0) (hit_decided h p s d kind a) (record { verdict = Refused n; fill = Keep })
+    cond (eqb n 0) (hit_decided h p s d kind a) (record { verdict = Refused n; fill = None })
 
--- What is done to a buffer.
-abbrev pub filled_by : Buffer → Fill → Buffer
-filled_by b Keep = b
-filled_by b (Put t) = filled b t
+-- What is done to a buffer: nothing, or a slot put at its pointer, which moves on.
+abbrev pub filled_by : Buffer → Option Slot → Buffer
+filled_by b None = b
+filled_by b (Some t) = filled b t

@@ -1,5 +1,5 @@
 -- Flushes: which slots they empty, and what they answer.
-use Rattle.std.specs.Prelude.{ℕ, ◌+◌, ◌*◌, Bool, true, cond, ◌&&◌, map, ltb}
+use Rattle.std.specs.Prelude.{ℕ, ◌+◌, ◌*◌, Bool, true, cond, ◌&&◌, map, ltb, ◌≡◌}
 use Rattle.words.specs.declared.Region.{Region}
 use Rattle.words.specs.declared.Rounded.{Rounded}
 use Rattle.words.specs.declared.Rounded.TheVariants.{Covers, Refused}
@@ -20,6 +20,10 @@ unfoldable pub flushes : Flushing → Slot → Bool
 flushes Whole s = true
 flushes (OfDomain d) s = holds_for s d
 flushes (OfRegion d r) s = holds_for s d && meets s r
+
+-- A test of slots says of each whether the flush empties it.
+abbrev pub Tells : (Slot → Bool → Type 0) → Flushing → Type 0
+Tells says f = (s : Slot) (b : Bool) → says s b → b ≡ flushes f s
 
 -- What the flush leaves of a slot.
 unfoldable pub flushed_slot : Flushing → Slot → Slot

@@ -7,8 +7,8 @@ ghost use Rattle.table.specs.Lookup.{lookup_of};
 ghost use Rattle.lookaside.specs.declared.Slot.{Slot};
 ghost use Rattle.lookaside.specs.declared.Hit.TheVariants.{At};
 ghost use Rattle.lookaside.specs.Slots.{matches, empty_buffer};
-ghost use Rattle.lookaside.specs.Flushes.{flushes, flushed_buffer, flushed_whole, flushed_domain};
-ghost use Rattle.lookaside.specs.Flushes.{flushed_region};
+ghost use Rattle.lookaside.specs.declared.Flushing.{Flushing};
+ghost use Rattle.lookaside.specs.Flushes.{Tells, flushed_buffer, flushed_whole, flushed_domain, flushed_region};
 ghost use Rattle.lookaside.specs.Check.{is_access, refusal_of, verdict_of, check_of, walk_decided, decide_of};
 ghost use Rattle.lookaside.specs.Layout.{IsBuffer, buffer_of, buffer_words, CheckedAs, FlushedAs};
 
@@ -72,22 +72,15 @@ pub enum Hit {
     Miss,
 }
 
-// What is to be done to the buffer: nothing, or a slot put at its pointer, which moves on.
-#[derive(Clone, Copy)]
-pub enum Fill {
-    Keep,
-    Put(Slot),
-}
-
-// What a check decides: its verdict, and what is to be done to the buffer.
+// What a check decides: its verdict, and the slot that is to be put at the buffer's pointer, which moves on, if one is.
 #[derive(Clone, Copy)]
 pub struct Ruling {
     pub verdict: Verdict,
-    pub fill: Fill,
+    pub fill: Option<Slot>,
 }
 
-// What a flush empties: every slot, those of a domain, or those of a domain whose block meets a region.
-#[derive(Clone, Copy)]
+// What a flush empties, as contracts tell it: every slot, those of a domain, or those of a domain whose block meets a
+// region.
 pub enum Flushing {
     Whole,
     OfDomain(u32),
@@ -98,19 +91,11 @@ pub enum Flushing {
 fn is_access(kind: u32, size: u32) -> bool
     ensures { result ≡ is_access kind size }
 {
-    if kind == table::FETCH {
-        return size == 4;
+    match kind {
+        table::LOAD | table::STORE => matches!(size, 1 | 2 | 4),
+        table::FETCH => size == 4,
+        _ => false,
     }
-    if kind > table::FETCH {
-        return false;
-    }
-    if size == 1 {
-        return true;
-    }
-    if size == 2 {
-        return true;
-    }
-    size == 4
 }
 
 // How far an address lies past a multiple of a size. Nothing is divided for a size that there are accesses of.
@@ -118,16 +103,12 @@ fn past_size(a: u32, size: u32) -> u32
     requires { 0 < size }
     ensures { result ≡ a % size }
 {
-    if size == 4 {
-        return a % 4;
+    match size {
+        4 => a % 4,
+        2 => a % 2,
+        1 => 0,
+        _ => a % size,
     }
-    if size == 2 {
-        return a % 2;
-    }
-    if size == 1 {
-        return 0;
-    }
-    a % size
 }
 
 // The refusal of a check before it asks the buffer, 0 for none. The size is a divisor only once it is known to be a
@@ -143,22 +124,19 @@ fn refusal(
 ) -> u32
     ensures { result ≡ refusal_of shape long next domain kind size address.0 }
 {
-    let domains = shape.domains;
     if !table::shape_fits(shape, long) {
         return 1;
     }
     if next >= SLOTS {
         return 18;
     }
-    if domain >= domains {
+    if domain >= shape.domains {
         return 2;
     }
     if !is_access(kind, size) {
         return 9;
     }
-    let a = words::addr_number(address);
-    let past = past_size(a, size);
-    if past != 0 {
+    if past_size(words::addr_number(address), size) != 0 {
         return 10;
     }
     0
@@ -169,9 +147,10 @@ fn judge(kind: u32, right: u32, loads: u32) -> Verdict
     ensures { result ≡ verdict_of kind right loads }
 {
     if table::passes(kind, right) {
-        return Verdict::Pass(loads);
+        Verdict::Pass(loads)
+    } else {
+        Verdict::Deny(loads)
     }
-    Verdict::Deny(loads)
 }
 
 // What a check that no slot answers decides: it asks the pool as a lookup does, and keeps the deciding entry, whether
@@ -184,25 +163,17 @@ fn decide_by_walk(pool: &[u32], shape: Shape, domain: u32, kind: u32, address: B
     match walked {
         Walked::Refused(n) => Ruling {
             verdict: Verdict::Refused(n),
-            fill: Fill::Keep,
+            fill: None,
         },
-        Walked::By(by) => {
-            let right = by.right;
-            let entry = by.entry;
-            let loads = by.loads;
-            let block = slots::block_of(loads, address);
-            let slot = Slot {
+        Walked::By(by) => Ruling {
+            verdict: judge(kind, by.right, by.loads),
+            fill: Some(Slot {
                 domain,
-                level: loads,
-                block,
-                entry,
-            };
-            let verdict = judge(kind, right, loads);
-            Ruling {
-                verdict,
-                fill: Fill::Put(slot),
-            }
-        }
+                level: by.loads,
+                block: slots::block_of(by.loads, address),
+                entry: by.entry,
+            }),
+        },
     }
 }
 
@@ -220,23 +191,18 @@ fn decide(
     requires { (t : Slot) → hit ≡ At t → matches t domain address.0 ≡ true }
     ensures { result ≡ decide_of pool.now shape next hit domain kind size address.0 }
 {
-    let long = pool.len();
-    let refused = refusal(shape, long, next, domain, kind, size, address);
+    let refused = refusal(shape, pool.len(), next, domain, kind, size, address);
     if refused != 0 {
         return Ruling {
             verdict: Verdict::Refused(refused),
-            fill: Fill::Keep,
+            fill: None,
         };
     }
     match hit {
-        Hit::At(s) => {
-            let right = slots::slot_right(s, address);
-            let verdict = judge(kind, right, 0);
-            Ruling {
-                verdict,
-                fill: Fill::Keep,
-            }
-        }
+        Hit::At(s) => Ruling {
+            verdict: judge(kind, slots::slot_right(s, address), 0),
+            fill: None,
+        },
         Hit::Miss => decide_by_walk(pool, shape, domain, kind, address),
     }
 }
@@ -259,40 +225,23 @@ pub fn check(
     let next = buffer[NEXT];
     let hit = layout::find(buffer, domain, address);
     let decided = decide(pool, shape, next, hit, domain, kind, size, address);
-    let todo = decided.fill;
-    layout::fill_next(buffer, todo);
+    layout::fill_next(buffer, decided.fill);
     decided.verdict
 }
 
-// Whether a flush empties a slot.
-fn is_flushed(f: Flushing, s: Slot) -> bool
-    ensures { result ≡ flushes f s }
-{
-    match f {
-        Flushing::Whole => true,
-        Flushing::OfDomain(d) => slots::slot_of(s, d),
-        Flushing::OfRegion(d, region) => {
-            if !slots::slot_of(s, d) {
-                return false;
-            }
-            slots::block_meets(s, region)
-        }
-    }
-}
-
 // The one loop of all flushes: it stores into the slots that it empties; the pointer stays.
-fn flush(ws: &mut [u32], f: Flushing)
-    requires { IsBuffer ws.old }
-    ensures { ws.new ≡ buffer_words (flushed_buffer f (buffer_of ws.old)) }
+fn flush<F>(ws: &mut [u32], empties: F)
+where
+    F: Fn(Slot) -> bool,
+    requires long { IsBuffer ws.old }
+    requires callable { F.IsAlwaysCallable empties }
+    ensures { (f : Flushing) → Tells (F.post empties) f → ws.new ≡ buffer_words (flushed_buffer f (buffer_of ws.old)) }
 {
-    let none = slots::empty_slot();
-    let mut i: usize = 0;
-    while i < 64 {
+    for i in 0..64 {
         let s = layout::slot_at(ws, 4 * i);
-        if is_flushed(f, s) {
-            layout::put_slot(ws, 4 * i, none);
+        if empties(s) {
+            layout::put_slot(ws, 4 * i, slots::empty_slot());
         }
-        i += 1;
     }
 }
 
@@ -301,8 +250,7 @@ pub fn emptied(buffer: &mut [u32])
     requires { IsBuffer buffer.old }
     ensures { buffer.new ≡ buffer_words empty_buffer }
 {
-    let all = Flushing::Whole;
-    flush(buffer, all);
+    flush(buffer, |_| true);
     buffer[NEXT] = 0;
 }
 
@@ -315,7 +263,7 @@ pub fn flush_all(buffer: &mut [u32]) -> u32
     if next >= SLOTS {
         return 18;
     }
-    flush(buffer, Flushing::Whole);
+    flush(buffer, |_| true);
     0
 }
 
@@ -328,7 +276,7 @@ pub fn flush_domain(buffer: &mut [u32], domain: u32) -> u32
     if next >= SLOTS {
         return 18;
     }
-    flush(buffer, Flushing::OfDomain(domain));
+    flush(buffer, |s| slots::slot_of(s, domain));
     0
 }
 
@@ -346,7 +294,9 @@ pub fn flush_region(buffer: &mut [u32], domain: u32, start: ByteAddr, length: u3
     match asked {
         Rounded::Refused(n) => n,
         Rounded::Covers(region) => {
-            flush(buffer, Flushing::OfRegion(domain, region));
+            flush(buffer, |s| {
+                slots::slot_of(s, domain) && slots::block_meets(s, region)
+            });
             0
         }
     }

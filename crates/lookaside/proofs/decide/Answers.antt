@@ -9,8 +9,8 @@ returns-then-refused-ne0 c = let a = c.args in sym
     (decide_refused a.pool.now a.shape a.next a.hit a.domain a.kind a.size a.address.0
     c.refusal-refused.result (sym c.refusal-refused.ensures) c.if-refused-ne0.true)
 
-pub slot_right-right-requires : goal.slot_right-right-requires
-slot_right-right-requires c = (match_is _ c.args.domain
+pub slot_right-requires : goal.slot_right-requires
+slot_right-requires c = (match_is _ c.args.domain
     c.args.address.0 (c.requires _ c.in-At.is)).level
 
 pub returns-in-At : goal.returns-in-At
@@ -20,8 +20,8 @@ returns-in-At c = let a = c.args in
           (sym c.refusal-refused.ensures
           ∙ c.if-refused-ne0.false),
       c.in-At.is,
-      c.judge-verdict.ensures,
-      c.slot_right-right.ensures,
+      c.judge.ensures,
+      c.slot_right.ensures,
     )
 
 pub returns-in-Miss : goal.returns-in-Miss

@@ -13,4 +13,4 @@ pub returns-in-By : goal.returns-in-By
 returns-in-By c = let a = c.args in
     let (x, f, r, w, l) = walks_by (lookup_of a.pool.now a.shape a.domain a.address.0)
     c.in-By.by (sym c.in-By.is ∙ c.decide-walked.ensures) in
-    rw (f, r, w, l, c.judge-verdict.ensures, c.block_of-block.ensures)
+    rw (f, r, w, l, c.judge.ensures, c.block_of.ensures)

@@ -1,5 +1,7 @@
 -- `lookaside::flush_region` meets its contract. Assumes nothing.
+use Rattle.std.proofs.Common.{rules}
 use mathlib.Core.Path.{sym, ◌∙◌}
+use Rattle.lookaside.specs.Flushes.{flushes}
 use Rattle.lookaside.specs.Layout.{buffer_of}
 use Rattle.lookaside.proofs.FlushLaws.{pointed_refused, region_refused, region_done}
 use Rattle.lookaside.proofs.LayoutLaws.{flush_refused_as, flush_done_as}
@@ -15,7 +17,8 @@ returns-in-Refused c = let a = c.args in
     a.length c.if-next-ge-SLOTS.false _ (sym c.round_region-asked.ensures ∙ c.in-Refused.is))
 
 pub returns-in-Covers : goal.returns-in-Covers
+unfolding flushes
 returns-in-Covers c = let a = c.args in
     flush_done_as _ _ _ _ (region_done (buffer_of a.buffer.now) a.domain a.start.0 a.length
     c.if-next-ge-SLOTS.false _ (sym c.round_region-asked.ensures ∙ c.in-Covers.is))
-    c.flush.ensures
+    (c.flush.ensures _ (λ s b p. search rules))

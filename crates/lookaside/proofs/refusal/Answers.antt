@@ -23,23 +23,23 @@ returns-then-not-shape_fits c = sym (refused_shape _ _ _ _ _ _ _ (sym c.shape_fi
 pub returns-then-next-ge-SLOTS : goal.returns-then-next-ge-SLOTS
 returns-then-next-ge-SLOTS c = sym (refused_pointer _ _ _ _ _ _ _ (fits (goal.at.returns-then-next-ge-SLOTS c).Else-not-shape_fits) c.if-next-ge-SLOTS.true)
 
-pub returns-then-domain-domains : goal.returns-then-domain-domains
-returns-then-domain-domains c = sym (refused_domain _ _ _ _ _ _ _ (fits (goal.at.returns-then-domain-domains c).Else-not-shape_fits) c.if-next-ge-SLOTS.false c.if-domain-domains.true)
+pub returns-then-domain-shape : goal.returns-then-domain-shape
+returns-then-domain-shape c = sym (refused_domain _ _ _ _ _ _ _ (fits (goal.at.returns-then-domain-shape c).Else-not-shape_fits) c.if-next-ge-SLOTS.false c.if-domain-shape.true)
 
 pub returns-then-not-is_access : goal.returns-then-not-is_access
 returns-then-not-is_access c = let k = sym c.is_access.ensures ∙ c.if-not-is_access.true in
-    sym (refused_access _ _ _ _ _ _ _ (fits (goal.at.returns-then-not-is_access c).Else-not-shape_fits) c.if-next-ge-SLOTS.false c.if-domain-domains.false k)
+    sym (refused_access _ _ _ _ _ _ _ (fits (goal.at.returns-then-not-is_access c).Else-not-shape_fits) c.if-next-ge-SLOTS.false c.if-domain-shape.false k)
 
-pub past_size-past-requires : goal.past_size-past-requires
-past_size-past-requires c = let a = c.args in
-    access_some a.kind a.size (access (goal.at.past_size-past-requires c).Else-not-is_access)
+pub past_size-requires : goal.past_size-requires
+past_size-requires c = let a = c.args in
+    access_some a.kind a.size (access (goal.at.past_size-requires c).Else-not-is_access)
 
-pub returns-then-past-ne0 : goal.returns-then-past-ne0
-returns-then-past-ne0 c = let n = c.addr_number-a.ensures in
-    sym (refused_address _ _ _ _ _ _ _ (fits (goal.at.returns-then-past-ne0 c).Else-not-shape_fits) c.if-next-ge-SLOTS.false c.if-domain-domains.false (access (goal.at.returns-then-past-ne0 c).Else-not-is_access)
-    (rw (c.past_size-past.ensures, n) at c.if-past-ne0.true))
+pub returns-then-past_size-ne0 : goal.returns-then-past_size-ne0
+returns-then-past_size-ne0 c = let n = c.addr_number.ensures in
+    sym (refused_address _ _ _ _ _ _ _ (fits (goal.at.returns-then-past_size-ne0 c).Else-not-shape_fits) c.if-next-ge-SLOTS.false c.if-domain-shape.false (access (goal.at.returns-then-past_size-ne0 c).Else-not-is_access)
+    (rw (c.past_size.ensures, n) at c.if-past_size-ne0.true))
 
 pub returns : goal.returns
-returns c = let n = c.addr_number-a.ensures in
-    sym (not_refused _ _ _ _ _ _ _ (fits (goal.at.returns c).Else-not-shape_fits) c.if-next-ge-SLOTS.false c.if-domain-domains.false (access (goal.at.returns c).Else-not-is_access)
-    (rw (c.past_size-past.ensures, n) at c.if-past-ne0.false))
+returns c = let n = c.addr_number.ensures in
+    sym (not_refused _ _ _ _ _ _ _ (fits (goal.at.returns c).Else-not-shape_fits) c.if-next-ge-SLOTS.false c.if-domain-shape.false (access (goal.at.returns c).Else-not-is_access)
+    (rw (c.past_size.ensures, n) at c.if-past_size-ne0.false))

@@ -23,7 +23,7 @@ pub returns-then-slot_matches : goal.returns-then-slot_matches
 returns-then-slot_matches c = let a = c.args in
     let e = is_slot a.ws.now c.loop-i.i c.loop-i-test.true ∙ sym c.slot_at-s.ensures in
     let n = slots_said a.ws.now in
-    sym (c.loop-i.invariant.1 ∙ first_here (buffer_of a.ws.now).slots a.domain a.address.0 c.loop-i.i
+    sym (c.loop-i.invariant ∙ first_here (buffer_of a.ws.now).slots a.domain a.address.0 c.loop-i.i
     (omega arith)
     (ap (λ x. matches x a.domain a.address.0) e ∙ sym c.slot_matches.ensures ∙ c.if-slot_matches.true)
     ∙ ap At e)
@@ -32,7 +32,7 @@ pub loop-i-preserved : goal.loop-i-preserved
 loop-i-preserved c = let a = c.args in
     let here = slot_at a.ws.now (4 * c.loop-i.i) in
     let n = slots_said a.ws.now in
-    let x = ap (λ v. v.0) c.byte_addr-block.ensures in
+    let x = ap (λ v. v.0) c.byte_addr.ensures in
     let one = ap (λ v. v.0) c.block_of-root.ensures in
     let two = ap (λ v. v.0) c.block_of-middle.ensures in
     let three = ap (λ v. v.0) c.block_of-leaf.ensures in
@@ -43,15 +43,12 @@ loop-i-preserved c = let a = c.args in
       | then-one_of+else-slot_matches w ↦ ap (λ x. matches x a.domain a.address.0) (sym w.slot_at-s.ensures)
           ∙ sym w.slot_matches.ensures ∙ w.if-slot_matches.false
       | else-one_of w ↦ far_slot here a.domain a.address.0 (asked ∙ w.if-one_of.false)
-    ] in (
-      omega arith,
-      c.loop-i.invariant.1 ∙ first_later (buffer_of a.ws.now).slots a.domain a.address.0 c.loop-i.i
-          (omega arith)
-          (ap (λ x. matches x a.domain a.address.0) (is_slot a.ws.now c.loop-i.i c.loop-i-test.true) ∙ skip),
-    )
+    ] in
+    c.loop-i.invariant ∙ first_later (buffer_of a.ws.now).slots a.domain a.address.0 c.loop-i.i (omega arith)
+    (ap (λ x. matches x a.domain a.address.0) (is_slot a.ws.now c.loop-i.i c.loop-i-test.true) ∙ skip)
 
 pub returns : goal.returns
 returns c = let a = c.args in
     let n = slots_said a.ws.now in
-    sym (c.loop-i.invariant.1 ∙ first_none (buffer_of a.ws.now).slots a.domain a.address.0 c.loop-i.i
+    sym (c.loop-i.invariant ∙ first_none (buffer_of a.ws.now).slots a.domain a.address.0 c.loop-i.i
     (omega arith))

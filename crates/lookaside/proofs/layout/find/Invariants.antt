@@ -1,6 +1,5 @@
 -- `lookaside::layout::find` meets its contract. The invariant: the answer is that of the search in the slots that are
 -- left. Assumes nothing.
-use Prim.Native.Nat.{◌-◌, ◌≤◌}
 use mathlib.Core.Path.{◌≡◌}
 use lib.ListN.{drop}
 use Rattle.lookaside.specs.Slots.{first_match}
@@ -8,8 +7,5 @@ use Rattle.lookaside.specs.Layout.{buffer_of}
 use Rattle.lookaside.proofs.layout.find.Given as goal
 
 abbrev pub invariant-loop-i : goal.invariant-loop-i
-invariant-loop-i l = (l.i ≤ 64) × (first_match (buffer_of l.ws).slots l.domain l.address.0 ≡ first_match (drop l.i (buffer_of l.ws).slots) l.domain
-    l.address.0)
-
-abbrev pub decreases-loop-i : goal.decreases-loop-i
-decreases-loop-i l = 64 - l.i
+invariant-loop-i l = first_match (buffer_of l.ws).slots l.domain l.address.0
+    ≡ first_match (drop l.i (buffer_of l.ws).slots) l.domain l.address.0

@@ -15,4 +15,4 @@ pub bounds-ws-at-4 : goal.bounds-ws-at-4
 bounds-ws-at-4 c = simp length-set (omega arith)
 
 pub returns : goal.returns
-returns c = rw (add-one, add_two, add_three, c.addr_number-first.ensures)
+returns c = rw (add-one, add_two, add_three, c.addr_number.ensures)
