@@ -1,13 +1,15 @@
 -- Laws of slots: what a match says, as facts and as the program tests it. Assumes nothing.
 use Prim.Native.Nat.{ℕ, zero, suc, ◌+◌, ◌*◌, ◌/◌, ◌%◌, ◌≤◌, ◌<◌}
-use mathlib.Core.Path.{◌≡◌, refl, sym, ◌∙◌}
+use mathlib.Core.Path.{◌≡◌, refl, sym, ap, ◌∙◌}
 use mathlib.Core.Bool.{Bool, true, false, ◌&&◌, ◌||◌, false≢true}
+use mathlib.Core.List.{List}
 use native.Mathlib.Omega.{arith}
+use Rattle.std.specs.List.{find}
 use lib.Dec.{eqb, leb, ltb}
 use borrow.Author.Tests.{eqb-true, leb-true, ltb-true, eq-eqb, le-leb}
 use Rattle.table.specs.Map.{block}
 use Rattle.lookaside.specs.declared.Slot.{Slot}
-use Rattle.lookaside.specs.Slots.{is_level, height_of, block_bytes, holds, holds_for, in_block, good_entry, matches}
+use Rattle.lookaside.specs.Slots.{is_level, height_of, block_bytes, holds, holds_for, in_block, good_entry, matches, first_match}
 use Rattle.lookaside.proofs.TestLaws.{both_true, round_self, round_block}
 
 pub block_some : (h : ℕ) → 0 < block h
@@ -82,11 +84,6 @@ abbrev pub near : ℕ → ℕ → Bool
 near a x = eqb (a / block_bytes 1 * block_bytes 1) x || eqb (a / block_bytes 2 * block_bytes 2) x
     || eqb (a / block_bytes 3 * block_bytes 3) x
 
-pub near_by : (a x root middle leaf y : ℕ) → root ≡ a / block_bytes 1 * block_bytes 1
-    → middle ≡ a / block_bytes 2 * block_bytes 2
-    → leaf ≡ a / block_bytes 3 * block_bytes 3 → y ≡ x → (eqb root y || eqb middle y || eqb leaf y) ≡ near a x
-near_by a x root middle leaf y one two three e = rw (one, two, three, e)
-
 none_of_three : (x y z : Bool) → (x || y || z) ≡ false → (x ≡ false) × (y ≡ false) × (z ≡ false)
 none_of_three true y z e = absurd (false≢true (sym e))
 none_of_three false true z e = absurd (false≢true (sym e))
@@ -104,7 +101,7 @@ module _ (a x : ℕ) (e : near a x ≡ false) where
   far_level (suc (suc (suc (suc n)))) lo hi = absurd (omega arith)
 
 -- A slot whose block is none of the three does not match.
-pub far_slot : (s : Slot) (d a : ℕ) → near a s.block.0 ≡ false → matches s d a ≡ false
+far_slot : (s : Slot) (d a : ℕ) → near a s.block.0 ≡ false → matches s d a ≡ false
 far_slot s d a e = go (matches s d a) refl
   where
     go : (t : Bool) → matches s d a ≡ t → t ≡ false
@@ -113,3 +110,20 @@ far_slot s d a e = go (matches s d a) refl
         let (lo, hi) = level_range s.level g.level in
         sym m ∙ match_test s d a ∙ rw (eq-eqb s.domain d g.domain, g.level, far_level a s.block.0 e s.level lo hi)
     go false m = refl
+
+-- So a slot matches where its block is one of the three and it matches.
+near_match : (s : Slot) (d a : ℕ) → (near a s.block.0 && matches s d a) ≡ matches s d a
+near_match s d a = go (near a s.block.0) refl
+  where
+    go : (t : Bool) → near a s.block.0 ≡ t → (t && matches s d a) ≡ matches s d a
+    go true e = refl
+    go false e = sym (far_slot s d a e)
+
+-- The search may ask first whether the block is one of the three.
+pub near_first : (l : List Slot) (d a root middle leaf : ℕ) → root ≡ a / block_bytes 1 * block_bytes 1
+    → middle ≡ a / block_bytes 2 * block_bytes 2
+    → leaf ≡ a / block_bytes 3 * block_bytes 3
+    → find (λ s. (eqb root s.block.0 || eqb middle s.block.0 || eqb leaf s.block.0) && matches s d a) l ≡ first_match l d a
+unfolding first_match
+near_first l d a root middle leaf one two three =
+    rw (one, two, three) (ap (λ (p : Slot → Bool). find p l) (λ i s. near_match s d a i))

@@ -2,15 +2,12 @@
 // the words that are lent for it.
 #![tactic(auto)]
 
-ghost use Rattle.std.specs.Prelude.{◌≡◌, ◌<◌, ◌%◌, true};
-ghost use Rattle.table.specs.Lookup.{lookup_of};
-ghost use Rattle.lookaside.specs.declared.Slot.{Slot};
-ghost use Rattle.lookaside.specs.declared.Hit.TheVariants.{At};
-ghost use Rattle.lookaside.specs.Slots.{matches, empty_buffer};
-ghost use Rattle.lookaside.specs.declared.Flushing.{Flushing};
-ghost use Rattle.lookaside.specs.Flushes.{Tells, flushed_buffer, flushed_whole, flushed_domain, flushed_region};
-ghost use Rattle.lookaside.specs.Check.{is_access, refusal_of, verdict_of, check_of, walk_decided, decide_of};
-ghost use Rattle.lookaside.specs.Layout.{IsBuffer, buffer_of, buffer_words, CheckedAs, FlushedAs};
+ghost use Rattle.std.specs.Prelude.{◌≡◌, ◌<◌, ◌%◌, ltb};
+ghost use Rattle.lookaside.specs.Slots.{empty_buffer};
+ghost use Rattle.lookaside.specs.Flushes.{Flushing, Tells, flushed_buffer, flushed_whole, flushed_domain};
+ghost use Rattle.lookaside.specs.Flushes.{flushed_region};
+ghost use Rattle.lookaside.specs.Check.{is_access, demand, refusal_of, verdict_of, check_of};
+ghost use Rattle.lookaside.specs.Layout.{buffer_of, buffer_words, CheckedAs, FlushedAs};
 
 use table::{Shape, Walked};
 use words::{ByteAddr, Region, Rounded};
@@ -36,55 +33,11 @@ pub struct Slot {
     pub entry: u32,
 }
 
-// What the words of a buffer say: the slots, and the one that the next fill takes.
-#[derive(Drop)]
-pub struct Buffer {
-    pub slots: [Slot; 64],
-    pub next: u32,
-}
-
-// What a check says: it passes or is denied, after as many loads; or it is refused, with its number.
+// What a check that is not refused says: it passes or is denied, after as many loads.
 #[derive(Clone, Copy)]
 pub enum Verdict {
     Pass(u32),
     Deny(u32),
-    Refused(u32),
-}
-
-// A check as contracts tell it: what it says, and the buffer that its words then say.
-#[derive(Drop)]
-pub struct Checked {
-    pub verdict: Verdict,
-    pub buffer: Buffer,
-}
-
-// A flush as contracts tell it: its refusal, 0 for none, and the buffer that its words then say.
-#[derive(Drop)]
-pub struct Flushed {
-    pub refusal: u32,
-    pub buffer: Buffer,
-}
-
-// The slot that answers, if one does.
-#[derive(Clone, Copy)]
-pub enum Hit {
-    At(Slot),
-    Miss,
-}
-
-// What a check decides: its verdict, and the slot that is to be put at the buffer's pointer, which moves on, if one is.
-#[derive(Clone, Copy)]
-pub struct Ruling {
-    pub verdict: Verdict,
-    pub fill: Option<Slot>,
-}
-
-// What a flush empties, as contracts tell it: every slot, those of a domain, or those of a domain whose block meets a
-// region.
-pub enum Flushing {
-    Whole,
-    OfDomain(u32),
-    OfRegion(u32, Region),
 }
 
 // Whether there are accesses of this kind and size.
@@ -111,8 +64,18 @@ fn past_size(a: u32, size: u32) -> u32
     }
 }
 
-// The refusal of a check before it asks the buffer, 0 for none. The size is a divisor only once it is known to be a
-// size.
+// Whether the pointer is a slot's.
+fn pointed(next: u32) -> Result<(), u32>
+    ensures { result ≡ demand (ltb next 64) 18 (Ok tt) }
+{
+    if next >= SLOTS {
+        return Err(18);
+    }
+    Ok(())
+}
+
+// The refusal of a check before it asks the buffer. The size is a divisor only once it is known to be a size.
+#[tactic(auto, using(crate::proofs::CheckLaws::access_some), unfolding(crate::specs::Check::refusal_of))]
 fn refusal(
     shape: Shape,
     long: usize,
@@ -121,25 +84,23 @@ fn refusal(
     kind: u32,
     size: u32,
     address: ByteAddr,
-) -> u32
+) -> Result<(), u32>
     ensures { result ≡ refusal_of shape long next domain kind size address.0 }
 {
     if !table::shape_fits(shape, long) {
-        return 1;
+        return Err(1);
     }
-    if next >= SLOTS {
-        return 18;
-    }
+    pointed(next)?;
     if domain >= shape.domains {
-        return 2;
+        return Err(2);
     }
     if !is_access(kind, size) {
-        return 9;
+        return Err(9);
     }
     if past_size(words::addr_number(address), size) != 0 {
-        return 10;
+        return Err(10);
     }
-    0
+    Ok(())
 }
 
 // What an access makes of a right.
@@ -153,88 +114,48 @@ fn judge(kind: u32, right: u32, loads: u32) -> Verdict
     }
 }
 
-// What a check that no slot answers decides: it asks the pool as a lookup does, and keeps the deciding entry, whether
-// it passes or not.
-fn decide_by_walk(pool: &[u32], shape: Shape, domain: u32, kind: u32, address: ByteAddr) -> Ruling
-    ensures { result ≡ walk_decided (lookup_of pool.now shape domain address.0) domain kind
-        address.0 }
-{
-    let walked = table::decide(pool, shape, domain, address);
-    match walked {
-        Walked::Refused(n) => Ruling {
-            verdict: Verdict::Refused(n),
-            fill: None,
-        },
-        Walked::By(by) => Ruling {
-            verdict: judge(kind, by.right, by.loads),
-            fill: Some(Slot {
-                domain,
-                level: by.loads,
-                block: slots::block_of(by.loads, address),
-                entry: by.entry,
-            }),
-        },
-    }
-}
-
-// What a check decides, by the lowest slot that matches and the pointer.
-fn decide(
-    pool: &[u32],
-    shape: Shape,
-    next: u32,
-    hit: Hit,
-    domain: u32,
-    kind: u32,
-    size: u32,
-    address: ByteAddr,
-) -> Ruling
-    requires { (t : Slot) → hit ≡ At t → matches t domain address.0 ≡ true }
-    ensures { result ≡ decide_of pool.now shape next hit domain kind size address.0 }
-{
-    let refused = refusal(shape, pool.len(), next, domain, kind, size, address);
-    if refused != 0 {
-        return Ruling {
-            verdict: Verdict::Refused(refused),
-            fill: None,
-        };
-    }
-    match hit {
-        Hit::At(s) => Ruling {
-            verdict: judge(kind, slots::slot_right(s, address), 0),
-            fill: None,
-        },
-        Hit::Miss => decide_by_walk(pool, shape, domain, kind, address),
-    }
-}
-
 // The check of an access of a domain: answered by the buffer with no load, or by the pool. A hit stores nothing in the
-// buffer's words, and a miss one slot and the pointer.
+// buffer's words. A miss asks the pool as a lookup does, and keeps the deciding entry, whether it passes or not: it
+// stores one slot and the pointer.
+#[tactic(auto, using(crate::proofs::LayoutLaws::buffer_words_lem), unfolding(crate::specs::Check::check_of))]
 pub fn check(
     pool: &[u32],
     shape: Shape,
-    buffer: &mut [u32],
+    buffer: &mut [u32; BUFFER_WORDS],
     domain: u32,
     kind: u32,
     size: u32,
     address: ByteAddr,
-) -> Verdict
-    requires { IsBuffer buffer.old }
+) -> Result<Verdict, u32>
     ensures { CheckedAs (check_of pool.now shape (buffer_of buffer.old) domain kind size
         address.0) result buffer.new }
 {
     let next = buffer[NEXT];
-    let hit = layout::find(buffer, domain, address);
-    let decided = decide(pool, shape, next, hit, domain, kind, size, address);
-    layout::fill_next(buffer, decided.fill);
-    decided.verdict
+    refusal(shape, pool.len(), next, domain, kind, size, address)?;
+    if let Some(slot) = layout::find(buffer, domain, address) {
+        return Ok(judge(kind, slots::slot_right(slot, address), 0));
+    }
+    let walked = table::decide(pool, shape, domain, address);
+    match walked {
+        Walked::Refused(n) => Err(n),
+        Walked::By(by) => {
+            let slot = Slot {
+                domain,
+                level: by.loads,
+                block: slots::block_of(by.loads, address),
+                entry: by.entry,
+            };
+            layout::fill_next(buffer, slot);
+            Ok(judge(kind, by.right, by.loads))
+        }
+    }
 }
 
 // The one loop of all flushes: it stores into the slots that it empties; the pointer stays.
-fn flush<F>(ws: &mut [u32], empties: F)
+fn flush<F>(ws: &mut [u32; BUFFER_WORDS], empties: F)
 where
     F: Fn(Slot) -> bool,
-    requires long { IsBuffer ws.old }
-    requires callable { F.IsAlwaysCallable empties }
+    requires { F.IsAlwaysCallable empties }
     ensures { (f : Flushing) → Tells (F.post empties) f → ws.new ≡ buffer_words (flushed_buffer f (buffer_of ws.old)) }
 {
     for i in 0..64 {
@@ -246,58 +167,52 @@ where
 }
 
 // The buffer after a reset, whatever its words were.
-pub fn emptied(buffer: &mut [u32])
-    requires { IsBuffer buffer.old }
+pub fn emptied(buffer: &mut [u32; BUFFER_WORDS])
     ensures { buffer.new ≡ buffer_words empty_buffer }
 {
-    flush(buffer, |_| true);
-    buffer[NEXT] = 0;
+    buffer.fill(0);
 }
 
 // Empties every slot.
-pub fn flush_all(buffer: &mut [u32]) -> u32
-    requires { IsBuffer buffer.old }
+#[tactic(auto, using(crate::proofs::LayoutLaws::buffer_words_lem), unfolding(crate::specs::Flushes::pointed))]
+pub fn flush_all(buffer: &mut [u32; BUFFER_WORDS]) -> Result<(), u32>
     ensures { FlushedAs (flushed_whole (buffer_of buffer.old)) result buffer.new }
 {
-    let next = buffer[NEXT];
-    if next >= SLOTS {
-        return 18;
-    }
+    pointed(buffer[NEXT])?;
     flush(buffer, |_| true);
-    0
+    Ok(())
 }
 
 // Empties the slots of a domain, which may be any number.
-pub fn flush_domain(buffer: &mut [u32], domain: u32) -> u32
-    requires { IsBuffer buffer.old }
+#[tactic(auto, using(crate::proofs::LayoutLaws::buffer_words_lem), unfolding(crate::specs::Flushes::pointed))]
+pub fn flush_domain(buffer: &mut [u32; BUFFER_WORDS], domain: u32) -> Result<(), u32>
     ensures { FlushedAs (flushed_domain (buffer_of buffer.old) domain) result buffer.new }
 {
-    let next = buffer[NEXT];
-    if next >= SLOTS {
-        return 18;
-    }
+    pointed(buffer[NEXT])?;
     flush(buffer, |s| slots::slot_of(s, domain));
-    0
+    Ok(())
 }
 
 // Empties the slots of a domain whose block meets a region, which is rounded and refused as a change's.
-pub fn flush_region(buffer: &mut [u32], domain: u32, start: ByteAddr, length: u32) -> u32
-    requires { IsBuffer buffer.old }
+#[tactic(auto, using(crate::proofs::LayoutLaws::buffer_words_lem), unfolding(crate::specs::Flushes::pointed))]
+pub fn flush_region(
+    buffer: &mut [u32; BUFFER_WORDS],
+    domain: u32,
+    start: ByteAddr,
+    length: u32,
+) -> Result<(), u32>
     ensures { FlushedAs (flushed_region (buffer_of buffer.old) domain start.0 length) result
         buffer.new }
 {
-    let next = buffer[NEXT];
-    if next >= SLOTS {
-        return 18;
-    }
+    pointed(buffer[NEXT])?;
     let asked = words::round_region(start, length);
     match asked {
-        Rounded::Refused(n) => n,
+        Rounded::Refused(n) => Err(n),
         Rounded::Covers(region) => {
             flush(buffer, |s| {
                 slots::slot_of(s, domain) && slots::block_meets(s, region)
             });
-            0
+            Ok(())
         }
     }
 }

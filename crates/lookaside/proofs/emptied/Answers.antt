@@ -1,10 +1,10 @@
 -- `lookaside::emptied` meets its contract. Assumes nothing.
+use Prim.Native.Nat.{ℕ}
+use mathlib.Core.Path.{ap, ◌∙◌}
+use lib.ListN.{replicate}
 use Rattle.std.proofs.Common.{rules}
-use Rattle.lookaside.specs.declared.Flushing.TheVariants.{Whole}
-use Rattle.lookaside.specs.Flushes.{flushes}
 use Rattle.lookaside.proofs.LayoutLaws.{emptied_words}
 use Rattle.lookaside.proofs.emptied.Goals as goal
 
 pub returns : goal.returns
-unfolding flushes
-returns c = let e = c.flush.ensures Whole (λ s b p. search rules) in rw e (emptied_words c.args.buffer.now)
+returns c = c.fill.ensures.after (λ y h. search rules) ∙ ap (λ (n : ℕ). replicate n 0) c.told-buffer ∙ emptied_words

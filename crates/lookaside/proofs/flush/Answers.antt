@@ -16,7 +16,7 @@ use Rattle.lookaside.proofs.flush.Goals.{then-empties, else-empties}
 pub loop-i-init : goal.loop-i-init
 loop-i-init g c = λ f _. let ws = c.args.ws.now in
     sym (ap (λ (l : List Slot). buffer_words (record { slots = l; next = get_or ws 256 0 }))
-    (map_to_none (flushed_slot f) (buffer_of ws).slots) ∙ buffer_words_lem ws c.requires.long)
+    (map_to_none (flushed_slot f) (buffer_of ws).slots) ∙ buffer_words_lem ws c.told-ws)
 
 pub loop-i-preserved : goal.loop-i-preserved
 loop-i-preserved g c = λ f tells.

@@ -2,8 +2,7 @@
 -- flushed. Assumes nothing.
 use mathlib.Core.Path.{◌≡◌}
 use lib.ListN.{get_or}
-use Rattle.lookaside.specs.declared.Flushing.{Flushing}
-use Rattle.lookaside.specs.Flushes.{Tells}
+use Rattle.lookaside.specs.Flushes.{Flushing, Tells}
 use Rattle.lookaside.specs.Layout.{buffer_of}
 use Rattle.lookaside.proofs.LayoutLaws.{flushed_to}
 use Rattle.lookaside.proofs.flush.Given as goal
