@@ -12,6 +12,7 @@ use lib.ListN.{length, get_or, take, drop, set, replicate, length-set, drop_of_l
 use lib.Seq.{sets, set-get_or, drop-cons, get_or_at, get_or-append_seam, get_or-append-add}
 use Rattle.std.specs.List.{range_with_len}
 use Rattle.std.proofs.lemmas.List.FromFn.{map-range_with_len_more}
+use Rattle.refusals.specs.declared.Refusal.TheVariants.{BadState}
 use Rattle.rows.specs.Rows.{rows_of, words_of}
 use Rattle.rows.proofs.Layouts.{Layout}
 use Rattle.rows.proofs.RowLaws.{add_two, add_three, length_said, length_words, row_again, words_set, words_set_after}
@@ -150,11 +151,11 @@ unfolding empty_buffer words_of
 emptied_words = refl
 
 -- What a flush that is done leaves in the words.
-pub flush_done_as : (b : Buffer) (ws : List ℕ) (f : Flushing) → demand (ltb b.next 64) 18 (Ok tt) ≡ Ok tt
+pub flush_done_as : (b : Buffer) (ws : List ℕ) (f : Flushing) → demand (ltb b.next 64) BadState (Ok tt) ≡ Ok tt
     → ws ≡ buffer_words (flushed_buffer f b) → FlushedAs (pointed b (done f b)) (Ok tt) ws
 unfolding pointed
 flush_done_as b ws f e q = go (ltb b.next 64) e
   where
-    go : (t : Bool) → demand t 18 (Ok tt) ≡ Ok tt → FlushedAs (cond t (done f b) (refused 18 b)) (Ok tt) ws
+    go : (t : Bool) → demand t BadState (Ok tt) ≡ Ok tt → FlushedAs (cond t (done f b) (refused BadState b)) (Ok tt) ws
     go true e = (refl, q)
     go false e = cc

@@ -14,7 +14,7 @@ pub fn slot_at(ws: &[u32; BUFFER_WORDS], at: usize) -> Slot
     Slot {
         domain: ws[at],
         level: ws[at + 1],
-        block: words::byte_addr(ws[at + 2]),
+        block: ByteAddr::from(ws[at + 2]),
         entry: ws[at + 3],
     }
 }
@@ -25,7 +25,7 @@ pub fn put_slot(ws: &mut [u32; BUFFER_WORDS], at: usize, s: Slot)
 {
     ws[at] = s.domain;
     ws[at + 1] = s.level;
-    ws[at + 2] = words::addr_number(s.block);
+    ws[at + 2] = u32::from(s.block);
     ws[at + 3] = s.entry;
 }
 
@@ -33,10 +33,7 @@ pub fn put_slot(ws: &mut [u32; BUFFER_WORDS], at: usize, s: Slot)
 fn one_of(block: ByteAddr, root: ByteAddr, middle: ByteAddr, leaf: ByteAddr) -> bool
     ensures { result ≡ (eqb root.0 block.0 || eqb middle.0 block.0 || eqb leaf.0 block.0) }
 {
-    let b = words::addr_number(block);
-    words::addr_number(root) == b
-        || words::addr_number(middle) == b
-        || words::addr_number(leaf) == b
+    root == block || middle == block || leaf == block
 }
 
 // The lowest slot that matches. Most slots are passed over by one word: a slot that matches has the block of its level
