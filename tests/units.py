@@ -180,7 +180,7 @@ WRONG = [
     ("lookaside/slots", "words::byte_addr(a - a % block_bytes(level))", "ByteAddr(a - a % block_bytes(level))", "made by hand"),
     ("gates/steps", "let back = words::addr_number(b);", "let back = b.0;", "taken apart"),
     ("listing", "let k = words::pool_index(entry);", "let k = entry.0;", "taken apart"),
-    ("table", "let i = words::pool_index(at);", "let i = before as usize;", "load: pool[i]"),
+    ("table", "let word = pool[at.index()];", "let word = pool[before as usize];", "load: pool[before as usize]"),
     ("table", "pool[..roots].fill(words::BIT_31);", "pool[..n].fill(words::BIT_31);", "fresh: pool[..n]"),
     ("plan", "return pool[k];", "return pool[root as usize];", "old_entry: pool[root as usize]"),
     ("census", "            let w = pool[k];", "            let w = pool[k + 1];", "table_check: pool[k + 1]"),
