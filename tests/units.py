@@ -177,7 +177,7 @@ def sources():
 # One wrong line in a copy of the real text: file, what stands there, what is put there, how the refusal begins.
 WRONG = [
     ("census", "let word = words::word_after(base, i as usize);", "let word = PoolWord(i as usize);", "made by hand"),
-    ("lookaside/slots", "words::byte_addr(a - a % block_bytes(level))", "ByteAddr(a - a % block_bytes(level))", "made by hand"),
+    ("lookaside/slots", "ByteAddr::from(a - a % block_bytes(level))", "ByteAddr(a - a % block_bytes(level))", "made by hand"),
     ("gates/steps", "let back = words::addr_number(b);", "let back = b.0;", "taken apart"),
     ("listing", "let k = words::pool_index(entry);", "let k = entry.0;", "taken apart"),
     ("table", "let word = pool[at.index()];", "let word = pool[before as usize];", "load: pool[before as usize]"),

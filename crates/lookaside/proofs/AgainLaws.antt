@@ -10,7 +10,6 @@ use lib.ListN.{length, set}
 use borrow.Author.Tests.{eq-eqb}
 use Rattle.theory.specs.Pool.{words, entry}
 use Rattle.theory.proofs.WalkLaws.{decides_low, decides_says}
-use Rattle.refusals.specs.declared.Refusal.{Refusal}
 use Rattle.refusals.specs.declared.Refusal.TheVariants.{NotSound}
 use Rattle.table.specs.declared.Shape.{Shape}
 use Rattle.table.specs.declared.Deciding.{Deciding}
@@ -18,7 +17,7 @@ use Rattle.table.specs.Map.{form_of}
 use Rattle.table.specs.Lookup.{lookup_of}
 use Rattle.table.proofs.LookupLaws.{right_found, right_loads}
 use Rattle.lookaside.specs.declared.Slot.{Slot}
-use Rattle.std.specs.Prelude.{Option, Some, None, Result, Ok, Err}
+use Rattle.std.specs.Prelude.{Option, Some, None, Ok, Err}
 use Rattle.lookaside.specs.Slots.{Buffer, block_bytes, good_entry, matches, first_match, slot_for}
 use Rattle.lookaside.specs.Check.{refusal_of, walked, answered, check_of}
 use Rattle.lookaside.proofs.SlotLaws.{range_level, match_test}

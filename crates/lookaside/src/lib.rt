@@ -67,7 +67,7 @@ fn past_size(a: u32, size: u32) -> u32
 
 // Whether the pointer is a slot's.
 fn pointed(next: u32) -> Result<(), Refusal>
-    ensures { result ≡ demand (ltb next 64) BadState (Ok tt) }
+    ensures { result ≡ demand (ltb next 64) Refusal.BadState (Ok tt) }
 {
     if next >= SLOTS {
         return Err(Refusal::BadState);
@@ -131,15 +131,7 @@ pub fn check(
     ensures { CheckedAs (check_of pool.now shape (buffer_of buffer.old) domain kind size
         address.0) result buffer.new }
 {
-    refusal(
-        shape,
-        pool.len(),
-        buffer[NEXT],
-        domain,
-        kind,
-        size,
-        address,
-    )?;
+    refusal(shape, pool.len(), buffer[NEXT], domain, kind, size, address)?;
     if let Some(slot) = layout::find(buffer, domain, address) {
         return Ok(judge(kind, slots::slot_right(slot, address), 0));
     }

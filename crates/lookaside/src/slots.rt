@@ -38,9 +38,7 @@ pub fn is_level(level: u32) -> bool
 pub fn slot_of(s: Slot, domain: u32) -> bool
     ensures { result ≡ holds_for s domain }
 {
-    s.domain == domain
-        && is_level(s.level)
-        && block_of(s.level, s.block) == s.block
+    s.domain == domain && is_level(s.level) && block_of(s.level, s.block) == s.block
 }
 
 // Whether an entry is good rights for a level; in a leaf every value is.

@@ -5,8 +5,8 @@ use Rattle.lookaside.specs.Flushes.{flushes}
 use Rattle.lookaside.proofs.LayoutLaws.{flush_done_as}
 use Rattle.lookaside.proofs.flush_region.Goals as goal
 
-pub returns-in-Covers : goal.returns-in-Covers
+pub returns : goal.returns
 unfolding flushes
-returns-in-Covers c = let a = c.args in
-    rw (sym c.round_region-asked.ensures ∙ c.in-Covers.is)
+returns c =
+    rw (sym c.round_region.ensures ∙ c.in_ok-region.was)
     (flush_done_as _ _ _ (sym c.pointed.ensures ∙ c.in_ok-pointed.was) (c.flush.ensures _ (λ s b p. search rules)))
