@@ -1,5 +1,4 @@
 -- `listing::feed_right` meets its contract.
-use mathlib.Core.Path.{sym, ◌∙◌}
 use borrow.Author.Tests.{eq-eqb, ne_eqb}
 use Rattle.listing.specs.Sheets.{feed}
 use Rattle.listing.proofs.feed_right.Goals as goal

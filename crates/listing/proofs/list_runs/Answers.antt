@@ -1,5 +1,5 @@
 -- `listing::list_runs` meets its contract.
-use mathlib.Core.Path.{refl, sym, ◌∙◌}
+use mathlib.Core.Path.{sym, ◌∙◌}
 use mathlib.Core.Bool.{false≢true}
 use lib.ListN.{length}
 use Rattle.theory.specs.Pool.{words, SoundPool}
@@ -26,10 +26,7 @@ returns-then-not-shape_fits c = no_shape (λ f. false≢true (sym (c.if-not-shap
     ∙ fits_test _ _ f))
 
 pub census-requires : goal.census-requires
-census-requires c = record {
-  fits = fits (goal.at.census-requires c).Else-not-shape_fits;
-  owners_len = refl;
-}
+census-requires c = record { fits = fits (goal.at.census-requires c).Else-not-shape_fits }
 
 pub returns-then-not-census : goal.returns-then-not-census
 returns-then-not-census c = unsound (fits (goal.at.returns-then-not-census c).Else-not-shape_fits)
