@@ -181,7 +181,7 @@ WRONG = [
     ("gates/steps", "let back = words::addr_number(b);", "let back = b.0;", "taken apart"),
     ("listing", "let k = words::pool_index(entry);", "let k = entry.0;", "taken apart"),
     ("table", "let i = words::pool_index(at);", "let i = before as usize;", "load: pool[i]"),
-    ("table", "fill(&mut pool[..roots], words::BIT_31);", "fill(&mut pool[..n], words::BIT_31);", "fresh: pool[..n]"),
+    ("table", "pool[..roots].fill(words::BIT_31);", "pool[..n].fill(words::BIT_31);", "fresh: pool[..n]"),
     ("plan", "return pool[k];", "return pool[root as usize];", "old_entry: pool[root as usize]"),
     ("census", "            let w = pool[k];", "            let w = pool[k + 1];", "table_check: pool[k + 1]"),
     ("targets", "let w = pool[start + j as usize];", "let w = pool[number + j as usize];",

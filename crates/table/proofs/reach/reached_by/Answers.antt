@@ -16,16 +16,16 @@ found : (c : After-stretch_at-around)
     Longest (right_at c.args.w) 0 (parts h) (part_of h c.args.address.0) c.stretch_at-around.result.first
     c.stretch_at-around.result.last
 found c =
-    rw (c.addr_number-a.ensures, c.requires.0, c.requires.1) at c.stretch_at-around.ensures.1
+    rw (c.addr_number.ensures, c.requires.0, c.requires.1) at c.stretch_at-around.ensures.1
 
 -- The number of one of its parts in memory, in bytes.
 fits : (c : After-stretch_at-around) (i : ℕ) → i ≤ c.stretch_at-around.result.last
-    → let n = c.addr_number-a.result / c.args.step in
+    → let n = c.addr_number.result / c.args.step in
     let x = n - n % c.args.count + i in
     (x ≤ x * c.args.step) × (x * c.args.step + (c.args.step - 1) < addresses)
 fits c i b =
-    let fit : c.addr_number-a.result < addresses = c.addr_number-a.type_inv in
-    rw (c.requires.0, c.requires.1) (number_fits (3 - c.args.loads) c.addr_number-a.result i fit
+    let fit : c.addr_number.result < addresses = c.addr_number.type_inv in
+    rw (c.requires.0, c.requires.1) (number_fits (3 - c.args.loads) c.addr_number.result i fit
     (omega (arith, (found c).high_end)))
 
 pub nonzero_div-number : goal.nonzero_div-number
@@ -36,10 +36,10 @@ nonzero_rem-i c = rw c.requires.1 (some_bytes (3 - c.args.loads)).1
 
 pub stretch_at-around-requires : goal.stretch_at-around-requires
 stretch_at-around-requires c = let h = 3 - c.args.loads in
-    rw (c.requires.0, c.requires.1) (number_below h c.addr_number-a.result, few_parts h)
+    rw (c.requires.0, c.requires.1) (number_below h c.addr_number.result, few_parts h)
 
 pub overflow_sub-block : goal.overflow_sub-block
-overflow_sub-block c = rw (c.requires.0, c.requires.1) (part_first (3 - c.args.loads) c.addr_number-a.result 0).0
+overflow_sub-block c = rw (c.requires.0, c.requires.1) (part_first (3 - c.args.loads) c.addr_number.result 0).0
 
 pub overflow_add-block : goal.overflow_add-block
 overflow_add-block c = let x = found (goal.at.overflow_add-block c).After-stretch_at-around in
@@ -77,7 +77,7 @@ returns c = let h = 3 - c.args.loads in
       loads,
       c.byte_addr-first.ensures,
       c.byte_addr-last.ensures,
-      c.addr_number-a.ensures,
+      c.addr_number.ensures,
       c.requires.0,
       c.requires.1,
       first,
