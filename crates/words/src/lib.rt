@@ -2,10 +2,11 @@
 // rounded to memory words.
 #![tactic(auto)]
 
-ghost use Rattle.std.specs.Prelude.{◌≡◌, true, ◌+◌, ◌/◌, ◌<◌, ◌≤◌, length};
+ghost use Rattle.std.specs.Prelude.{◌≡◌, true, ◌+◌, ◌/◌, ◌<◌, ◌≤◌, length, ◌==◌, ◌&&◌, fold};
+ghost use Rattle.std.specs.List.{prefix_len};
 ghost use Rattle.words.specs.Rights.{right_at, eight_of, sixteen_of, good_rights};
 ghost use Rattle.words.specs.Region.{rounded_length, region_of};
-ghost use Rattle.words.specs.Passing.{Passed, SkipsRights, AllSame};
+ghost use Rattle.words.specs.Passing.{SkipsRights, AllSame};
 
 mod stretches; // stretches.rt: how far one right goes inside an entry
 
@@ -113,53 +114,38 @@ pub fn sixteen_of(right: u32) -> u32
 pub fn good_rights(w: u32) -> bool
     ensures { result ≡ good_rights w }
 {
-    if w < BIT_31 {
-        return false;
-    }
-    w < 0x8001_0000
+    BIT_31 <= w && w < 0x8001_0000
 }
 
-// 1 where the word is eight rights, else 0.
-fn one_if_rights(w: u32) -> usize
-    ensures { (result ≤ 1) × (result ≡ 1 → good_rights w ≡ true) }
+// Whether the words are all eight rights. Each is asked, with no way out at the first that is not: so the compiler
+// tests four at a time, where it knows how many there are.
+fn all_rights(words: &[u32]) -> bool
+    ensures { result ≡ fold (λ all w. all && good_rights w) true words.now }
 {
-    if good_rights(w) {
-        return 1;
-    }
-    0
+    words.iter().fold(true, |all, w| all & good_rights(*w))
 }
 
-// Whether the `count` words from `at` on are all eight rights. They are counted with no way out of the loop: so the
-// compiler tests four at a time, where `count` is a number that it knows.
-fn all_rights(pool: &[u32], at: PoolWord, count: usize) -> bool
-    requires { at.0 + count ≤ length pool.now }
-    ensures { result ≡ true → Passed pool.now at.0 (at.0 + count) }
+// Whether the words are all `value`, each asked as above.
+fn all_are(words: &[u32], value: u32) -> bool
+    ensures { result ≡ fold (λ all w. all && (w == value)) true words.now }
 {
-    let first = pool_index(at);
-    let mut n: usize = 0;
-    let mut i: usize = 0;
-    while i < count {
-        let w = pool[first + i];
-        n += one_if_rights(w);
-        i += 1;
-    }
-    n == count
+    words.iter().fold(true, |all, w| all & (*w == value))
 }
 
-// How many of the `count` words from `from` on are passed over `step` at a time, up to some that are not all eight
-// rights.
-fn pass_by(pool: &[u32], from: PoolWord, count: usize, step: usize) -> usize
-    requires { (from.0 + count ≤ length pool.now) × (0 < step) }
-    ensures { (result ≤ count) × Passed pool.now from.0 (from.0 + result) }
+// How many of the words stand before the first that is not eight rights.
+fn rights_ahead(words: &[u32]) -> usize
+    ensures { (result ≤ length words.now) × (result ≡ prefix_len good_rights words.now) }
 {
-    let first = pool_index(from);
-    let mut n: usize = 0;
-    while step <= count - n {
-        let at = first + n;
-        let all = all_rights(pool, PoolWord(at), step);
-        if !all {
-            break;
-        }
+    words.iter().take_while(|w| good_rights(**w)).count()
+}
+
+// How many of them are passed over `step` at a time, up to some that are not all eight rights.
+fn pass_by(words: &[u32], step: usize) -> usize
+    requires { 0 < step }
+    ensures { (result ≤ length words.now) × (result ≤ prefix_len good_rights words.now) }
+{
+    let mut n = 0;
+    while step <= words.len() - n && all_rights(&words[n..n + step]) {
         n += step;
     }
     n
@@ -172,47 +158,20 @@ pub fn skip_rights(pool: &[u32], from: PoolWord, count: usize) -> usize
     ensures { SkipsRights pool.now from.0 (from.0 + count) (from.0 + result) }
 {
     let first = pool_index(from);
-    let wide = pass_by(pool, from, count, 32);
-    let next = first + wide;
-    let rest = count - wide;
-    let near = pass_by(pool, PoolWord(next), rest, 4);
-    let mut n = wide + near;
-    while n < count {
-        let w = pool[first + n];
-        let good = good_rights(w);
-        if !good {
-            break;
-        }
-        n += 1;
-    }
-    n
+    let words = &pool[first..first + count];
+    let wide = pass_by(words, 32);
+    let near = wide + pass_by(&words[wide..], 4);
+    near + rights_ahead(&words[near..])
 }
 
-// 1 where the word is `value`, else 0.
-fn one_if_same(w: u32, value: u32) -> usize
-    ensures { (result ≤ 1) × (result ≡ 1 → w ≡ value) × (w ≡ value → result ≡ 1) }
-{
-    if w == value {
-        return 1;
-    }
-    0
-}
-
-// Whether the `count` words from `at` on all are `value`, counted as above.
+// Whether the `count` words from `at` on all are `value`.
 pub fn all_same(pool: &[u32], at: PoolWord, count: usize, value: u32) -> bool
     requires { at.0 + count ≤ length pool.now }
     ensures { (result ≡ true → AllSame pool.now at.0 count value)
         × (AllSame pool.now at.0 count value → result ≡ true) }
 {
     let first = pool_index(at);
-    let mut n: usize = 0;
-    let mut i: usize = 0;
-    while i < count {
-        let w = pool[first + i];
-        n += one_if_same(w, value);
-        i += 1;
-    }
-    n == count
+    all_are(&pool[first..first + count], value)
 }
 
 // How many words a length in bytes takes that begins `low` bytes into a word. What is left of whole words is rounded by
