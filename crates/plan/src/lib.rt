@@ -16,6 +16,7 @@ ghost use Rattle.plan.specs.Planning.{Regular};
 ghost use Rattle.plan.specs.Edges.{PlansChange, PlansEnds, edge_for, edge_at, entry_at, ReadableRoot, RootGives};
 ghost use Rattle.plan.specs.Edges.{kept_at, FreeIs, TakesPlace};
 
+use census::PLACES;
 use table::{Shape, TABLE_WORDS};
 use targets::{Paint, Target};
 
@@ -120,14 +121,13 @@ fn draft_edge(
 // The first place from `from` on, below `to`, where no kept table stands. Places that the change gives up count as free;
 // a place that a table of any domain keeps does not.
 fn next_free(
-    owners: &[u32],
+    owners: &[u32; PLACES],
     height: u32,
     domain: u32,
     plan: &[u32; PLAN_WORDS],
     from: u32,
     to: u32,
 ) -> Option<u32>
-    requires owners_len { length owners.now ≡ max_places }
     requires from_le_to { (from ≤ to) × (first_number height + to ≤ max_places) }
     ensures { FreeIs (kept_at owners.now height domain (ends_in plan.now height)) from to result }
 {
@@ -139,7 +139,7 @@ fn next_free(
 // A new table, of the edge whose words begin at `i`, takes the lowest place of its height, from `from` on, that no
 // kept table has. Answers from which place on the next is looked for, or None where no place is left.
 fn take_place(
-    owners: &[u32],
+    owners: &[u32; PLACES],
     shape: Shape,
     height: u32,
     domain: u32,
@@ -147,7 +147,6 @@ fn take_place(
     i: usize,
     from: u32,
 ) -> Option<u32>
-    requires owners_len { length owners.now ≡ max_places }
     requires in_range { InRange shape }
     requires from_bound { (from ≤ places shape height) × (i < 14) }
     ensures { TakesPlace (kept_at owners.now height domain (ends_in plan.old height)) from
@@ -171,7 +170,7 @@ fn take_place(
 fn plan_ends(
     pool: &[u32],
     shape: Shape,
-    owners: &[u32],
+    owners: &[u32; PLACES],
     height: u32,
     domain: u32,
     paint: Paint,
@@ -208,7 +207,7 @@ fn plan_ends(
 pub fn plan_change(
     pool: &[u32],
     shape: Shape,
-    owners: &[u32],
+    owners: &[u32; PLACES],
     domain: u32,
     paint: Paint,
     plan: &mut [u32; PLAN_WORDS],

@@ -136,7 +136,6 @@ take_place-requires-2 c =
     let y = follows c.args.height c.edge_index-f.ensures c.edge_index-l.ensures in
     let z = lies c.args.height c.edge_index-f.ensures c.edge_index-l.ensures in
     record {
-      owners_len = c.requires.owners.long;
       in_range = c.requires.fits.range;
       from_bound = (taken_low (omega arith) c.in-Some.ensures.taken, omega arith);
     }
