@@ -6,7 +6,7 @@ ghost use Rattle.words.specs.Stretches.{Longest};
 use super::right_at;
 
 // The right of the parts of an entry, from the first to the last.
-#[derive(Clone, Copy)]
+#[derive(Clone, Copy, PartialEq, Eq)]
 pub struct Stretch {
     pub right: u32,
     pub first: u32,

@@ -7,9 +7,9 @@ use Rattle.words.proofs.all_same.Goals as goal
 
 pub returns : goal.returns
 returns c = let a = c.args in
-    let first = c.pool_index-first.result in
+    let first = c.index-first.result in
     let z : first + a.count - first ≡ a.count = omega arith in
-    let e = rw (z, c.pool_index-first.ensures) at c.all_are.ensures in (
+    let e = rw (z, c.index-first.ensures) at c.all_are.ensures in (
       (λ t. same_part a.pool.now a.at.0 a.count a.value c.requires (sym e ∙ t)),
       λ s. e ∙ part_same a.pool.now a.at.0 a.count a.value c.requires s,
     )

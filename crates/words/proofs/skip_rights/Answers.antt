@@ -11,7 +11,7 @@ use Rattle.words.proofs.skip_rights.Goals as goal
 
 pub returns : goal.returns
 returns c = let a = c.args in
-    let first = c.pool_index-first.result in
+    let first = c.index-first.result in
     let wide = c.pass_by-wide.result in
     let words = take (first + a.count - first) (drop first a.pool.now) in
     let w : wide ≤ prefix_len good_rights words = c.pass_by-wide.ensures.1 in
@@ -23,4 +23,4 @@ returns c = let a = c.args in
     let t = prefix_split good_rights words (wide + c.pass_by.result) (omega arith) in
     let z : first + a.count - first ≡ a.count = omega arith in
     let r : wide + c.pass_by.result + c.rights_ahead.result ≡ prefix_len good_rights words = omega arith in
-    skips_rights a.pool.now a.from.0 a.count _ c.requires (rw (z, c.pool_index-first.ensures) at r)
+    skips_rights a.pool.now a.from.0 a.count _ c.requires (rw (z, c.index-first.ensures) at r)
