@@ -177,7 +177,7 @@ def sources():
 # One wrong line in a copy of the real text: file, what stands there, what is put there, how the refusal begins.
 WRONG = [
     ("census", "let word = words::word_after(base, i as usize);", "let word = PoolWord(i as usize);", "made by hand"),
-    ("lookaside/slots", "words::byte_addr(a - past)", "ByteAddr(a - past)", "made by hand"),
+    ("lookaside/slots", "words::byte_addr(a - a % block_bytes(level))", "ByteAddr(a - a % block_bytes(level))", "made by hand"),
     ("gates/steps", "let back = words::addr_number(b);", "let back = b.0;", "taken apart"),
     ("listing", "let k = words::pool_index(entry);", "let k = entry.0;", "taken apart"),
     ("table", "let i = words::pool_index(at);", "let i = before as usize;", "load: pool[i]"),
