@@ -4,14 +4,13 @@ use mathlib.Core.Path.{◌≡◌, refl, sym, ap, ◌∙◌}
 use mathlib.Core.Bool.{false}
 use mathlib.Core.List.{List}
 use native.Mathlib.Omega.{arith}
-use lib.ListN.{length}
-use borrow.Author.Tests.{lt-ltb, le-ltb}
+use borrow.Author.Tests.{le-ltb}
 use Rattle.words.specs.Rights.{right_at, pack}
 use Rattle.table.specs.Map.{block, parts, leads}
 use Rattle.table.specs.Wants.{words_in, above, said_of}
 use Rattle.targets.specs.declared.Paint.{Paint}
 use Rattle.targets.specs.declared.Cover.TheVariants.{Apart, Whole}
-use Rattle.targets.specs.declared.One.{One}
+use Rattle.std.proofs.Common.{Option}
 use Rattle.targets.specs.declared.Target.{Target}
 use Rattle.targets.specs.declared.Target.TheVariants.{Says}
 use Rattle.targets.specs.Targets.{painted, given, target_of, Gives, GivesLeaf, Readable}
@@ -36,12 +35,6 @@ leads_high (suc h) e l = le-ltb e 2147483648 l
 pub readable_good : (q : List ℕ) (h e : ℕ) → Readable q h e → GoodRights h e
 readable_good q zero e r = tt
 readable_good q (suc h) e r = r.rights
-
--- The table of a readable entry lies in the pool.
-pub readable_inside : (q : List ℕ) (h e : ℕ) → 0 < h → e < 2147483648 → Readable q h e → e < length q
-readable_inside q zero e l b r = absurd (omega arith)
-readable_inside q (suc zero) e l b r = omega (arith, r.table (lt-ltb e 2147483648 b))
-readable_inside q (suc (suc h)) e l b r = omega (arith, r.table (lt-ltb e 2147483648 b))
 
 -- An entry that is rights is its rights packed.
 entry_packed : (h e : ℕ) → e < 4294967296 → GoodRights h e → leads h e ≡ false → pack (above h) (parts h) (right_at e)
@@ -80,7 +73,7 @@ module _ (p : Paint) (P : ℕ → ℕ) (b e n i : ℕ) where
   rights_after = painted p (given P (suc b) e)
 
   -- A sub-block of an entry that is rights.
-  pub rights_found : (o long : ℕ) (r : One) → 2147483648 ≤ e → i < 8 → o ≡ right_at e i → long ≡ words_in (suc b)
+  pub rights_found : (o long : ℕ) (r : Option ℕ) → 2147483648 ≤ e → i < 8 → o ≡ right_at e i → long ≡ words_in (suc b)
       → (Plain (given P (suc b) e) ((8 * n + i) * long) long o → OneIs r rights_after ((8 * n + i) * long) long)
       → PartIs P p (suc b) e n i r
   rights_found o long r l bi says is f =

@@ -1,5 +1,5 @@
 -- The steps by which a target is found, Memory word `x` is the four bytes from `4 * x` on.
-use Rattle.std.specs.Prelude.{ℕ, zero, suc, ◌+◌, ◌*◌, ◌/◌, ◌≤◌, ◌<◌, ◌≡◌, Bool, true, false, ◌&&◌, cond, List, leb, ltb, get_or}
+use Rattle.std.specs.Prelude.{ℕ, zero, suc, ◌+◌, ◌*◌, ◌/◌, ◌≤◌, ◌<◌, ◌≡◌, Bool, true, false, ◌&&◌, cond, List, Option, Some, None, leb, ltb, get_or}
 use Rattle.theory.specs.Pool.{words}
 use Rattle.words.specs.Rights.{right_at, good_rights, sixteen_of}
 use Rattle.words.specs.Passing.{AllSame}
@@ -11,10 +11,6 @@ use Rattle.targets.specs.Targets.{painted, given, target_of, Gives}
 use Rattle.targets.specs.declared.Paint.{Paint}
 use Rattle.targets.specs.declared.Cover.{Cover}
 use Rattle.targets.specs.declared.Cover.TheVariants.{Apart, Partly, Whole}
-use Rattle.targets.specs.declared.One.{One}
-use Rattle.targets.specs.declared.One.TheVariants.{Right, Two}
-use Rattle.targets.specs.declared.Told.{Told}
-use Rattle.targets.specs.declared.Told.TheVariants.{Known, Unknown}
 use Rattle.targets.specs.declared.Target.{Target}
 use Rattle.targets.specs.declared.Target.TheVariants.{Says, Mixed}
 
@@ -52,12 +48,12 @@ abbrev pub Plain : (ℕ → ℕ) → ℕ → ℕ → ℕ → Type 0
 Plain R s n u = (j : ℕ) → j < n → R (4 * (s + j)) ≡ u
 
 -- They have one right, or no one right.
-abbrev pub OneIs : One → (ℕ → ℕ) → ℕ → ℕ → Type 0
-OneIs (Right u) R s n = Plain R s n u
-OneIs Two R s n = (u : ℕ) → Plain R s n u → ⊥
+abbrev pub OneIs : Option ℕ → (ℕ → ℕ) → ℕ → ℕ → Type 0
+OneIs (Some u) R s n = Plain R s n u
+OneIs None R s n = (u : ℕ) → Plain R s n u → ⊥
 
 -- Of the block of height `h` numbered `n`, which has the entry `e` in the pool `P`: sub-block `i` once painted.
-abbrev pub PartIs : (ℕ → ℕ) → Paint → ℕ → ℕ → ℕ → ℕ → One → Type 0
+abbrev pub PartIs : (ℕ → ℕ) → Paint → ℕ → ℕ → ℕ → ℕ → Option ℕ → Type 0
 PartIs P p h e n i o = OneIs o (painted p (given P h e)) (n * (block h / 4) + words_in h * i) (words_in h)
 
 -- That block has the right `u` on all its words once painted ..
@@ -78,9 +74,9 @@ abbrev pub SaysIs : Paint → ℕ → ℕ → ℕ → ℕ → Type 0
 SaysIs p h e n w = (P R : ℕ → ℕ) → Gives P h e n R → target_of (painted p R) h (n * block h) ≡ Says w
 
 -- .. which is known, or needs a search, and so is no leaf entry.
-abbrev pub ToldIs : Told → Paint → ℕ → ℕ → ℕ → Type 0
-ToldIs (Known w) p h e n = SaysIs p h e n w
-ToldIs Unknown p h e n = 0 < h
+abbrev pub ToldIs : Option ℕ → Paint → ℕ → ℕ → ℕ → Type 0
+ToldIs (Some w) p h e n = SaysIs p h e n w
+ToldIs None p h e n = 0 < h
 
 -- The eight entries of a leaf from pool word `k` on say the first right of the first of them, sixteen times each.
 abbrev pub EvenEntries : List ℕ → ℕ → Type 0

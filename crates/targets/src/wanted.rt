@@ -44,18 +44,10 @@ fn has_leaf(owners: &[u32], n: usize, block: u32) -> bool
     requires { length owners.now ≡ max_places }
     ensures { result ≡ true → LeafIn owners.now n block }
 {
-    if n >= table::FIRST_LEAF {
-        return false;
-    }
-    let mut m: usize = table::FIRST_LEAF;
-    while m < census::PLACES {
-        let page = owners[m];
-        if page / table::TABLE_WORDS == block {
-            return true;
-        }
-        m += 1;
-    }
-    false
+    n < table::FIRST_LEAF
+        && owners[table::FIRST_LEAF..]
+            .iter()
+            .any(|page| page / table::TABLE_WORDS == block)
 }
 
 // Whether a sound pool is settled: every table in it, by the owners of its places, is wanted. (In a sound pool a
@@ -68,18 +60,10 @@ pub fn settled(pool: &[u32], shape: Shape, owners: &[u32]) -> bool
     requires owners { Owners pool.now shape owners.now }
     ensures { Decides result (Settled (form_of shape) (words pool.now)) }
 {
-    let mut n: usize = census::PLACES;
-    while 0 < n {
-        n -= 1;
+    for n in (0..census::PLACES).rev() {
         let owner = owners[n];
-        if owner != NONE {
-            let leaf = has_leaf(owners, n, owner);
-            if !leaf {
-                let wanted = table_wanted(pool, shape, n, owner);
-                if !wanted {
-                    return false;
-                }
-            }
+        if owner != NONE && !has_leaf(owners, n, owner) && !table_wanted(pool, shape, n, owner) {
+            return false;
         }
     }
     true
