@@ -137,8 +137,8 @@ pub fn first_place(shape: Shape, height: u32) -> PoolWord
     ensures { result ≡ record { 0 = first_place shape height } }
 {
     match height {
-        0 => words::pool_word(TABLE_WORDS * (shape.domains + shape.middles)),
-        _ => words::pool_word(TABLE_WORDS * shape.domains),
+        0 => PoolWord::from(TABLE_WORDS * (shape.domains + shape.middles)),
+        _ => PoolWord::from(TABLE_WORDS * shape.domains),
     }
 }
 
@@ -147,5 +147,5 @@ pub fn root_word(domain: u32, block: u32) -> PoolWord
     requires { (domain < 4194303) × (block < 1024) }
     ensures { result ≡ record { 0 = 1024 * domain + block } }
 {
-    words::word_after(words::pool_word(TABLE_WORDS * domain), block as usize)
+    PoolWord::from(TABLE_WORDS * domain).after(block as usize)
 }

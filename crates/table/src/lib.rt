@@ -107,7 +107,7 @@ pub fn index_in(height: u32, address: ByteAddr) -> usize
     requires { height ≤ 2 }
     ensures { result ≡ index height address.0 }
 {
-    let a = words::addr_number(address);
+    let a = u32::from(address);
     let entry = match height {
         0 => a / LINE_BYTES % LEAF_WORDS,
         1 => a / PAGE_BYTES % TABLE_WORDS,
@@ -121,7 +121,7 @@ pub fn part_in(height: u32, address: ByteAddr) -> u32
     requires { height ≤ 2 }
     ensures { result ≡ part_of height address.0 }
 {
-    let a = words::addr_number(address);
+    let a = u32::from(address);
     match height {
         0 => a / 4 % 16,
         1 => a / (PAGE_BYTES / 8) % 8,
@@ -135,12 +135,12 @@ fn leads_to(first: PoolWord, long: u32, count: u32, nth: usize, w: u32) -> Entry
     requires { (0 < long) × (first.0 + long * count < 4294967296) × (nth + count < 4294967296) }
     ensures { result ≡ leads_to first.0 long count nth w }
 {
-    let from = words::entry_of(first);
+    let from = first.entry();
     if w < from || w >= from + long * count || (w - from) % long != 0 {
         return Entry::Bad;
     }
     let place = (w - from) / long;
-    Entry::Leads(words::pool_word(w), nth + place as usize)
+    Entry::Leads(PoolWord::from(w), nth + place as usize)
 }
 
 // What the word `w` says as an entry of a height.
@@ -174,8 +174,7 @@ pub fn fresh(pool: &mut [u32], shape: Shape) -> Result<(), Refusal>
     if !shape_fits(shape, pool.len()) {
         return Err(Refusal::NoShape);
     }
-    let past_roots = first_place(shape, 1);
-    let roots = words::pool_index(past_roots);
+    let roots = first_place(shape, 1).index();
     pool[..roots].fill(words::BIT_31);
     pool[roots..].fill(0);
     Ok(())
@@ -187,8 +186,7 @@ fn load(pool: &[u32], at: PoolWord, before: u32) -> Loaded
     ensures { (result.word ≡ words pool.now at.0) × (result.word < 4294967296)
         × (result.loads ≡ before + 1) }
 {
-    let i = words::pool_index(at);
-    let word = pool[i];
+    let word = pool[at.index()];
     let loads = before + 1;
     Loaded { word, loads }
 }
@@ -202,10 +200,7 @@ fn walk_down(pool: &[u32], shape: Shape, domain: u32, address: ByteAddr) -> Resu
 {
     let mut height = ROOT;
     let mut loads = 0;
-    let mut at = words::word_after(
-        words::pool_word(TABLE_WORDS * domain),
-        index_in(ROOT, address),
-    );
+    let mut at = PoolWord::from(TABLE_WORDS * domain).after(index_in(ROOT, address));
     // Not a `for` over the heights: past its end it would have to answer for a leaf that leads, which there is not.
     loop {
         let got = load(pool, at, loads);
@@ -222,7 +217,7 @@ fn walk_down(pool: &[u32], shape: Shape, domain: u32, address: ByteAddr) -> Resu
             }
             Entry::Leads(table, _) => {
                 height -= 1;
-                at = words::word_after(table, index_in(height, address));
+                at = table.after(index_in(height, address));
             }
         }
     }

@@ -13,12 +13,12 @@ fn reached_by(w: u32, loads: u32, address: ByteAddr, step: u32, count: u32) -> D
     requires { (step ≡ part (3 - loads)) × (count ≡ parts (3 - loads)) × (loads ≤ 3) }
     ensures { result ≡ decided_by (entry_rights (3 - loads) w) (3 - loads) w address.0 }
 {
-    let number = words::addr_number(address) / step;
+    let number = u32::from(address) / step;
     let i = number % count;
     let around = words::stretch_at(w, count, i);
     let block = number - i;
-    let first = words::byte_addr((block + around.first) * step);
-    let last = words::byte_addr((block + around.last) * step + (step - 1));
+    let first = ByteAddr::from((block + around.first) * step);
+    let last = ByteAddr::from((block + around.last) * step + (step - 1));
     Deciding {
         right: around.right,
         entry: w,

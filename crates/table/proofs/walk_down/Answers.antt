@@ -49,9 +49,9 @@ returns-in-Rights c = let F = form_of c.args.shape in
 
 pub loop-entry-preserved : goal.loop-entry-preserved
 loop-entry-preserved c = let g = on (goal.at.loop-entry-preserved c).In-Leads in
-    let e : c.word_after-at-in-Leads.result.0 ≡ c.in-Leads.table.0 + index (c.loop-entry.height - 1)
+    let e : c.after-at-in-Leads.result.0 ≡ c.in-Leads.table.0 + index (c.loop-entry.height - 1)
     c.args.address.0 =
-    ap (λ w. w.0) c.word_after-at-in-Leads.ensures ∙ rw c.index_in-in-Leads.ensures in (
+    ap (λ w. w.0) c.after-at-in-Leads.ensures ∙ rw c.index_in-in-Leads.ensures in (
       omega arith,
       omega (arith, c.load-got.ensures.2, g.above),
       rw e g.inside,
