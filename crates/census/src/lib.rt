@@ -17,7 +17,8 @@ use words::PoolWord;
 // How many places there may be, middle and leaf.
 pub const PLACES: usize = 72;
 
-// The owner of a place where no table stands: a number that no block has.
+// The owner of a place where no table stands: a number that no block has. (An Option<u32> takes twice as much, and the
+// owners stand on a stack of 1,024 bytes.)
 pub const NONE: u32 = 0xFFFF_FFFF;
 
 // The height of the tables that place `n` is for.
@@ -72,8 +73,8 @@ pub fn block_in_domain(height: u32, block: u32) -> u32
 }
 
 // Place `n` becomes that of a block, unless it has an owner already.
-fn give_place(n: usize, block: u32, owners: &mut [u32]) -> bool
-    requires { n < length owners.old }
+fn give_place(n: usize, block: u32, owners: &mut [u32; PLACES]) -> bool
+    requires { n < max_places }
     ensures { Answers (give n block owners.old) result owners.new }
 {
     if owners[n] != NONE {
@@ -104,12 +105,11 @@ fn table_check(
     height: u32,
     base: PoolWord,
     block: u32,
-    owners: &mut [u32],
+    owners: &mut [u32; PLACES],
 ) -> bool
     requires fits { Fits shape (length pool.now) }
     requires height_nonzero { (0 < height) × (height ≤ 2) × (block < tables shape.domains height) }
     requires height_in_bounds { base.0 + size height ≤ length pool.now }
-    requires owners_len { length owners.old ≡ max_places }
     ensures { Answers (table_tally shape pool.now height base.0 block owners.old) result
         owners.new }
 {
@@ -141,11 +141,10 @@ fn entry_check(
     height: u32,
     w: u32,
     block: u32,
-    owners: &mut [u32],
+    owners: &mut [u32; PLACES],
 ) -> bool
     requires fits { Fits shape (length pool.now) }
     requires height_nonzero { (0 < height) × (height ≤ 2) × (block < tables shape.domains (height - 1)) }
-    requires owners_len { length owners.old ≡ max_places }
     ensures { Answers (entry_tally shape pool.now height w block owners.old) result
         owners.new }
 {
@@ -163,9 +162,8 @@ fn entry_check(
 // Whether the pool is sound, and, where it is, the owners of its places: of each place the number of the block whose
 // table stands there, over all domains (1024 * d + b for block b of domain d, 1048576 * d + p for page p), or NONE.
 #[inline(never)]
-pub fn census(pool: &[u32], shape: Shape, owners: &mut [u32]) -> bool
+pub fn census(pool: &[u32], shape: Shape, owners: &mut [u32; PLACES]) -> bool
     requires fits { Fits shape (length pool.now) }
-    requires owners_len { length owners.old ≡ max_places }
     ensures { Census pool.now shape result owners.new }
 {
     owners.fill(NONE);

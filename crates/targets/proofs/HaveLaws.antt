@@ -17,7 +17,6 @@ use Rattle.table.proofs.WantLaws.{same_pack}
 use Rattle.targets.specs.declared.Paint.{Paint}
 use Rattle.std.proofs.Common.{Some, None}
 use Rattle.std.specs.Bool.{then_some}
-use Rattle.targets.specs.declared.Target.TheVariants.{Says}
 use Rattle.targets.specs.Targets.{painted, given, target_of, Decides}
 use Rattle.targets.specs.Steps.{Plain, PartIs, BlockHas, BlocksHave}
 use Rattle.targets.proofs.PaintLaws.{painted_agree}
@@ -54,20 +53,20 @@ plain_decides R s n u v l f = decides_equal u v (λ q. rw q at f) (plain_one R s
 -- The block of height `h` numbered `n`, and the right `u`.
 module _ (R : ℕ → ℕ) (h n u : ℕ) where
   -- Where it has the right throughout, its entry should be that right's ..
-  plain_said : Plain R (n * (block h / 4)) (block h / 4) u → target_of R h (n * block h) ≡ Says (same_of h u)
-  plain_said f = plain_target R h n u f ∙ ap Says (same_pack h u)
+  plain_said : Plain R (n * (block h / 4)) (block h / 4) u → target_of R h (n * block h) ≡ Some (same_of h u)
+  plain_said f = plain_target R h n u f ∙ ap Some (same_pack h u)
 
   -- .. and only there.
-  pub said_plain : ((a : ℕ) → R a < 4) → u < 4 → target_of R h (n * block h) ≡ Says (same_of h u)
+  pub said_plain : ((a : ℕ) → R a < 4) → u < 4 → target_of R h (n * block h) ≡ Some (same_of h u)
       → Plain R (n * (block h / 4)) (block h / 4) u
   said_plain small b e = target_plain R h n small (same_of h u) e u (λ i l.
       ap (λ w. right_at w i) (sym (same_pack h u)) ∙ pack_digit (above h) (parts h) i (λ i. u) (λ j m. b) l)
 
   -- So whether it has the right is a test of the entry that it should have.
   pub said_decides : (w same : ℕ) → ((a : ℕ) → R a < 4) → u < 4 → same ≡ same_of h u
-      → target_of R h (n * block h) ≡ Says w → Decides (eqb w same) (Plain R (n * (block h / 4)) (block h / 4) u)
+      → target_of R h (n * block h) ≡ Some w → Decides (eqb w same) (Plain R (n * (block h / 4)) (block h / 4) u)
   said_decides w same small b is e = decides_equal w same
-      (λ q. said_plain small b (e ∙ ap Says (q ∙ is)))
+      (λ q. said_plain small b (e ∙ ap Some (q ∙ is)))
       (λ f. same_said (sym e ∙ plain_said f) ∙ sym is)
 
 -- Of the block numbered `n` whose entry `e` leads to a table: the `m` entries of the table from number `i` on, whose

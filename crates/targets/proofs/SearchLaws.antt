@@ -15,7 +15,6 @@ use Rattle.table.proofs.BlockLaws.{first_word}
 use Rattle.targets.specs.declared.Paint.{Paint}
 use Rattle.targets.specs.declared.Cover.TheVariants.{Apart, Whole}
 use Rattle.std.proofs.Common.{Option, Some, None}
-use Rattle.targets.specs.declared.Target.TheVariants.{Says, Mixed}
 use Rattle.targets.specs.Paints.{region}
 use Rattle.targets.specs.Targets.{painted, target_of, given, Gives}
 use Rattle.targets.specs.Steps.{CoverIs, Plain, OneIs}
@@ -29,13 +28,13 @@ use Rattle.targets.proofs.GivenLaws.{gives_parts}
 module _ (p : Paint) (R : ℕ → ℕ) (h n : ℕ) where
   -- The region covers the whole block.
   pub whole_target : CoverIs Whole p (n * (block h / 4)) (block h / 4)
-      → target_of (painted p R) h (n * block h) ≡ Says (pack (above h) (parts h) (λ i. p.right))
+      → target_of (painted p R) h (n * block h) ≡ Some (pack (above h) (parts h) (λ i. p.right))
   whole_target c = plain_target (painted p R) h n p.right (whole_plain p R _ _ c)
 
   module _ (P : ℕ → ℕ) (e : ℕ) (g : Gives P h e n R) where
     -- The region lies apart from the block, and its entry is rights.
     pub apart_target : leads h e ≡ false → CoverIs Apart p (n * (block h / 4)) (block h / 4)
-        → target_of (painted p R) h (n * block h) ≡ Says (pack (above h) (parts h) (right_at e))
+        → target_of (painted p R) h (n * block h) ≡ Some (pack (above h) (parts h) (right_at e))
     apart_target l c = parts_target (painted p R) h n (right_at e) (λ i b.
         apart_plain p R (part_word h n i) (words_in h) (right_at e i) (gives_parts P R h e n i b l g)
         (λ j m.
@@ -51,10 +50,10 @@ module _ (p : Paint) (R : ℕ → ℕ) (h n : ℕ) where
 module _ (p : Paint) (R : ℕ → ℕ) (h n : ℕ) where
   -- The whole block is covered.
   pub covered_target : ((a : ℕ) → a / block (suc h) ≡ n → covered (region p) a ≡ true)
-      → target_of (painted p R) (suc h) (n * block (suc h)) ≡ Says (eight_of p.right)
+      → target_of (painted p R) (suc h) (n * block (suc h)) ≡ Some (eight_of p.right)
   covered_target c =
       plain_target (painted p R) (suc h) n p.right (λ j l. painted_covered p R _ (c _ (entry_number (suc h) n j l)))
-      ∙ ap Says (eight_pack p.right)
+      ∙ ap Some (eight_pack p.right)
 
   -- None of it is.
   pub uncovered_target : ((a : ℕ) → a / block h ≡ n → covered (region p) a ≡ false)
@@ -108,13 +107,13 @@ module _ (R : ℕ → ℕ) (h n : ℕ) where
       }
 
     -- One with two rights: a table is wanted.
-    pub gathers_two : i < parts h → o ≡ None → Mixed ≡ target_of R h (n * block h)
+    pub gathers_two : i < parts h → o ≡ None → None ≡ target_of R h (n * block h)
     gathers_two b e = sym (two_target R h n i b (rw e at f))
 
 -- At the end, what is said is the block's target.
 pub gathers_all : (R : ℕ → ℕ) (h n said i : ℕ) → i ≡ 8 → Gathers R (suc h) n said i
-    → Says said ≡ target_of R (suc h) (n * block (suc h))
+    → Some said ≡ target_of R (suc h) (n * block (suc h))
 gathers_all R h n said i z g =
     let s : said ≡ 2147483648 + pack 0 8 (first_right R (suc h) n) = rw z at g.sum in
-    ap Says (omega (arith, pack_above 32768 8 (first_right R (suc h) n)))
+    ap Some (omega (arith, pack_above 32768 8 (first_right R (suc h) n)))
     ∙ sym (parts_target R (suc h) n (first_right R (suc h) n) (λ k b. g.each k (omega arith)))

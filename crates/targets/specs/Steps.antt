@@ -11,8 +11,6 @@ use Rattle.targets.specs.Targets.{painted, given, target_of, Gives}
 use Rattle.targets.specs.declared.Paint.{Paint}
 use Rattle.targets.specs.declared.Cover.{Cover}
 use Rattle.targets.specs.declared.Cover.TheVariants.{Apart, Partly, Whole}
-use Rattle.targets.specs.declared.Target.{Target}
-use Rattle.targets.specs.declared.Target.TheVariants.{Says, Mixed}
 
 -- The region has the memory word `x`.
 unfoldable pub inside : Paint → ℕ → Bool
@@ -71,7 +69,7 @@ GoodRights (suc h) e = leads (suc h) e ≡ false → good_rights e ≡ true
 
 -- In every pool, the block of height `h` numbered `n` whose entry is `e` should have the entry `w` once painted ..
 abbrev pub SaysIs : Paint → ℕ → ℕ → ℕ → ℕ → Type 0
-SaysIs p h e n w = (P R : ℕ → ℕ) → Gives P h e n R → target_of (painted p R) h (n * block h) ≡ Says w
+SaysIs p h e n w = (P R : ℕ → ℕ) → Gives P h e n R → target_of (painted p R) h (n * block h) ≡ Some w
 
 -- .. which is known, or needs a search, and so is no leaf entry.
 abbrev pub ToldIs : Option ℕ → Paint → ℕ → ℕ → ℕ → Type 0
@@ -84,18 +82,13 @@ EvenEntries p k = AllSame p k 8 (sixteen_of (right_at (words p k) 0))
 
 -- The leaf at pool word `e` is wanted by whichever page has it.
 abbrev pub LeafMixed : (ℕ → ℕ) → ℕ → Type 0
-LeafMixed P e = (n : ℕ) → target_of (given P 1 e) 1 (n * 4096) ≡ Mixed
+LeafMixed P e = (n : ℕ) → target_of (given P 1 e) 1 (n * 4096) ≡ None
 
 -- Nothing is painted, and the entry `e` of a height leads to such a leaf.
 pub record SeenMixed (P : ℕ → ℕ) (p : Paint) (h e : ℕ) : Type 0 where
   pub none : p.hi ≤ p.lo
   pub height : h ≡ 1
   pub leaf : LeafMixed P e
-
--- The target is that of a block that wants a table.
-abbrev pub is_mixed : Target → Bool
-is_mixed (Says w) = false
-is_mixed Mixed = true
 
 -- Place `n` is for a middle table, and a leaf stands in the block that is numbered `i` over all domains.
 pub record LeafIn (o : List ℕ) (n i : ℕ) : Type 0 where

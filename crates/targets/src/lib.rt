@@ -25,13 +25,6 @@ pub struct Paint {
     pub right: u32,
 }
 
-// What the entry of a page or a block should be: eight rights; or a pointer, since some sub-block has two rights.
-#[derive(Clone, Copy)]
-pub enum Target {
-    Says(u32),
-    Mixed,
-}
-
 // The empty region: rights as they stand.
 pub const UNPAINTED: Paint = Paint {
     lo: 0,
@@ -248,7 +241,7 @@ fn part(pool: &[u32], paint: Paint, below: u32, e: u32, n: u32, i: u32) -> Optio
 
 // The block's target, sub-block by sub-block. Each right is added to the entry as it comes: an array to gather them in
 // would stand on the stack.
-fn search(pool: &[u32], paint: Paint, below: u32, e: u32, n: u32) -> Target
+fn search(pool: &[u32], paint: Paint, below: u32, e: u32, n: u32) -> Option<u32>
     requires readable { Readable pool.now (suc below) e }
     requires below_bound { (below < 2) × (n < entry_blocks (suc below)) × (paint.right < 4) }
     ensures { result ≡ target_of (painted paint (given (words pool.now) (suc below) e)) (suc below)
@@ -256,48 +249,26 @@ fn search(pool: &[u32], paint: Paint, below: u32, e: u32, n: u32) -> Target
 {
     let mut said = words::BIT_31;
     for i in 0..8 {
-        let Some(right) = part(pool, paint, below, e, n, i) else {
-            return Target::Mixed;
-        };
-        said += right << (2 * i);
+        said += part(pool, paint, below, e, n, i)? << (2 * i);
     }
-    Target::Says(said)
+    Some(said)
 }
 
-// What the entry of the block numbered `n` should be after the painting, where it is `e`.
-pub fn entry_target(pool: &[u32], paint: Paint, height: u32, e: u32, n: u32) -> Target
+// What the entry of the block numbered `n` should be after the painting, where it is `e`: the rights that say the block,
+// or none where a sub-block has two rights, so that it must lead to a table.
+pub fn entry_target(pool: &[u32], paint: Paint, height: u32, e: u32, n: u32) -> Option<u32>
     requires readable { Readable pool.now height e }
     requires height_bound { (height ≤ 2) × (n < entry_blocks height) × (paint.right < 4) }
     ensures { (R : ℕ → ℕ) → Gives (words pool.now) height e n R
         → result ≡ target_of (painted paint R) height (n * block height) }
 {
     if let Some(w) = at_once(paint, height, e, n) {
-        return Target::Says(w);
+        return Some(w);
     }
     if leaves::seen_mixed(pool, paint, height, e) {
-        return Target::Mixed;
+        return None;
     }
     search(pool, paint, height - 1, e, n)
-}
-
-// What the entry of a page should be.
-pub fn page_target(pool: &[u32], paint: Paint, e: u32, page: u32) -> Target
-    requires readable { Readable pool.now 1 e }
-    requires page_bound { (page < 1048576) × (paint.right < 4) }
-    ensures { (R : ℕ → ℕ) → Gives (words pool.now) 1 e page R
-        → result ≡ target_of (painted paint R) 1 (page * 4096) }
-{
-    entry_target(pool, paint, 1, e, page)
-}
-
-// What the entry of a block of 4 MB should be.
-pub fn block_target(pool: &[u32], paint: Paint, e: u32, block: u32) -> Target
-    requires readable { Readable pool.now 2 e }
-    requires block_bound { (block < 1024) × (paint.right < 4) }
-    ensures { (R : ℕ → ℕ) → Gives (words pool.now) 2 e block R
-        → result ≡ target_of (painted paint R) 2 (block * 4194304) }
-{
-    entry_target(pool, paint, 2, e, block)
 }
 
 // The entry of a height that would stand for block `n`, where the entry `e` above it is eight rights and there is no

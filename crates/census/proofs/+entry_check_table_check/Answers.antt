@@ -47,7 +47,6 @@ table_check-loop-i-init t c =
     let size = upper_size a.height above in (
       omega arith,
       omega (arith, c.requires.height_in_bounds),
-      refl,
       through_start (check a.shape a.pool.now a.height) 1024 a.base.0 (1024 * a.block) a.owners.now
           ∙ sym (table_through a.shape a.pool.now a.height a.base.0 a.block a.owners.now above),
     )
@@ -56,7 +55,7 @@ pub table_check-returns-then-not-entry_check : goal.table_check-returns-then-not
 table_check-returns-then-not-entry_check t c =
     let a = c.args in
     let x = c.pool_index-k.ensures ∙ ap (λ w. w.0) c.word_after-word.ensures in
-    refused_answers _ _ _ refl (sym c.loop-i.invariant.3
+    refused_answers _ _ _ refl (sym c.loop-i.invariant.2
     ∙ through_stop (check a.shape a.pool.now a.height) 1024 a.base.0 (1024 * a.block) c.loop-i.i c.loop-i.owners
     (omega arith)
     (ap (λ k. check a.shape a.pool.now a.height k (1024 * a.block + c.loop-i.i) c.loop-i.owners) (sym x)
@@ -68,12 +67,11 @@ table_check-loop-i-preserved-then-n-eq0 t c =
     let x = c.pool_index-k.ensures ∙ ap (λ w. w.0) c.word_after-word.ensures in (
       omega arith,
       c.loop-i.invariant.1,
-      omega (arith, c.loop-i.invariant.2),
       sym (through_step (check a.shape a.pool.now a.height) 1024 a.base.0 (1024 * a.block) c.loop-i.i
           c.loop-i.owners (omega arith) _
           (ap (λ k. check a.shape a.pool.now a.height k (1024 * a.block + c.loop-i.i) c.loop-i.owners) (sym x)
           ∙ answers_owned _ _ _ c.entry_check.ensures c.if-not-entry_check.false))
-          ∙ c.loop-i.invariant.3,
+          ∙ c.loop-i.invariant.2,
     )
 
 pub table_check-loop-i-preserved : goal.table_check-loop-i-preserved
@@ -84,19 +82,18 @@ table_check-loop-i-preserved t c =
     let here = ap (λ w. w.0) c.word_after-word.ensures in (
       omega arith,
       c.loop-i.invariant.1,
-      c.loop-i.invariant.2,
       sym (through_pass (check a.shape a.pool.now a.height) 1024 at (1024 * a.block) c.loop-i.i c.loop-i.owners
           c.plain_ahead-n.result c.plain_ahead-n.ensures.0
           (λ e h. rights_pass a.shape a.pool.now a.height (P (at + c.loop-i.i + e))
           (1024 * a.block + c.loop-i.i + e) c.loop-i.owners c.requires.height_nonzero.0
           (omega (arith, c.type_inv.pool (at + c.loop-i.i + e)))
           (ap (λ x. good_rights (P (x + e))) (sym here) ∙ c.plain_ahead-n.ensures.1 e h)))
-          ∙ c.loop-i.invariant.3,
+          ∙ c.loop-i.invariant.2,
     )
 
 pub table_check-returns : goal.table_check-returns
 table_check-returns t c =
     let a = c.args in
-    owned_answers _ _ _ refl (sym c.loop-i.invariant.3
+    owned_answers _ _ _ refl (sym c.loop-i.invariant.2
     ∙ through_end (check a.shape a.pool.now a.height) (1024 - c.loop-i.i) (a.base.0 + c.loop-i.i)
     (1024 * a.block + c.loop-i.i) c.loop-i.owners (omega arith))

@@ -4,8 +4,7 @@ use Prim.Native.Nat.{◌+◌, ◌-◌}
 use mathlib.Core.Path.{◌≡◌, sym, ap, ◌∙◌}
 use native.Mathlib.Omega.{arith}
 use Rattle.std.proofs.Common.{rules}
-use lib.ListN.{length, replicate, length-replicate}
-use Rattle.census.specs.Places.{max_places}
+use lib.ListN.{replicate}
 use Rattle.census.specs.Tally.{none, owned, table_tally, roots_tally}
 use Rattle.census.proofs.TallyLaws.{answers_owned, answers_refused, roots_next, roots_refused}
 use Rattle.census.proofs.CensusLaws.{fine_census, failed_census}
@@ -18,15 +17,13 @@ next : (c : After-table_check) → let a = c.args in
     ≡ table_tally a.shape a.pool.now 2 c.pool_word-root.result.0 c.loop-d.d c.loop-d.owners
 next c =
     let a = c.args in
-    roots_next a.shape a.pool.now c.loop-d.d c.loop-d.owners c.loop-d.invariant.1
+    roots_next a.shape a.pool.now c.loop-d.d c.loop-d.owners c.loop-d.invariant
     ∙ ap (λ w. table_tally a.shape a.pool.now 2 w.0 c.loop-d.d c.loop-d.owners)
     (sym c.pool_word-root.ensures)
 
 pub loop-d-init : goal.loop-d-init
 unfolding roots_tally
-loop-d-init c =
-    let e = c.fill.ensures.after (λ y k. search rules) ∙ ap (λ n. replicate n none) c.requires.owners_len in
-    (ap length e ∙ length-replicate max_places none, ap owned (sym e))
+loop-d-init c = ap owned (sym (c.fill.ensures.after (λ y k. search rules) ∙ ap (λ n. replicate n none) c.told-owners))
 
 pub returns-then-not-table_check : goal.returns-then-not-table_check
 returns-then-not-table_check c = let D = c.args.shape.domains in
@@ -36,12 +33,10 @@ returns-then-not-table_check c = let D = c.args.shape.domains in
     (next (goal.at.returns-then-not-table_check c).After-table_check ∙ answers_refused _ _ _ c.table_check.ensures (c.if-not-table_check.true))))
 
 pub loop-d-preserved : goal.loop-d-preserved
-loop-d-preserved c = (
-  omega (arith, c.loop-d.invariant.0),
-  next (goal.at.loop-d-preserved c).After-table_check ∙ answers_owned _ _ _ c.table_check.ensures
-      (c.if-not-table_check.false),
-)
+loop-d-preserved c =
+    next (goal.at.loop-d-preserved c).After-table_check
+    ∙ answers_owned _ _ _ c.table_check.ensures c.if-not-table_check.false
 
 pub returns : goal.returns
 returns c = let z : c.loop-d.d ≡ c.args.shape.domains = omega arith in
-    fine_census _ _ c.requires.fits (λ k. omega (arith, c.type_inv.pool k)) _ (rw z at c.loop-d.invariant.1)
+    fine_census _ _ c.requires.fits (λ k. omega (arith, c.type_inv.pool k)) _ (rw z at c.loop-d.invariant)

@@ -1,9 +1,8 @@
 -- `targets::entries_have` and `targets::has_all` meet their contracts.
-use Rattle.std.proofs.Common.{◌≡◌, ◌+◌, ◌-◌, ◌*◌, ◌<◌, ◌≤◌, ℕ, refl, sym, ap, subst, ◌∙◌, arith}
+use Rattle.std.proofs.Common.{◌≡◌, ◌+◌, ◌-◌, ◌*◌, ◌<◌, ◌≤◌, ℕ, refl, sym, ap, subst, ◌∙◌, arith, Some}
 use borrow.Author.Tests.{lt-ltb}
 use Rattle.theory.specs.Pool.{words}
 use Rattle.table.specs.Shape.{size}
-use Rattle.targets.specs.declared.Target.TheVariants.{Says}
 use Rattle.targets.specs.Targets.{entry_blocks, painted, given, Decides}
 use Rattle.targets.specs.Steps.{BlockHas}
 use Rattle.targets.proofs.PaintLaws.{whole_plain}
@@ -25,7 +24,7 @@ has_all-returns-then-stands t c =
     let P = words a.pool.now in
     decides_yes (said_plain (painted a.paint (given P a.height a.e)) a.height a.n a.right
     (painted_given_small P a.paint a.height a.e h.2) h.3
-    (c.stands.ensures c.if-stands.true P (given P a.height a.e) (λ x q. refl) ∙ ap Says c.same_entry-same.ensures))
+    (c.stands.ensures c.if-stands.true P (given P a.height a.e) (λ x q. refl) ∙ ap Some c.same_entry-same.ensures))
 
 pub has_all-returns-then-height-eq0 : goal.has_all-returns-then-height-eq0
 has_all-returns-then-height-eq0 t c =

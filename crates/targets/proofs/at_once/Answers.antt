@@ -1,9 +1,9 @@
 -- `targets::at_once` meets its contract.
+use Rattle.std.proofs.Common.{Some}
 use mathlib.Core.Path.{sym, ap, ◌∙◌}
 use mathlib.Core.Logic.{⊎_elim}
 use native.Mathlib.Omega.{arith}
 use Rattle.table.proofs.WantLaws.{same_pack}
-use Rattle.targets.specs.declared.Target.TheVariants.{Says}
 use Rattle.targets.proofs.EntryLaws.{leaf_entry, whole_entry, apart_entry, leads_leaf, leads_high}
 use Rattle.targets.proofs.at_once.Goals as goal
 
@@ -12,7 +12,7 @@ returns-in-Whole c = λ P R g.
     let a = c.args in
     whole_entry a.paint R a.height a.n c.block_words-long.result c.block_words-long.ensures
     (rw c.in-Whole.is at c.meeting.ensures)
-    ∙ ap Says (same_pack a.height a.paint.right ∙ sym c.same_entry.ensures)
+    ∙ ap Some (same_pack a.height a.paint.right ∙ sym c.same_entry.ensures)
 
 pub returns-in-Apart : goal.returns-in-Apart
 returns-in-Apart c = λ P R g.

@@ -33,6 +33,6 @@ leaf_in o n block r len b m e =
 pub returns-then-n-lt-FIRST_LEAF : goal.returns-then-n-lt-FIRST_LEAF
 returns-then-n-lt-FIRST_LEAF c =
     let a = c.args in
-    leaf_in a.owners.now a.n a.block _ c.requires c.if-n-lt-FIRST_LEAF.true
+    leaf_in a.owners.now a.n a.block _ c.told-owners c.if-n-lt-FIRST_LEAF.true
     (cases_from_any _ _ _ (λ page. page / 1024 ≡ a.block) (λ page. Unit {0}) c.any.ensures.ran
-    (YieldsList-from_slice (drop 8 a.owners.now) (c.iter.ensures.rest ∙ take_all _ _ (omega (arith, length-drop 8 a.owners.now)))) (λ x q k. search (rules, tests)) (λ x q k. search (rules, tests)))
+    (YieldsList-from_slice (drop 8 a.owners.now) (c.iter.ensures.rest ∙ take_all 64 (drop 8 a.owners.now) (omega (arith, length-drop 8 a.owners.now)))) (λ x q k. search (rules, tests)) (λ x q k. search (rules, tests)))
