@@ -9,12 +9,8 @@ use Rattle.words.specs.declared.Region.{Region}
 use Rattle.words.specs.declared.Rounded.TheVariants.{Covers, Refused}
 use Rattle.words.specs.Region.{region_of, covered}
 use Rattle.lookaside.specs.declared.Slot.{Slot}
-use Rattle.lookaside.specs.declared.Buffer.{Buffer}
-use Rattle.lookaside.specs.declared.Flushed.{Flushed}
-use Rattle.lookaside.specs.declared.Flushing.{Flushing}
-use Rattle.lookaside.specs.declared.Flushing.TheVariants.{Whole, OfDomain, OfRegion}
-use Rattle.lookaside.specs.Slots.{height_of, block_bytes, holds_for, in_block, matches}
-use Rattle.lookaside.specs.Flushes.{meets, flushes, done, refused, pointed, flushed_whole, flushed_domain}
+use Rattle.lookaside.specs.Slots.{Buffer, height_of, block_bytes, holds_for, in_block, matches}
+use Rattle.lookaside.specs.Flushes.{Flushing, Whole, OfDomain, OfRegion, Flushed, meets, flushes, done, refused, pointed, flushed_whole, flushed_domain}
 use Rattle.lookaside.specs.Flushes.{flushed_region}
 use Rattle.lookaside.specs.Agree.{clears}
 use Rattle.lookaside.proofs.TestLaws.{both_true}

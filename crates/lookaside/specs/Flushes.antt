@@ -1,15 +1,22 @@
 -- Flushes: which slots they empty, and what they answer.
-use Rattle.std.specs.Prelude.{ℕ, ◌+◌, ◌*◌, Bool, true, cond, ◌&&◌, map, ltb}
+use Rattle.std.specs.Prelude.{ℕ, ◌+◌, ◌*◌, Bool, true, cond, ◌&&◌, map, ltb, ◌≡◌, Result, Ok, Err}
 use Rattle.words.specs.declared.Region.{Region}
 use Rattle.words.specs.declared.Rounded.{Rounded}
 use Rattle.words.specs.declared.Rounded.TheVariants.{Covers, Refused}
 use Rattle.words.specs.Region.{region_of}
 use Rattle.lookaside.specs.declared.Slot.{Slot}
-use Rattle.lookaside.specs.declared.Buffer.{Buffer}
-use Rattle.lookaside.specs.declared.Flushed.{Flushed}
-use Rattle.lookaside.specs.declared.Flushing.{Flushing}
-use Rattle.lookaside.specs.declared.Flushing.TheVariants.{Whole, OfDomain, OfRegion}
-use Rattle.lookaside.specs.Slots.{block_bytes, holds_for, empty_slot}
+use Rattle.lookaside.specs.Slots.{Buffer, block_bytes, holds_for, empty_slot}
+
+-- What a flush empties: every slot, those of a domain, or those of a domain whose block meets a region.
+pub data Flushing : Type 0 where
+  Whole : Flushing
+  OfDomain : (d : ℕ) → Flushing
+  OfRegion : (d : ℕ) (r : Region) → Flushing
+
+-- A flush: what it answers, and the buffer that its words then say.
+pub record Flushed : Type 0 where
+  pub answer : Result (Unit {0}) ℕ
+  pub buffer : Buffer
 
 -- The slot's block meets the region: each begins before the other ends, in bytes.
 unfoldable pub meets : Slot → Region → Bool
@@ -21,6 +28,10 @@ flushes Whole s = true
 flushes (OfDomain d) s = holds_for s d
 flushes (OfRegion d r) s = holds_for s d && meets s r
 
+-- A test of slots says of each whether the flush empties it.
+abbrev pub Tells : (Slot → Bool → Type 0) → Flushing → Type 0
+Tells says f = (s : Slot) (b : Bool) → says s b → b ≡ flushes f s
+
 -- What the flush leaves of a slot.
 unfoldable pub flushed_slot : Flushing → Slot → Slot
 flushed_slot f s = cond (flushes f s) empty_slot s
@@ -31,11 +42,11 @@ flushed_buffer f b = record { slots = map (flushed_slot f) b.slots; next = b.nex
 
 -- A flush that is done.
 abbrev pub done : Flushing → Buffer → Flushed
-done f b = record { refusal = 0; buffer = flushed_buffer f b }
+done f b = record { answer = Ok tt; buffer = flushed_buffer f b }
 
 -- A flush that is refused gives back the buffer that came in.
 abbrev pub refused : ℕ → Buffer → Flushed
-refused n b = record { refusal = n; buffer = b }
+refused n b = record { answer = Err n; buffer = b }
 
 -- Every flush is first refused 18 for a pointer above 63.
 unfoldable pub pointed : Buffer → Flushed → Flushed
