@@ -36,10 +36,10 @@ pub fn place_word(shape: Shape, n: usize) -> PoolWord
 {
     let middles = TABLE_WORDS * shape.domains;
     if n < table::FIRST_LEAF {
-        return words::pool_word(middles + TABLE_WORDS * n as u32);
+        return PoolWord::from(middles + TABLE_WORDS * n as u32);
     }
     let leaves = middles + TABLE_WORDS * shape.middles;
-    words::pool_word(leaves + LEAF_WORDS * (n - table::FIRST_LEAF) as u32)
+    PoolWord::from(leaves + LEAF_WORDS * (n - table::FIRST_LEAF) as u32)
 }
 
 // The number of the first place for tables of a height.
@@ -90,8 +90,7 @@ pub fn plain_ahead(pool: &[u32], word: PoolWord, i: u32) -> u32
     requires { (i < 1024) × (word.0 + (1024 - i) ≤ length pool.now) }
     ensures { (i + result ≤ 1024) × AllPlain (words pool.now) word.0 result }
 {
-    let k = words::pool_index(word);
-    if !words::good_rights(pool[k]) {
+    if !words::good_rights(pool[word.index()]) {
         return 0;
     }
     words::skip_rights(pool, word, (TABLE_WORDS - i) as usize) as u32
@@ -117,11 +116,10 @@ fn table_check(
     let mut i = 0;
     // No `for`: it passes over as many entries at a time as are eight rights.
     while i < TABLE_WORDS {
-        let word = words::word_after(base, i as usize);
+        let word = base.after(i as usize);
         let n = plain_ahead(pool, word, i);
         if n == 0 {
-            let k = words::pool_index(word);
-            let w = pool[k];
+            let w = pool[word.index()];
             if !entry_check(pool, shape, height, w, first + i, owners) {
                 return false;
             }
@@ -168,7 +166,7 @@ pub fn census(pool: &[u32], shape: Shape, owners: &mut [u32; PLACES]) -> bool
 {
     owners.fill(NONE);
     for d in 0..shape.domains {
-        let root = words::pool_word(TABLE_WORDS * d);
+        let root = PoolWord::from(TABLE_WORDS * d);
         if !table_check(pool, shape, 2, root, d, owners) {
             return false;
         }

@@ -54,7 +54,7 @@ table_check-loop-i-init t c =
 pub table_check-returns-then-not-entry_check : goal.table_check-returns-then-not-entry_check
 table_check-returns-then-not-entry_check t c =
     let a = c.args in
-    let x = c.pool_index-k.ensures ∙ ap (λ w. w.0) c.word_after-word.ensures in
+    let x = c.index.ensures ∙ ap (λ w. w.0) c.after-word.ensures in
     refused_answers _ _ _ refl (sym c.loop-i.invariant.2
     ∙ through_stop (check a.shape a.pool.now a.height) 1024 a.base.0 (1024 * a.block) c.loop-i.i c.loop-i.owners
     (omega arith)
@@ -64,7 +64,7 @@ table_check-returns-then-not-entry_check t c =
 pub table_check-loop-i-preserved-then-n-eq0 : goal.table_check-loop-i-preserved-then-n-eq0
 table_check-loop-i-preserved-then-n-eq0 t c =
     let a = c.args in
-    let x = c.pool_index-k.ensures ∙ ap (λ w. w.0) c.word_after-word.ensures in (
+    let x = c.index.ensures ∙ ap (λ w. w.0) c.after-word.ensures in (
       omega arith,
       c.loop-i.invariant.1,
       sym (through_step (check a.shape a.pool.now a.height) 1024 a.base.0 (1024 * a.block) c.loop-i.i
@@ -79,7 +79,7 @@ table_check-loop-i-preserved t c =
     let a = c.args in
     let P = words a.pool.now in
     let at = a.base.0 in
-    let here = ap (λ w. w.0) c.word_after-word.ensures in (
+    let here = ap (λ w. w.0) c.after-word.ensures in (
       omega arith,
       c.loop-i.invariant.1,
       sym (through_pass (check a.shape a.pool.now a.height) 1024 at (1024 * a.block) c.loop-i.i c.loop-i.owners

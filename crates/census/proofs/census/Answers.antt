@@ -14,12 +14,12 @@ use Rattle.census.proofs.census.Goals.{After-table_check}
 -- What the roots tell, with the one at which the loop stands.
 next : (c : After-table_check) → let a = c.args in
     roots_tally a.shape a.pool.now (c.loop-d.d + 1)
-    ≡ table_tally a.shape a.pool.now 2 c.pool_word-root.result.0 c.loop-d.d c.loop-d.owners
+    ≡ table_tally a.shape a.pool.now 2 c.from-root.result.0 c.loop-d.d c.loop-d.owners
 next c =
     let a = c.args in
     roots_next a.shape a.pool.now c.loop-d.d c.loop-d.owners c.loop-d.invariant
     ∙ ap (λ w. table_tally a.shape a.pool.now 2 w.0 c.loop-d.d c.loop-d.owners)
-    (sym c.pool_word-root.ensures)
+    (sym c.from-root.ensures)
 
 pub loop-d-init : goal.loop-d-init
 unfolding roots_tally
