@@ -64,6 +64,11 @@ BARE = {
     ("goleuthan", "give_word", "at"): "a word of the results",
     ("lookaside", "slot_at", "at"): "a word of a lent state",
     ("lookaside", "put_slot", "at"): "a word of a lent state",
+    ("gates", "gate_at", "at"): "a word of a lent state",
+    ("gates", "put_gate", "at"): "a word of a lent state",
+    ("gates", "move_gate", "at"): "a word of a lent state",
+    ("gates", "frame_at", "at"): "a word of a lent state",
+    ("gates", "put_frame", "at"): "a word of a lent state",
 }
 
 # Functions whose name says so and that give a bare number: (crate, function) with what it is.
@@ -183,14 +188,14 @@ def sources():
 # One wrong line in a copy of the real text: file, what stands there, what is put there, how the refusal begins.
 WRONG = [
     ("census", "let word = base.after(i as usize);", "let word = PoolWord(i as usize);", "made by hand"),
-    ("lookaside/slots", "ByteAddr::from(a - past)", "ByteAddr(a - past)", "made by hand"),
-    ("lookaside/slots", "ByteAddr::from(a - past)", "(a - past).into()", "made by hand"),
+    ("lookaside/slots", "ByteAddr::from(a - a % block_bytes(level))", "ByteAddr(a - a % block_bytes(level))", "made by hand"),
+    ("lookaside/slots", "ByteAddr::from(a - a % block_bytes(level))", "(a - a % block_bytes(level)).into()", "made by hand"),
     ("gates/steps", "if caller.back != target {", "if caller.back.0 != target.0 {", "taken apart"),
     ("listing", "let k = entry.index();", "let k = entry.0;", "taken apart"),
     ("table", "let word = pool[at.index()];", "let word = pool[before as usize];", "load: pool[before as usize]"),
-    ("table", "pool[..roots].fill(words::BIT_31);", "pool[..n].fill(words::BIT_31);", "fresh: pool[..n]"),
+    ("table", "pool[..first_middle.index()].fill(", "pool[..shape.domains as usize].fill(", "fresh: pool[..shape.domains as usize]"),
     ("plan", "return pool[k];", "return pool[root as usize];", "old_entry: pool[root as usize]"),
-    ("census", "            let w = pool[k];", "            let w = pool[k + 1];", "table_check: pool[k + 1]"),
+    ("census", "let w = pool[word.index()];", "let w = pool[word.index() + 1];", "table_check: pool[word.index() + 1]"),
     ("targets", "let w = pool[start + j as usize];", "let w = pool[number + j as usize];",
      "entries_have: pool[number + j as usize]"),
     ("change/ahead", "    table: PoolWord,", "    table: u32,", "a bare number: table of near_entries"),

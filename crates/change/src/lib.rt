@@ -2,18 +2,20 @@
 #![tactic(auto)]
 
 ghost use Rattle.std.specs.Prelude.{◌≡◌, ℕ, ◌+◌, ◌-◌, ◌<◌, ◌≤◌, List, true, length, length as list_length, set};
+ghost use Rattle.std.specs.Prelude.{unwrap_or};
 ghost use Rattle.table.specs.Shape.{Fits, InRange};
 ghost use Rattle.census.specs.Places.{max_places};
 ghost use Rattle.places.specs.Count.{heights, blocks};
 ghost use Rattle.targets.specs.Targets.{entry_blocks};
-ghost use Rattle.plan.specs.Plan.{InTable, of_table, of_new, entry_after, entry_before, table_after, after, new_at, new_word};
-ghost use Rattle.plan.specs.Plan.{phase_of, PlanFits, plan_in};
+ghost use Rattle.plan.specs.Plan.{InTable, of_table, of_new, entry_after, entry_before, table_after, ends_after, after};
+ghost use Rattle.plan.specs.Plan.{new_at, new_word, phase_of, PlanFits, plan_in};
 ghost use Rattle.plan.specs.Planning.{Regular};
 ghost use Rattle.plan.specs.Aims.{aim_of};
+ghost use Rattle.change.specs.declared.Work.{Work};
 ghost use Rattle.change.specs.Answers.{Changes};
 ghost use Rattle.change.specs.Cuts.{CutAt, Due};
 ghost use Rattle.change.specs.Requests.{RegionIs, RequestIs};
-ghost use Rattle.change.specs.Runs.{Looks, NextIs, Ready, Told, Ends, work_in};
+ghost use Rattle.change.specs.Runs.{Looks, NextIs, Ready, Told, Ends};
 
 use plan::{Edge, PLAN_WORDS, Plan};
 use table::{ROOT, Shape, TABLE_WORDS};
@@ -23,6 +25,7 @@ use words::{ByteAddr, PoolWord, Rounded};
 mod ahead; // ahead.rt: which store of a change comes next
 mod tidying; // tidying.rt: which store of a tidying does
 
+use ahead::ByPlan;
 pub use tidying::tidy;
 
 // Done with the number of stores; cut by the allowance; or refused with the paper's number.
@@ -33,8 +36,8 @@ pub enum Answer {
     Refused(u32),
 }
 
-// What is to be made, for the contracts, since the code is told a bool and lent the plan's words: a change, by its
-// plan; or a tidying, which is the change of the empty region.
+// What is to be made, for the contracts, since the code goes by words that are lent: a change, by its plan; or a
+// tidying, which is the change of the empty region.
 #[derive(Clone, Copy)]
 pub enum Work {
     Change(Plan),
@@ -56,11 +59,12 @@ const START: Cursor = Cursor {
     past: words::FIRST_WORD,
 };
 
-// The next store: where, what, and where the run goes on; or there is none.
+// The next store: where, what, and where the run goes on.
 #[derive(Clone, Copy)]
-pub enum Next {
-    Store(PoolWord, u32, Cursor),
-    None,
+pub struct Store {
+    pub at: PoolWord,
+    pub value: u32,
+    pub on: Cursor,
 }
 
 // A request that is refused with the paper's number, or planned: its plan is then in the words that were lent for it.
@@ -77,10 +81,7 @@ fn in_table(t: PoolWord, n: usize, k: PoolWord) -> bool
 {
     let first = words::pool_index(t);
     let i = words::pool_index(k);
-    if i < first {
-        return false;
-    }
-    i < first + n
+    first <= i && i < first + n
 }
 
 // Which word of the table that begins at `t` word `k` is.
@@ -88,22 +89,15 @@ fn entry_number(t: PoolWord, k: PoolWord) -> u32
     requires { (t.0 ≤ k.0) × (k.0 < t.0 + 1024) }
     ensures { result ≡ k.0 - t.0 }
 {
-    let first = words::pool_index(t);
-    let i = words::pool_index(k);
-    (i - first) as u32
+    (words::pool_index(k) - words::pool_index(t)) as u32
 }
 
 // Whether word `k` is of the table of a height to which the edge's new entry leads.
 fn of_table(height: u32, edge: Edge, k: PoolWord) -> bool
     ensures { result ≡ of_table height edge k.0 }
 {
-    let last = edge.last;
-    if last >= words::BIT_31 {
-        return false;
-    }
-    let begin = words::pool_word(last);
-    let size = table::size_of(height);
-    in_table(begin, size as usize, k)
+    let begin = words::pool_word(edge.last);
+    edge.last < words::BIT_31 && in_table(begin, table::size_of(height) as usize, k)
 }
 
 // The entry of a height that stood there before: the word of the table, or what the entry above, `old`, said.
@@ -111,9 +105,10 @@ fn entry_before(height: u32, old: u32, n: u32, x: u32) -> u32
     ensures { result ≡ entry_before height old n x }
 {
     if old < words::BIT_31 {
-        return x;
+        x
+    } else {
+        targets::virtual_entry(height, old, n)
     }
-    targets::virtual_entry(height, old, n)
 }
 
 // What the entry of a height is to hold that has the number `n` in the domain, where the word holds `x` and the entry
@@ -123,28 +118,21 @@ fn entry_after(plan: &[u32; PLAN_WORDS], height: u32, old: u32, n: u32, x: u32) 
     ensures { result ≡ entry_after (plan_in plan.now) height n (entry_before height old n x) }
 {
     let paint = plan::paint_in(plan);
+    let was = entry_before(height, old, n, x);
     if height == 0 {
-        let was = entry_before(height, old, n, x);
         return targets::paint_word(paint, was, n);
     }
     let ends = plan::ends_in(plan, height - 1);
-    let first = ends.first;
-    let last = ends.last;
-    let f = first.number;
-    let l = last.number;
-    if n == f {
-        return first.last;
+    if n == ends.first.number {
+        return ends.first.last;
     }
-    if n == l {
-        return last.last;
+    if n == ends.last.number {
+        return ends.last.last;
     }
-    if n < f {
-        return entry_before(height, old, n, x);
+    if n < ends.first.number || ends.last.number < n {
+        return was;
     }
-    if n < l {
-        return words::eight_of(paint.right);
-    }
-    entry_before(height, old, n, x)
+    words::eight_of(paint.right)
 }
 
 // What word `k` of the table of an edge is to hold.
@@ -153,16 +141,29 @@ fn table_after(plan: &[u32; PLAN_WORDS], height: u32, edge: Edge, k: PoolWord, x
     requires number_bound { (edge.number < blocks height) × (of_table height edge k.0 ≡ true) }
     ensures { result ≡ table_after (plan_in plan.now) height edge (k.0 - edge.last) x }
 {
-    let number = edge.number;
-    let old = edge.old;
     let begin = words::pool_word(edge.last);
     let j = entry_number(begin, k);
-    let size = table::size_of(height);
-    let n = size * number + j;
-    entry_after(plan, height, old, n, x)
+    let n = table::size_of(height) * edge.number + j;
+    entry_after(plan, height, edge.old, n, x)
+}
+
+// What word `k` is to hold if it is of the table of an edge of a height.
+fn ends_after(plan: &[u32; PLAN_WORDS], height: u32, k: PoolWord, x: u32) -> Option<u32>
+    requires { PlanFits (plan_in plan.now) × (height < heights) }
+    ensures { (y : ℕ) → unwrap_or result y ≡ ends_after (plan_in plan.now) height k.0 x y }
+{
+    let ends = plan::ends_in(plan, height);
+    if of_table(height, ends.first, k) {
+        return Some(table_after(plan, height, ends.first, k, x));
+    }
+    if of_table(height, ends.last, k) {
+        return Some(table_after(plan, height, ends.last, k, x));
+    }
+    None
 }
 
 // What word `k`, which holds `x`, is to hold. A word that the plan does not know stays as it is.
+#[tactic(auto, unfolding(plan::specs::Plan::after))]
 fn final_word(plan: &[u32; PLAN_WORDS], k: PoolWord, x: u32) -> u32
     requires { PlanFits (plan_in plan.now) }
     ensures { result ≡ after (plan_in plan.now) k.0 x }
@@ -172,42 +173,17 @@ fn final_word(plan: &[u32; PLAN_WORDS], k: PoolWord, x: u32) -> u32
         // What stands above a root always leads to it.
         return entry_after(plan, ROOT, 0, entry_number(root, k), x);
     }
-    let blocks = plan::ends_in(plan, 1);
-    let block = blocks.first;
-    if of_table(1, block, k) {
-        return table_after(plan, 1, block, k, x);
+    match ends_after(plan, 1, k, x) {
+        Some(y) => y,
+        None => ends_after(plan, 0, k, x).unwrap_or(x),
     }
-    let block2 = blocks.last;
-    if of_table(1, block2, k) {
-        return table_after(plan, 1, block2, k, x);
-    }
-    let pages = plan::ends_in(plan, 0);
-    let page = pages.first;
-    if of_table(0, page, k) {
-        return table_after(plan, 0, page, k, x);
-    }
-    let page2 = pages.last;
-    if of_table(0, page2, k) {
-        return table_after(plan, 0, page2, k, x);
-    }
-    x
 }
 
 // Whether word `k` is of the table of an edge that had none.
 fn of_new_table(height: u32, edge: Edge, k: PoolWord) -> bool
     ensures { result ≡ of_new height edge k.0 }
 {
-    let old = edge.old;
-    let last = edge.last;
-    if last >= words::BIT_31 {
-        return false;
-    }
-    if old < words::BIT_31 {
-        return false;
-    }
-    let begin = words::pool_word(last);
-    let size = table::size_of(height);
-    in_table(begin, size as usize, k)
+    edge.old >= words::BIT_31 && of_table(height, edge, k)
 }
 
 // Whether word `k` is of a new table of a height.
@@ -215,21 +191,14 @@ fn new_at(plan: &[u32; PLAN_WORDS], height: u32, k: PoolWord) -> bool
     ensures { result ≡ new_at (plan_in plan.now) height k.0 }
 {
     let ends = plan::ends_in(plan, height);
-    let first = ends.first;
-    let last = ends.last;
-    if of_new_table(height, first, k) {
-        return true;
-    }
-    of_new_table(height, last, k)
+    of_new_table(height, ends.first, k) || of_new_table(height, ends.last, k)
 }
 
+#[tactic(auto, unfolding(plan::specs::Plan::new_word))]
 fn new_word(plan: &[u32; PLAN_WORDS], k: PoolWord) -> bool
     ensures { result ≡ new_word (plan_in plan.now) k.0 }
 {
-    if new_at(plan, 1, k) {
-        return true;
-    }
-    new_at(plan, 0, k)
+    new_at(plan, 1, k) || new_at(plan, 0, k)
 }
 
 // The phase in which word `k`, which holds `x`, is stored: words that lead are given up first, then new tables are
@@ -242,16 +211,9 @@ fn phase_of(shape: Shape, plan: &[u32; PLAN_WORDS], k: PoolWord, x: u32) -> u32
         return 2;
     }
     // Most words do not lead, and then it does not matter where the leaves begin.
-    if x >= words::BIT_31 {
-        return 3;
-    }
-    let leaves = table::first_place(shape, 0);
-    let from = words::pool_index(leaves);
-    let i = words::pool_index(k);
-    if i >= from {
-        return 3;
-    }
-    1
+    let leads = x < words::BIT_31
+        && words::pool_index(k) < words::pool_index(table::first_place(shape, 0));
+    if leads { 1 } else { 3 }
 }
 
 // The one store. All stores of a change and of a tidying are made here, and none but one that is due: the pool is
@@ -266,54 +228,38 @@ fn put(pool: &mut [u32], shape: Shape, domain: u32, paint: Paint, at: PoolWord, 
     pool[i] = value;
 }
 
-// Which store the work makes next, from the cursor on. A tidying goes by the owners of the places as they were.
-fn next_store(
-    tidies: bool,
-    pool: &[u32],
-    shape: Shape,
-    owners: &[u32],
-    plan: &[u32; PLAN_WORDS],
-    from: Cursor,
-) -> Next
-    requires looks { Looks shape (work_in tidies plan.now) from pool.now }
-    requires told { Told shape (work_in tidies plan.now) owners.now pool.now }
-    ensures { NextIs shape (work_in tidies plan.now) pool.now from.phase from.word.0
-        result }
-{
-    if tidies {
-        return tidying::next_tidying(pool, shape, owners, from);
-    }
-    ahead::next_change(pool, shape, plan, from)
+// What a work goes by: it says which store comes next, from the cursor on. A change goes by its plan, a tidying by the
+// owners of the places as they were.
+trait Guide {
+    ghost work: { Self → Work };
+
+    ghost owners: { Self → List ℕ };
+
+    fn next_store(&self, pool: &[u32], shape: Shape, from: Cursor) -> Option<Store>
+        requires looks { Looks shape (work self.now) from pool.now }
+        requires told { Told shape (work self.now) (owners self.now) pool.now }
+        ensures { NextIs shape (work self.now) pool.now from.phase from.word.0 result };
 }
 
 // The one loop: it asks which store comes next, and makes it, until there is none or none is left. Besides `put`, and
 // `change` and `tidy`, which call it once, nothing holds the pool to write in; and nothing else is told the
-// allowance.
-fn make_stores(
+// allowance. It is not inlined, since the search for the next store would then stand on the stack of the planning too.
+#[inline(never)]
+fn make_stores<G: Guide>(
     pool: &mut [u32],
     shape: Shape,
-    owners: &[u32],
-    plan: &[u32; PLAN_WORDS],
-    tidies: bool,
+    domain: u32,
+    paint: Paint,
+    guide: &G,
     allowance: u32,
 ) -> Answer
-    requires ready { Ready shape (aim_of (plan_in plan.now).domain (plan_in plan.now).paint) (work_in tidies plan.now)
-        pool.old }
-    requires told { Told shape (work_in tidies plan.now) owners.now pool.old }
-    ensures { Ends pool.old shape
-        (aim_of (plan_in plan.now).domain (plan_in plan.now).paint) allowance result
-        pool.new }
+    requires ready { Ready shape (aim_of domain paint) (G.work guide.now) pool.old }
+    requires told { Told shape (G.work guide.now) (G.owners guide.now) pool.old }
+    ensures { Ends pool.old shape (aim_of domain paint) allowance result pool.new }
 {
-    let domain = plan::domain_in(plan);
-    let paint = plan::paint_in(plan);
     let mut left = allowance;
     let mut from = START;
-    loop {
-        let next = next_store(tidies, pool, shape, owners, plan, from);
-        let Next::Store(at, value, on) = next else {
-            let made = allowance - left;
-            return Answer::Done(made);
-        };
+    while let Some(Store { at, value, on }) = guide.next_store(pool, shape, from) {
         if left == 0 {
             return Answer::Cut;
         }
@@ -321,6 +267,7 @@ fn make_stores(
         left -= 1;
         from = on;
     }
+    Answer::Done(allowance - left)
 }
 
 // A request that is in order up to refusal 5. All is decided before the first store.
@@ -337,16 +284,13 @@ fn plan_region(
     requires domain_lt_domains { (domain < shape.domains) × Regular paint }
     ensures { RegionIs pool.now shape (aim_of domain paint) (plan_in plan.new) result }
 {
-    let sound = census::census(pool, shape, owners);
-    if !sound {
+    if !census::census(pool, shape, owners) {
         return Request::Refused(6);
     }
-    let settled = targets::settled(pool, shape, owners);
-    if !settled {
+    if !targets::settled(pool, shape, owners) {
         return Request::Refused(7);
     }
-    let ready = plan::plan_change(pool, shape, owners, domain, paint, plan);
-    if !ready {
+    if !plan::plan_change(pool, shape, owners, domain, paint, plan) {
         return Request::Refused(8);
     }
     Request::Planned
@@ -367,19 +311,16 @@ fn plan_request(
     ensures { RequestIs pool.now shape domain start.0 length right (plan_in plan.new)
         result }
 {
-    let n = pool.len();
-    if !table::shape_fits(shape, n) {
+    if !table::shape_fits(shape, pool.len()) {
         return Request::Refused(1);
     }
-    let domains = shape.domains;
-    if domain >= domains {
+    if domain >= shape.domains {
         return Request::Refused(2);
     }
     if right > 3 {
         return Request::Refused(3);
     }
-    let rounded = words::round_region(start, length);
-    match rounded {
+    match words::round_region(start, length) {
         Rounded::Refused(k) => Request::Refused(k),
         Rounded::Covers(g) => {
             let paint = Paint {
@@ -420,6 +361,11 @@ pub fn change(
     );
     match request {
         Request::Refused(k) => Answer::Refused(k),
-        Request::Planned => make_stores(pool, shape, &owners, &plan, false, allowance),
+        Request::Planned => {
+            let domain = plan::domain_in(&plan);
+            let paint = plan::paint_in(&plan);
+            let guide = ByPlan { plan: &plan };
+            make_stores(pool, shape, domain, paint, &guide, allowance)
+        }
     }
 }

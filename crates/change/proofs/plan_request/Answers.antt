@@ -19,35 +19,35 @@ pub returns-then-not-shape_fits : goal.returns-then-not-shape_fits
 returns-then-not-shape_fits c = λ n. no_shape (λ f. true≢false
     (sym (fits_test _ _ f) ∙ sym c.shape_fits.ensures ∙ c.if-not-shape_fits.true))
 
-pub returns-then-domain-domains : goal.returns-then-domain-domains
-returns-then-domain-domains c = λ n. no_domain (fits_at (goal.at.returns-then-domain-domains c).Else-not-shape_fits) c.if-domain-domains.true
+pub returns-then-domain-shape : goal.returns-then-domain-shape
+returns-then-domain-shape c = λ n. no_domain (fits_at (goal.at.returns-then-domain-shape c).Else-not-shape_fits) c.if-domain-shape.true
 
 pub returns-then-right-gt3 : goal.returns-then-right-gt3
-returns-then-right-gt3 c = λ n. no_right (fits_at (goal.at.returns-then-right-gt3 c).Else-not-shape_fits) (omega (arith, c.if-domain-domains.false)) c.if-right-gt3.true
+returns-then-right-gt3 c = λ n. no_right (fits_at (goal.at.returns-then-right-gt3 c).Else-not-shape_fits) (omega (arith, c.if-domain-shape.false)) c.if-right-gt3.true
 
 pub plan_region-requires : goal.plan_region-requires
 plan_region-requires c = let a = c.args in record {
   fits = fits_at (goal.at.plan_region-requires c).Else-not-shape_fits;
   owners_len = c.requires;
   domain_lt_domains = (
-    omega (arith, c.if-domain-domains.false),
+    omega (arith, c.if-domain-shape.false),
     covers_regular a.start.0 a.length a.right _ (omega (arith, c.if-right-gt3.false))
-        (sym c.round_region-rounded.ensures ∙ c.in-Covers.is),
+        (sym c.round_region.ensures ∙ c.in-Covers.is),
   );
 }
 
 pub returns-in-Refused : goal.returns-in-Refused
 returns-in-Refused c = λ n. no_region (fits_at (goal.at.returns-in-Refused c).Else-not-shape_fits)
-    (omega (arith, c.if-domain-domains.false))
+    (omega (arith, c.if-domain-shape.false))
     (omega (arith, c.if-right-gt3.false)) _
-    (sym c.round_region-rounded.ensures ∙ c.in-Refused.is)
+    (sym c.round_region.ensures ∙ c.in-Refused.is)
 
 pub returns-in-Covers : goal.returns-in-Covers
 returns-in-Covers c = let a = c.args in
     request_is a.pool.now a.shape a.domain a.start.0 a.length a.right _ c.plan_region.result
     (record {
       fits = fits_at (goal.at.returns-in-Covers c).Else-not-shape_fits;
-      domain = omega (arith, c.if-domain-domains.false);
+      domain = omega (arith, c.if-domain-shape.false);
       right = omega (arith, c.if-right-gt3.false);
-      region = sym c.round_region-rounded.ensures ∙ c.in-Covers.is;
+      region = sym c.round_region.ensures ∙ c.in-Covers.is;
     }) c.plan_region.ensures
