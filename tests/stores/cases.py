@@ -17,9 +17,10 @@ PUT = "put(pool, shape, domain, paint, at, value);"
 CHANGED = "make_stores(pool, shape, domain, paint, &guide, allowance)"
 TIDIED = "make_stores(pool, shape, 0, UNPAINTED, &guide, allowance)"
 FRESH = "table::fresh(&mut pool, serving::shape());"
+ZEROED = "pool[first_middle.index()..].fill(0);"
 LOAD = "let got = load(pool, at, loads);"
-WALK = "let walked = decide(pool, shape, domain, address);"
-WALK_OF_A_CHECK = "let walked = table::decide(pool, shape, domain, address);"
+WALK = "let by = decide(pool, shape, domain, address)?;"
+WALK_OF_A_CHECK = "let by = table::decide(pool, shape, domain, address)?;"
 BY = "change::change(pool, shape, domain, start, length, right, allowance)"
 MET = "let met = list::place_of(ws, asking, region);"
 
@@ -79,7 +80,7 @@ WRONG = [
      [before(CHANGE, "pub enum Work {", "impl Held { fn set(&mut self) { self.pool[0] = 7; } }")]),
     ("opens the one store to other crates", "called once", [(CHANGE, "\nfn put(", "\npub fn put(")]),
     ("writes the pool in the census", "below",
-     [lent(CENSUS, "census"), before(CENSUS, "    clear(owners);", "pool[0] = 7;")]),
+     [lent(CENSUS, "census"), before(CENSUS, "    owners.fill(NONE);", "pool[0] = 7;")]),
     ("lends the pool to one more function of the census", "below", [lent(CENSUS, "plain_ahead")]),
     ("writes the pool while it plans", "below",
      [(PLAN, "pub fn plan_change(\n    pool: &[u32]", "pub fn plan_change(\n    pool: &mut [u32]")]),
@@ -87,7 +88,7 @@ WRONG = [
     ("lends a plan to be altered once more", "held",
      [before(CHANGE, "    match request {", "plan::put_edge(&mut plan, 4, edge);")]),
     ("fills a part of the pool twice", "below",
-     [before(TABLE, "fill(&mut pool[roots..], 0);", "fill(&mut pool[roots..], 7);")]),
+     [before(TABLE, ZEROED, ZEROED.replace("0)", "7)"))]),
     ("makes a pool fresh in a tidying", "nobody else", [before(TIDYING, TIDIED, "table::fresh(pool, shape);")]),
     ("stores in the C face", "above", [before(FACE, "let answer = change::tidy(", "pool[0] = 7;")]),
     ("tidies twice in the C face", "above",
@@ -120,16 +121,16 @@ HARMLESS = [
 WRONG += [
     ("loads a word twice", "loads", [before(TABLE, LOAD, LOAD)]),
     ("reads a word without counting it", "loads", [before(TABLE, LOAD, "let seen = pool[0];")]),
-    ("walks twice in a lookup", "loads", [before(TABLE, WALK, WALK.replace("walked", "again"))]),
+    ("walks twice in a lookup", "loads", [before(TABLE, WALK, WALK.replace("by", "again"))]),
     ("looks at the pool by itself in a check", "loads", [before(BUFFER, WALK_OF_A_CHECK, "let seen = pool[0];")]),
     ("writes a word of a buffer and writes it back before a check", "states",
-     [before(BUFFER, "let hit = layout::find(", "let was = buffer[0]; buffer[0] = 7; buffer[0] = was;")]),
+     [before(BUFFER, "if let Some(slot) = layout::find(", "let was = buffer[0]; buffer[0] = 7; buffer[0] = was;")]),
     ("stores a slot that stays in a flush", "states",
-     [before(BUFFER, "if is_flushed(f, s) {", "layout::put_slot(ws, 4 * i, s);")]),
+     [before(BUFFER, "if empties(s) {", "layout::put_slot(ws, 4 * i, s);")]),
     ("stores the depth of a stack that a refusal leaves as it came", "states",
-     [before(STEPS, "    if back != asked {", "stack[DEPTH] = depth;")]),
+     [before(STEPS, "    if caller.back != target {", "stack[DEPTH] = depth;")]),
     ("holds a stack to write in where nothing is stored", "states",
-     [(STEPS, "fn frames_below(ws: &[u32]", "fn frames_below(ws: &mut [u32]")]),
+     [(STEPS, "fn frames_below(stack: &[u32;", "fn frames_below(stack: &mut [u32;")]),
     ("makes the change of a caller twice", "above", [before(OWNERS, BY, BY + ";")]),
     ("stores in the pool before the list is asked", "above",
      [before(OWNERS, "let leave = leave_of(", "pool[0] = 7;")]),

@@ -2,7 +2,7 @@
 
 # Who holds the pool to write in, and all that each does with it.
 HOLDERS = {
-    "table": {"fresh": ["length", "part to fill", "part to fill"], "fill": ["length", "store"]},
+    "table": {"fresh": ["length", "part filled", "part filled"]},
     "change": {
         "put": ["store"],
         "make_stores": ["to next_store", "to put"],
@@ -59,7 +59,7 @@ TOLD = {
 
 # The crates below `change`; in the census the owners of places are lent to write in, and in the plan its words.
 BELOW = next(line.split()[1:] for line in open("crates.txt") if line.startswith("change:"))
-OWNERS = {name: ["owners"] for name in ("clear", "give_place", "table_check", "entry_check", "census")}
+OWNERS = {name: ["owners"] for name in ("give_place", "table_check", "entry_check", "census")}
 PLANNERS = {
     name: ["plan"] for name in ("put_edge", "copy_edge", "draft_edge", "take_place", "plan_ends", "plan_change")
 }
@@ -95,17 +95,16 @@ STATES = {
         "fill_next": ["read", "to put_slot", "store"],
         "check": ["read", "to layout::find", "to layout::fill_next"],
         "flush": ["to layout::slot_at", "to layout::put_slot"],
-        "emptied": ["to flush", "store"],
+        "emptied": ["filled"],
         "flush_all": ["read", "to flush"],
         "flush_domain": ["read", "to flush"],
         "flush_region": ["read", "to flush"],
     },
     "gates": {
         "put_gate": ["store"] * 3,
-        "move_gate": ["read"] * 3 + ["store"] * 3,
         "put_frame": ["store"] * 2,
         "store_gate": ["to layout::put_gate", "store"],
-        "close_up": ["read", "to layout::move_gate", "store"],
+        "close_up": ["read", "to layout::gate_at", "to layout::put_gate", "store"],
         "no_gates": ["to layout::put_gate", "store"],
         "call_stack": ["to layout::put_frame", "store", "store"],
         "set_gate": ["read", "to places::place_of", "to places::store_gate", "to places::store_gate"],
@@ -141,9 +140,7 @@ READERS = {
         "load": ["read"],
     },
     "lookaside": {
-        "check": ["to decide"],
-        "decide": ["length", "to decide_by_walk"],
-        "decide_by_walk": ["to table::decide"],
+        "check": ["length", "to table::decide"],
     },
     "gates": {
         "plain_step": ["to fetch"],

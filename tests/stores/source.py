@@ -76,8 +76,8 @@ class Function:
         self.body = tokens[k + 1:self.end]
 
     def lent(self):
-        """The parameters whose words it may write; those of bytes and marks are none of the pool."""
-        marks = (["&", "mut", "[", "u8"], ["&", "mut", "[", "bool"])
+        """The parameters whose words it may write; those of bytes, marks and texts are none of the pool."""
+        marks = (["&", "mut", "[", "u8"], ["&", "mut", "[", "bool"], ["&", "mut", "fmt", "::"])
         return [name for name, kind in self.parameters.items() if "mut" in kind and kind[:4] not in marks]
 
 
@@ -130,6 +130,8 @@ def use(body, i):
     argument = first > 0 and body[first - 1] in "(," and after in (",", ")") and body[at] == "("
     if past > i + 1 and ASSIGNS.fullmatch(after):
         return "store" if after == "=" and first == i else "changing store"
+    if body[past:past + 3] == [".", "fill", "("]:
+        return "part filled" if past > i + 1 else "filled"
     if past > i + 1:
         return f"part to {path_before(body, at)}" if lent and argument else "read"
     if body[i + 1:i + 4] == [".", "len", "("]:
