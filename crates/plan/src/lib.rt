@@ -27,7 +27,7 @@ mod layout; // layout.rt: how a plan lies in its words
 pub use layout::{PLAN_WORDS, domain_in, ends_in, paint_in};
 
 // What a pointer holds while the place of its new table is still to be found: it leads, and no pool word has this
-// number.
+// number. An Option would take another of the lent words.
 pub const PENDING: u32 = 0x7FFF_FFFF;
 
 // A block or a page at an end of the region: its number in the domain, the entry that it had, and the entry that it
