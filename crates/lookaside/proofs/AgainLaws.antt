@@ -10,14 +10,14 @@ use lib.ListN.{length, set}
 use borrow.Author.Tests.{eq-eqb}
 use Rattle.theory.specs.Pool.{words, entry}
 use Rattle.theory.proofs.WalkLaws.{decides_low, decides_says}
+use Rattle.refusals.specs.declared.Refusal.TheVariants.{NotSound}
 use Rattle.table.specs.declared.Shape.{Shape}
 use Rattle.table.specs.declared.Deciding.{Deciding}
-use Rattle.table.specs.declared.Found.TheVariants.{By, Refused as NotFound}
 use Rattle.table.specs.Map.{form_of}
 use Rattle.table.specs.Lookup.{lookup_of}
 use Rattle.table.proofs.LookupLaws.{right_found, right_loads}
 use Rattle.lookaside.specs.declared.Slot.{Slot}
-use Rattle.std.specs.Prelude.{Option, Some, None, Ok}
+use Rattle.std.specs.Prelude.{Option, Some, None, Ok, Err}
 use Rattle.lookaside.specs.Slots.{Buffer, block_bytes, good_entry, matches, first_match, slot_for}
 use Rattle.lookaside.specs.Check.{refusal_of, walked, answered, check_of}
 use Rattle.lookaside.proofs.SlotLaws.{range_level, match_test}
@@ -32,7 +32,7 @@ good_entry_lem s (suc zero) w l g n = rw n at g
 good_entry_lem s (suc (suc zero)) w l g n = rw n at g
 good_entry_lem s (suc (suc (suc h))) w l g n = absurd (omega arith)
 
-filling_matches : (p : List ℕ) (s : Shape) (d a : ℕ) (x : Deciding) → lookup_of p s d a ≡ By x
+filling_matches : (p : List ℕ) (s : Shape) (d a : ℕ) (x : Deciding) → lookup_of p s d a ≡ Ok x
     → matches (slot_for d a x.entry x.loads) d a ≡ true
 filling_matches p s d a x e =
     let w = x.entry in
@@ -58,7 +58,7 @@ first_set (x ∷ xs) (suc i) d a s h m = go (matches x d a) (first_set xs i d a 
     go false t = t
 
 pub check_again : (p : List ℕ) (s : Shape) (b : Buffer) (d kind size a : ℕ) → b.next < length b.slots
-    → refusal_of s (length p) b.next d kind size a ≡ Ok tt → (lookup_of p s d a ≡ NotFound 6 → ⊥)
+    → refusal_of s (length p) b.next d kind size a ≡ Ok tt → (lookup_of p s d a ≡ Err NotSound → ⊥)
     → (t : Slot) × (first_match (check_of p s b d kind size a).buffer.slots d a ≡ Some t)
 check_again p s b d kind size a l e sound = rw (check_answered p s b d kind size a e)
     (go (first_match b.slots d a) refl)

@@ -7,16 +7,15 @@ use mathlib.Core.Bool.{Bool, true, false, cond, ◌&&◌, ◌||◌, not, false�
 use mathlib.Core.List.{List, [], ◌∷◌}
 use native.Mathlib.Omega.{arith}
 use lib.Dec.{eqb}
-use Rattle.std.specs.Prelude.{Option, Some, None}
+use Rattle.std.specs.Prelude.{Option, Some, None, Result, Ok, Err}
 use Rattle.std.specs.List.{All}
 use Rattle.std.proofs.lemmas.List.Elements.{All-head, All-tail, All-replicate, All-set, All-weaker, All-map}
 use Rattle.words.specs.declared.Region.{Region}
 use Rattle.words.specs.Region.{covered}
 use Rattle.theory.specs.Settled.{Together}
+use Rattle.refusals.specs.declared.Refusal.{Refusal}
 use Rattle.table.specs.declared.Shape.{Shape}
 use Rattle.table.specs.declared.Deciding.{Deciding}
-use Rattle.table.specs.declared.Found.{Found}
-use Rattle.table.specs.declared.Found.TheVariants.{By, Refused as NotFound}
 use Rattle.table.specs.Shape.{size}
 use Rattle.table.specs.Map.{addresses, block, form_of}
 use Rattle.table.specs.Lookup.{lookup_of}
@@ -118,7 +117,7 @@ pub block_together : (s : Shape) (h a c : ℕ) → a / block h ≡ c / block h �
 block_together s h a c e i lo hi =
     ap (λ q. q % size i) (block_count h i a lo ∙ ap (λ q. q / (block i / block h)) e ∙ sym (block_count h i c lo))
 
-filling_agrees : (p : List ℕ) (s : Shape) (d a : ℕ) (y : Deciding) (x : Places) → lookup_of p s d a ≡ By y
+filling_agrees : (p : List ℕ) (s : Shape) (d a : ℕ) (y : Deciding) (x : Places) → lookup_of p s d a ≡ Ok y
     → SlotAgrees s.domains (rights_of s p) x (slot_for d a y.entry y.loads)
 filling_agrees p s d a y x e f c hf hc z m =
     let n = y.loads in
@@ -128,12 +127,12 @@ filling_agrees p s d a y x e f c hf hc z m =
     sym (right_block p s d a y e c hc (block_together s (height_of n) a c q)) ∙ ap (λ v. rights_of s p v c)
     g.domain
 
-walked_agrees : (p : List ℕ) (s : Shape) (x : Places) (b : Buffer) (d kind a : ℕ) (f : Found) → lookup_of p s d a ≡ f
+walked_agrees : (p : List ℕ) (s : Shape) (x : Places) (b : Buffer) (d kind a : ℕ) (f : Result Deciding Refusal) → lookup_of p s d a ≡ f
     → AgreesBut s.domains (rights_of s p) x b → AgreesBut s.domains (rights_of s p) x (walked f b d kind a).buffer
-walked_agrees p s x b d kind a (By y) e g =
+walked_agrees p s x b d kind a (Ok y) e g =
     All-set (SlotAgrees s.domains (rights_of s p) x) b.slots b.next
     (slot_for d a y.entry y.loads) (filling_agrees p s d a y x e) g
-walked_agrees p s x b d kind a (NotFound n) e g = g
+walked_agrees p s x b d kind a (Err r) e g = g
 
 answered_agrees : (p : List ℕ) (s : Shape) (x : Places) (b : Buffer) (d kind a : ℕ) (h : Option Slot)
     → AgreesBut s.domains (rights_of s p) x b → AgreesBut s.domains (rights_of s p) x

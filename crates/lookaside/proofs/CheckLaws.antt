@@ -9,9 +9,10 @@ use native.Mathlib.Decide.{ℕ_discrete}
 use lib.ListN.{length}
 use lib.Dec.{eqb, ltb}
 use borrow.Author.Tests.{eq-eqb, ne_eqb, lt-ltb, le-ltb, eqb-true, ltb-true}
+use Rattle.refusals.specs.declared.Refusal.{Refusal}
+use Rattle.refusals.specs.declared.Refusal.TheVariants.{NoShape, NoDomain, NoAccess, NotAligned, BadState}
 use Rattle.table.specs.declared.Shape.{Shape}
-use Rattle.table.specs.declared.Found.{Found}
-use Rattle.table.specs.declared.Found.TheVariants.{By, Refused as NotFound}
+use Rattle.table.specs.declared.Deciding.{Deciding}
 use Rattle.table.specs.Shape.{fits_of}
 use Rattle.table.specs.Lookup.{lookup_of}
 use Rattle.table.specs.Access.{load, store, fetch}
@@ -37,27 +38,27 @@ access_some kind size e = elim (ℕ_discrete size 0) [
 
 -- The refusals, in their order.
 module _ (s : Shape) (long next d kind size a : ℕ) where
-  pub refused_shape : fits_of s long ≡ false → refusal_of s long next d kind size a ≡ Err 1
+  pub refused_shape : fits_of s long ≡ false → refusal_of s long next d kind size a ≡ Err NoShape
   unfolding refusal_of
   refused_shape f = rw f
 
   module _ (f : fits_of s long ≡ true) where
-    pub refused_pointer : 64 ≤ next → refusal_of s long next d kind size a ≡ Err 18
+    pub refused_pointer : 64 ≤ next → refusal_of s long next d kind size a ≡ Err BadState
     unfolding refusal_of
     refused_pointer n = rw (f, le-ltb next 64 n)
 
     module _ (n : next < 64) where
-      pub refused_domain : s.domains ≤ d → refusal_of s long next d kind size a ≡ Err 2
+      pub refused_domain : s.domains ≤ d → refusal_of s long next d kind size a ≡ Err NoDomain
       unfolding refusal_of
       refused_domain h = rw (f, lt-ltb next 64 n, le-ltb d s.domains h)
 
       module _ (h : d < s.domains) where
-        pub refused_access : is_access kind size ≡ false → refusal_of s long next d kind size a ≡ Err 9
+        pub refused_access : is_access kind size ≡ false → refusal_of s long next d kind size a ≡ Err NoAccess
         unfolding refusal_of
         refused_access k = rw (f, lt-ltb next 64 n, lt-ltb d s.domains h, k)
 
         module _ (k : is_access kind size ≡ true) where
-          pub refused_address : a % size ≢ 0 → refusal_of s long next d kind size a ≡ Err 10
+          pub refused_address : a % size ≢ 0 → refusal_of s long next d kind size a ≡ Err NotAligned
           unfolding refusal_of
           refused_address m = rw (f, lt-ltb next 64 n, lt-ltb d s.domains h, k, ne_eqb (a % size) 0 m)
 
@@ -83,9 +84,9 @@ module _ (s : Shape) (long next d kind size a : ℕ) where
       let (m, _) = met (eqb (a % size) 0) _ _ e4 in
       record { fits = f; pointer = ltb-true _ _ n; domain = ltb-true _ _ h; access = k; address = eqb-true _ _ m }
     where
-      met : (t : Bool) (n : ℕ) (rest : Result (Unit {0}) ℕ) → demand t n rest ≡ Ok tt → (t ≡ true) × (rest ≡ Ok tt)
-      met true n rest q = (refl, q)
-      met false n rest q = cc
+      met : (t : Bool) (r : Refusal) (rest : Result (Unit {0}) Refusal) → demand t r rest ≡ Ok tt → (t ≡ true) × (rest ≡ Ok tt)
+      met true r rest q = (refl, q)
+      met false r rest q = cc
 
 -- Of the buffer it only counts that the pointer is a slot's.
 pub refusal_pointer : (s : Shape) (long d kind size a n m : ℕ) → n < 64 → m < 64 → refusal_of s long n d kind size a
@@ -95,10 +96,10 @@ refusal_pointer s long d kind size a n m h k = rw (lt-ltb n 64 h, lt-ltb m 64 k)
 
 -- What a check answers, where it is refused before it asks the buffer and where it is not.
 module _ (p : List ℕ) (s : Shape) (b : Buffer) (d kind size a : ℕ) where
-  pub check_refused : (n : ℕ) → refusal_of s (length p) b.next d kind size a ≡ Err n
-      → check_of p s b d kind size a ≡ refusing n b
+  pub check_refused : (r : Refusal) → refusal_of s (length p) b.next d kind size a ≡ Err r
+      → check_of p s b d kind size a ≡ refusing r b
   unfolding check_of
-  check_refused n e = rw e
+  check_refused r e = rw e
 
   pub check_answered : refusal_of s (length p) b.next d kind size a ≡ Ok tt
       → check_of p s b d kind size a ≡ answered (first_match b.slots d a) p s b d kind a
@@ -107,22 +108,22 @@ module _ (p : List ℕ) (s : Shape) (b : Buffer) (d kind size a : ℕ) where
 
   -- What holds of it in both cases.
   pub check_cases : (P : Checked → Type 0)
-      → ((n : ℕ) → refusal_of s (length p) b.next d kind size a ≡ Err n → P (refusing n b))
+      → ((r : Refusal) → refusal_of s (length p) b.next d kind size a ≡ Err r → P (refusing r b))
       → (refusal_of s (length p) b.next d kind size a ≡ Ok tt → P (answered (first_match b.slots d a) p s b d kind a))
       → P (check_of p s b d kind size a)
   check_cases P refuses answers = go (refusal_of s (length p) b.next d kind size a) refl
     where
-      go : (r : Result (Unit {0}) ℕ) → refusal_of s (length p) b.next d kind size a ≡ r → P (check_of p s b d kind size a)
-      go (Err n) e = rw (check_refused n e) (refuses n e)
+      go : (r : Result (Unit {0}) Refusal) → refusal_of s (length p) b.next d kind size a ≡ r → P (check_of p s b d kind size a)
+      go (Err r) e = rw (check_refused r e) (refuses r e)
       go (Ok _) e = rw (check_answered e) (answers e)
 
   -- A pointer that is a slot's stays one.
   pub check_pointer : b.next < 64 → (check_of p s b d kind size a).buffer.next < 64
   check_pointer h = check_cases (λ c. c.buffer.next < 64) (λ _ _. h) (λ _. answers (first_match b.slots d a))
     where
-      walks : (f : Found) → (walked f b d kind a).buffer.next < 64
-      walks (By x) = omega arith
-      walks (NotFound n) = h
+      walks : (f : Result Deciding Refusal) → (walked f b d kind a).buffer.next < 64
+      walks (Ok x) = omega arith
+      walks (Err e) = h
 
       answers : (t : Option Slot) → (answered t p s b d kind a).buffer.next < 64
       answers (Some t) = h

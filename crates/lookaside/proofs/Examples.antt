@@ -4,6 +4,7 @@ use mathlib.Core.Bool.{false}
 use mathlib.Core.List.{[], ◌∷◌}
 use Prim.Native.Nat.{ℕ}
 use lib.ListN.{get_or}
+use Rattle.refusals.specs.declared.Refusal.TheVariants.{NoDomain, EmptyRegion, PastTheEnd, NoAccess, NotAligned, BadState}
 use Rattle.words.specs.Region.{region_of}
 use Rattle.table.specs.declared.Shape.{Shape}
 use Rattle.table.specs.Access.{load, store, fetch}
@@ -61,11 +62,11 @@ unfolding asked one_root empty_buffer check_of refusal_of first_match matches ho
 fills = (refl, refl)
 
 -- Refusals, and their order: no size 3, no fetch of 2 bytes, a size before an address, a pointer before a domain.
-refusals : ((asked two_slots 0 load 3 0x400004).verdict ≡ Err 9)
-    × ((asked two_slots 0 fetch 2 0x400004).verdict ≡ Err 9)
-    × ((asked two_slots 0 3 4 0x400004).verdict ≡ Err 9) × ((asked two_slots 0 store 2 0x400003).verdict ≡ Err 10)
-    × ((asked two_slots 0 load 3 0x400001).verdict ≡ Err 9) × ((asked two_slots 1 load 3 0).verdict ≡ Err 2)
-    × ((asked (record { slots = []; next = 64 }) 1 load 4 0).verdict ≡ Err 18)
+refusals : ((asked two_slots 0 load 3 0x400004).verdict ≡ Err NoAccess)
+    × ((asked two_slots 0 fetch 2 0x400004).verdict ≡ Err NoAccess)
+    × ((asked two_slots 0 3 4 0x400004).verdict ≡ Err NoAccess) × ((asked two_slots 0 store 2 0x400003).verdict ≡ Err NotAligned)
+    × ((asked two_slots 0 load 3 0x400001).verdict ≡ Err NoAccess) × ((asked two_slots 1 load 3 0).verdict ≡ Err NoDomain)
+    × ((asked (record { slots = []; next = 64 }) 1 load 4 0).verdict ≡ Err BadState)
 unfolding asked one_root two_slots root_slot leaf_slot check_of refusal_of
 refusals = (refl, refl, refl, refl, refl, refl, refl)
 
@@ -81,9 +82,9 @@ unfolding two_slots root_slot leaf_slot pointed region_of flushed_buffer flushed
 flush_elsewhere = refl
 
 -- Its refusals, in order.
-flush_refusals : (flushed_region two_slots 0 0xFFFFFFFC 0 ≡ refused 4 two_slots)
-    × (flushed_region two_slots 0 0xFFFFFFFC 5 ≡ refused 5 two_slots)
-    × (flushed_region (record { slots = []; next = 64 }) 0 0xFFFFFFFC 0 ≡ refused 18 (record { slots = []; next = 64 }))
+flush_refusals : (flushed_region two_slots 0 0xFFFFFFFC 0 ≡ refused EmptyRegion two_slots)
+    × (flushed_region two_slots 0 0xFFFFFFFC 5 ≡ refused PastTheEnd two_slots)
+    × (flushed_region (record { slots = []; next = 64 }) 0 0xFFFFFFFC 0 ≡ refused BadState (record { slots = []; next = 64 }))
 unfolding two_slots root_slot leaf_slot pointed region_of
 flush_refusals = (refl, refl, refl)
 

@@ -12,6 +12,7 @@ use lib.ListN.{length, get_or, take, drop, set, replicate, length-set, drop_of_l
 use lib.Seq.{sets, set-get_or, drop-cons, get_or_at, get_or-append_seam, get_or-append-add}
 use Rattle.std.specs.List.{range_with_len}
 use Rattle.std.proofs.lemmas.List.FromFn.{map-range_with_len_more}
+use Rattle.refusals.specs.declared.Refusal.TheVariants.{BadState}
 use Rattle.rows.specs.Rows.{rows_of, words_of}
 use Rattle.rows.proofs.Layouts.{Layout}
 use Rattle.rows.proofs.RowLaws.{add_two, add_three, length_said, length_words, row_again, words_set, words_set_after}
@@ -19,7 +20,7 @@ use Rattle.rows.proofs.RowLaws.{words_said, rows_words}
 use Rattle.lookaside.specs.declared.Slot.{Slot}
 use Rattle.std.specs.Prelude.{Ok}
 use Rattle.lookaside.specs.Slots.{Buffer, empty_slot, empty_buffer, filled}
-use Rattle.lookaside.specs.Flushes.{Flushing, flushes, flushed_slot, flushed_buffer, done, refused, pointed}
+use Rattle.lookaside.specs.Flushes.{Flushing, Flushed, flushes, flushed_slot, flushed_buffer, done, refused, pointed}
 use Rattle.lookaside.specs.Check.{demand}
 use Rattle.lookaside.specs.Layout.{IsBuffer, slot_at, slot_words, buffer_of, buffer_words, FlushedAs}
 use Rattle.lookaside.proofs.BufferLaws.{map_to, length_map_to, map_to_turn}
@@ -150,11 +151,12 @@ unfolding empty_buffer words_of
 emptied_words = refl
 
 -- What a flush that is done leaves in the words.
-pub flush_done_as : (b : Buffer) (ws : List ℕ) (f : Flushing) → demand (ltb b.next 64) 18 (Ok tt) ≡ Ok tt
-    → ws ≡ buffer_words (flushed_buffer f b) → FlushedAs (pointed b (done f b)) (Ok tt) ws
+pub flush_done_as : (b : Buffer) (ws : List ℕ) (r : Flushed) (f : Flushing) → r ≡ pointed b (done f b)
+    → demand (ltb b.next 64) BadState (Ok tt) ≡ Ok tt
+    → ws ≡ buffer_words (flushed_buffer f b) → FlushedAs r (Ok tt) ws
 unfolding pointed
-flush_done_as b ws f e q = go (ltb b.next 64) e
+flush_done_as b ws r f is e q = rw is (go (ltb b.next 64) e)
   where
-    go : (t : Bool) → demand t 18 (Ok tt) ≡ Ok tt → FlushedAs (cond t (done f b) (refused 18 b)) (Ok tt) ws
+    go : (t : Bool) → demand t BadState (Ok tt) ≡ Ok tt → FlushedAs (cond t (done f b) (refused BadState b)) (Ok tt) ws
     go true e = (refl, q)
     go false e = cc

@@ -6,13 +6,13 @@ use mathlib.Core.Bool.{Bool, true, false, cond}
 use mathlib.Core.List.{List}
 use lib.Dec.{ltb}
 use lib.ListN.{length, length-set, length-map}
-use Rattle.words.specs.declared.Rounded.{Rounded}
-use Rattle.words.specs.declared.Rounded.TheVariants.{Covers, Refused as NoRegion}
+use Rattle.refusals.specs.declared.Refusal.{Refusal}
+use Rattle.words.specs.declared.Region.{Region}
 use Rattle.words.specs.Region.{region_of}
 use Rattle.table.specs.declared.Shape.{Shape}
-use Rattle.std.specs.Prelude.{Option, Some, None}
-use Rattle.table.specs.declared.Found.{Found}
-use Rattle.table.specs.declared.Found.TheVariants.{By, Refused as NotFound}
+use Rattle.refusals.specs.declared.Refusal.TheVariants.{BadState}
+use Rattle.std.specs.Prelude.{Option, Some, None, Result, Ok, Err}
+use Rattle.table.specs.declared.Deciding.{Deciding}
 use Rattle.table.specs.Lookup.{lookup_of}
 use Rattle.lookaside.specs.declared.Slot.{Slot}
 use Rattle.lookaside.specs.Slots.{Buffer, first_match}
@@ -29,9 +29,9 @@ check_slots : (p : List ℕ) (s : Shape) (b : Buffer) (d kind size a : ℕ)
 check_slots p s b d kind size a = check_cases p s b d kind size a (λ c. length c.buffer.slots ≡ length b.slots)
     (λ _ _. refl) (λ _. answers (first_match b.slots d a))
   where
-    walks : (f : Found) → length (walked f b d kind a).buffer.slots ≡ length b.slots
-    walks (By x) = length-set b.slots b.next _
-    walks (NotFound n) = refl
+    walks : (f : Result Deciding Refusal) → length (walked f b d kind a).buffer.slots ≡ length b.slots
+    walks (Ok x) = length-set b.slots b.next _
+    walks (Err e) = refl
 
     answers : (t : Option Slot) → length (answered t p s b d kind a).buffer.slots ≡ length b.slots
     answers (Some t) = refl
@@ -44,20 +44,20 @@ check_says p s ws d kind size a = buffer_again (check_of p s (buffer_of ws) d ki
 
 -- A flush is refused and keeps the buffer, or empties some slots of it.
 pub data Flushes (b : Buffer) : Flushed → Type 0 where
-  refuses : (n : ℕ) → Flushes b (refused n b)
+  refuses : (r : Refusal) → Flushes b (refused r b)
   empties : (f : Flushing) → Flushes b (done f b)
 
 pointed_flushes : (b : Buffer) {r : Flushed} → Flushes b r → Flushes b (pointed b r)
 unfolding pointed
 pointed_flushes b {r} x = go (ltb b.next 64)
   where
-    go : (t : Bool) → Flushes b (cond t r (refused 18 b))
+    go : (t : Bool) → Flushes b (cond t r (refused BadState b))
     go true = x
-    go false = refuses 18
+    go false = refuses BadState
 
-rounded_flushes : (b : Buffer) (d : ℕ) (r : Rounded) → Flushes b (flushed_rounded r b d)
-rounded_flushes b d (Covers g) = empties _
-rounded_flushes b d (NoRegion n) = refuses n
+rounded_flushes : (b : Buffer) (d : ℕ) (r : Result Region Refusal) → Flushes b (flushed_rounded r b d)
+rounded_flushes b d (Ok g) = empties _
+rounded_flushes b d (Err r) = refuses r
 
 pub all_flushes : (b : Buffer) → Flushes b (flushed_whole b)
 all_flushes b = pointed_flushes b (empties _)

@@ -10,10 +10,10 @@ use lib.ListN.{length}
 use Rattle.theory.specs.Form.{Form}
 use Rattle.theory.specs.Pool.{words, entry}
 use Rattle.theory.specs.Walk.{End, bad, decides, walk}
+use Rattle.refusals.specs.declared.Refusal.{Refusal}
+use Rattle.refusals.specs.declared.Refusal.TheVariants.{NotSound}
 use Rattle.table.specs.declared.Shape.{Shape}
 use Rattle.table.specs.declared.Deciding.{Deciding}
-use Rattle.table.specs.declared.Found.{Found}
-use Rattle.table.specs.declared.Found.TheVariants.{By, Refused as NotFound}
 use Rattle.table.specs.Shape.{fits_of}
 use Rattle.table.specs.Map.{addresses, form_of}
 use Rattle.table.specs.Lookup.{found_at, lookup_of}
@@ -28,16 +28,16 @@ use Rattle.lookaside.specs.Agree.{Places, rights_of, AgreesBut}
 use Rattle.lookaside.proofs.CheckLaws.{Allowed, allowed, check_refused, check_answered, refusal_pointer}
 use Rattle.lookaside.proofs.AgreeLaws.{emptied_agrees, hit_right}
 
--- A lookup of a domain of the shape is refused 6 or finds a right.
-abbrev pub SixOrFound : Found → Type 0
-SixOrFound f = (f ≡ NotFound 6) ⊎ ((x : Deciding) × (f ≡ By x))
+-- A lookup of a domain of the shape finds that the pool is not sound, or a right.
+abbrev pub NotSoundOrFound : Result Deciding Refusal → Type 0
+NotSoundOrFound f = (f ≡ Err NotSound) ⊎ ((x : Deciding) × (f ≡ Ok x))
 
-found_cases : (F : Form) (P : ℕ → ℕ) (a : ℕ) (e : End) → SixOrFound (found_at F P a e)
+found_cases : (F : Form) (P : ℕ → ℕ) (a : ℕ) (e : End) → NotSoundOrFound (found_at F P a e)
 found_cases F P a bad = inl refl
 found_cases F P a (decides h k) = inr (_, refl)
 
 pub lookup_cases : (p : List ℕ) (s : Shape) (d a : ℕ) → fits_of s (length p) ≡ true → d < s.domains
-    → SixOrFound (lookup_of p s d a)
+    → NotSoundOrFound (lookup_of p s d a)
 lookup_cases p s d a f h =
     rw (lookup_walks p s d a f h) (found_cases (form_of s) (words p) a
     (walk (form_of s) (words p) a 2 (entry (form_of s) d a)))
@@ -52,26 +52,26 @@ said_verdict kind r n = go (passes_of kind r)
     go true = refl
     go false = refl
 
--- A check that is not refused at once can only be refused 6.
-pub only_six : (p : List ℕ) (s : Shape) (b : Buffer) (d kind size a n : ℕ) → refusal_of s (length p) b.next d kind
-    size a ≡ Ok tt
-    → (check_of p s b d kind size a).verdict ≡ Err n → n ≡ 6
-only_six p s b d kind size a n e v = go (first_match b.slots d a) (rw (check_answered p s b d kind size a e) at v)
+-- A check that is not refused at once can only be refused because the pool is not sound.
+pub only_not_sound : (p : List ℕ) (s : Shape) (b : Buffer) (d kind size a : ℕ) (r : Refusal) → refusal_of s (length p)
+    b.next d kind size a ≡ Ok tt
+    → (check_of p s b d kind size a).verdict ≡ Err r → r ≡ NotSound
+only_not_sound p s b d kind size a r e v = go (first_match b.slots d a) (rw (check_answered p s b d kind size a e) at v)
   where
     ok : Allowed s (length p) b.next d kind size a
     ok = allowed s (length p) b.next d kind size a e
 
-    walked_six : (f : Found) → SixOrFound f → (walked f b d kind a).verdict ≡ Err n → n ≡ 6
-    walked_six (By x) c q = cc
-    walked_six (NotFound m) c q = ⊎_elim (λ h. cc) (λ t. let h = t.1 in cc) c
+    walks : (f : Result Deciding Refusal) → NotSoundOrFound f → (walked f b d kind a).verdict ≡ Err r → r ≡ NotSound
+    walks (Ok x) c q = cc
+    walks (Err m) c q = ⊎_elim (λ h. cc) (λ t. let h = t.1 in cc) c
 
-    go : (h : Option Slot) → (answered h p s b d kind a).verdict ≡ Err n → n ≡ 6
+    go : (h : Option Slot) → (answered h p s b d kind a).verdict ≡ Err r → r ≡ NotSound
     go (Some t) q = cc
-    go None q = walked_six (lookup_of p s d a) (lookup_cases p s d a ok.fits ok.domain) q
+    go None q = walks (lookup_of p s d a) (lookup_cases p s d a ok.fits ok.domain) q
 
 -- What a check says, at a place that is not stale, where the walk meets no bad entry.
 module _ (p : List ℕ) (s : Shape) (x : Places) (d kind size a : ℕ) (z : x d a ≡ false) (ha : a < addresses)
-    (sound : lookup_of p s d a ≡ NotFound 6 → ⊥) where
+    (sound : lookup_of p s d a ≡ Err NotSound → ⊥) where
   -- It passes exactly where the table's right lets it, in at most 3 loads.
   pub check_right : (b : Buffer) → AgreesBut s.domains (rights_of s p) x b → refusal_of s (length p) b.next d kind
       size a ≡ Ok tt
@@ -112,13 +112,13 @@ module _ (p : List ℕ) (s : Shape) (x : Places) (d kind size a : ℕ) (z : x d 
   unfolding empty_buffer
   check_as_emptied b g h = go r refl
     where
-      r : Result (Unit {0}) ℕ
+      r : Result (Unit {0}) Refusal
       r = refusal_of s (length p) empty_buffer.next d kind size a
 
       same : refusal_of s (length p) b.next d kind size a ≡ r
       same = refusal_pointer s (length p) d kind size a b.next empty_buffer.next h (omega arith)
 
-      go : (t : Result (Unit {0}) ℕ) → r ≡ t → without_loads (check_of p s b d kind size a).verdict
+      go : (t : Result (Unit {0}) Refusal) → r ≡ t → without_loads (check_of p s b d kind size a).verdict
           ≡ without_loads (check_of p s empty_buffer d kind size a).verdict
       go (Ok _) e = check_verdict b g (same ∙ e)
           ∙ sym (check_verdict empty_buffer (emptied_agrees s.domains (rights_of s p) x) e)

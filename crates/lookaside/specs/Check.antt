@@ -1,9 +1,11 @@
 -- Checks: which accesses there are, what is refused and in which order, and what a check answers.
 use Rattle.std.specs.Prelude.{ℕ, ◌%◌, Bool, cond, ◌&&◌, ◌||◌, List, length, eqb, ltb, Option, Some, None}
 use Rattle.std.specs.Prelude.{Result, Ok, Err}
+use Rattle.refusals.specs.declared.Refusal.{Refusal}
+use Rattle.refusals.specs.declared.Refusal.TheVariants.{NoShape, NoDomain, NoAccess, NotAligned, BadState}
+use Rattle.refusals.specs.Refusals.{number}
 use Rattle.table.specs.declared.Shape.{Shape}
-use Rattle.table.specs.declared.Found.{Found}
-use Rattle.table.specs.declared.Found.TheVariants.{By, Refused as NotFound}
+use Rattle.table.specs.declared.Deciding.{Deciding}
 use Rattle.table.specs.Shape.{fits_of}
 use Rattle.table.specs.Lookup.{lookup_of}
 use Rattle.table.specs.Access.{load, store, fetch, passes_of}
@@ -14,7 +16,7 @@ use Rattle.lookaside.specs.Slots.{Buffer, first_match, slot_right, slot_for, fil
 
 -- A check: what it says, and the buffer that its words then say.
 pub record Checked : Type 0 where
-  pub verdict : Result Verdict ℕ
+  pub verdict : Result Verdict Refusal
   pub buffer : Buffer
 
 -- The paper's numbers for what comes back.
@@ -24,13 +26,13 @@ pub record Numbers : Type 0 where
   pub loads : ℕ
 
 -- The verdict pass is 1 and deny is 0; a refusal is its number with all other results zero.
-abbrev pub numbers : Result Verdict ℕ → Numbers
+abbrev pub numbers : Result Verdict Refusal → Numbers
 numbers (Ok (Pass n)) = record { refusal = 0; verdict = 1; loads = n }
 numbers (Ok (Deny n)) = record { refusal = 0; verdict = 0; loads = n }
-numbers (Err e) = record { refusal = e; verdict = 0; loads = 0 }
+numbers (Err e) = record { refusal = number e; verdict = 0; loads = 0 }
 
 -- The numbers but for the loads, which alone depend on what the buffer held.
-abbrev pub without_loads : Result Verdict ℕ → Numbers
+abbrev pub without_loads : Result Verdict Refusal → Numbers
 without_loads v = record { refusal = (numbers v).refusal; verdict = (numbers v).verdict; loads = 0 }
 
 -- Loads and stores are of 1, 2 or 4 bytes, fetches of 4.
@@ -39,17 +41,17 @@ is_access kind size =
     cond (eqb kind load || eqb kind store) (eqb size 1 || eqb size 2 || eqb size 4) (eqb kind fetch && eqb size 4)
 
 -- The refusal `e` where the test fails; what comes after it where it holds.
-abbrev pub demand : Bool → ℕ → Result (Unit {0}) ℕ → Result (Unit {0}) ℕ
+abbrev pub demand : Bool → Refusal → Result (Unit {0}) Refusal → Result (Unit {0}) Refusal
 demand test e rest = cond test rest (Err e)
 
 -- Whether a check of a pool of `long` words and a buffer whose pointer is `next` is refused before any slot is asked.
-unfoldable pub refusal_of : Shape → ℕ → ℕ → ℕ → ℕ → ℕ → ℕ → Result (Unit {0}) ℕ
+unfoldable pub refusal_of : Shape → ℕ → ℕ → ℕ → ℕ → ℕ → ℕ → Result (Unit {0}) Refusal
 refusal_of s long next d kind size a =
-    demand (fits_of s long) 1
-    (demand (ltb next 64) 18
-    (demand (ltb d s.domains) 2
-    (demand (is_access kind size) 9
-    (demand (eqb (a % size) 0) 10
+    demand (fits_of s long) NoShape
+    (demand (ltb next 64) BadState
+    (demand (ltb d s.domains) NoDomain
+    (demand (is_access kind size) NoAccess
+    (demand (eqb (a % size) 0) NotAligned
     (Ok tt)))))
 
 -- The verdict on a right that was found with `n` loads.
@@ -57,14 +59,14 @@ abbrev pub verdict_of : ℕ → ℕ → ℕ → Verdict
 verdict_of kind right n = cond (passes_of kind right) (Pass n) (Deny n)
 
 -- A refusal gives back the buffer that came in.
-abbrev pub refusing : ℕ → Buffer → Checked
-refusing n b = record { verdict = Err n; buffer = b }
+abbrev pub refusing : Refusal → Buffer → Checked
+refusing e b = record { verdict = Err e; buffer = b }
 
 -- A miss, by what the lookup found: pass or deny, the slot at the pointer is filled.
-abbrev pub walked : Found → Buffer → ℕ → ℕ → ℕ → Checked
-walked (By x) b d kind a =
+abbrev pub walked : Result Deciding Refusal → Buffer → ℕ → ℕ → ℕ → Checked
+walked (Ok x) b d kind a =
     record { verdict = Ok (verdict_of kind x.right x.loads); buffer = filled b (slot_for d a x.entry x.loads) }
-walked (NotFound n) b d kind a = refusing n b
+walked (Err e) b d kind a = refusing e b
 
 -- A check that is not refused, by the slot that answers: with 0 loads, or by a walk.
 abbrev pub answered : Option Slot → List ℕ → Shape → Buffer → ℕ → ℕ → ℕ → Checked
@@ -72,9 +74,9 @@ answered (Some t) p s b d kind a = record { verdict = Ok (verdict_of kind (slot_
 answered None p s b d kind a = walked (lookup_of p s d a) b d kind a
 
 -- A check that would be `c`, by whether it is refused before it asks the buffer.
-abbrev pub unless_refused : Result (Unit {0}) ℕ → Buffer → Checked → Checked
+abbrev pub unless_refused : Result (Unit {0}) Refusal → Buffer → Checked → Checked
 unless_refused (Ok _) b c = c
-unless_refused (Err n) b c = refusing n b
+unless_refused (Err e) b c = refusing e b
 
 -- What a check for domain `d` of an access of a kind and a size at the address `a` answers.
 unfoldable pub check_of : List ℕ → Shape → Buffer → ℕ → ℕ → ℕ → ℕ → Checked

@@ -1,8 +1,8 @@
 -- Flushes: which slots they empty, and what they answer.
 use Rattle.std.specs.Prelude.{ℕ, ◌+◌, ◌*◌, Bool, true, cond, ◌&&◌, map, ltb, ◌≡◌, Result, Ok, Err}
+use Rattle.refusals.specs.declared.Refusal.{Refusal}
+use Rattle.refusals.specs.declared.Refusal.TheVariants.{BadState}
 use Rattle.words.specs.declared.Region.{Region}
-use Rattle.words.specs.declared.Rounded.{Rounded}
-use Rattle.words.specs.declared.Rounded.TheVariants.{Covers, Refused}
 use Rattle.words.specs.Region.{region_of}
 use Rattle.lookaside.specs.declared.Slot.{Slot}
 use Rattle.lookaside.specs.Slots.{Buffer, block_bytes, holds_for, empty_slot}
@@ -15,7 +15,7 @@ pub data Flushing : Type 0 where
 
 -- A flush: what it answers, and the buffer that its words then say.
 pub record Flushed : Type 0 where
-  pub answer : Result (Unit {0}) ℕ
+  pub answer : Result (Unit {0}) Refusal
   pub buffer : Buffer
 
 -- The slot's block meets the region: each begins before the other ends, in bytes.
@@ -45,12 +45,12 @@ abbrev pub done : Flushing → Buffer → Flushed
 done f b = record { answer = Ok tt; buffer = flushed_buffer f b }
 
 -- A flush that is refused gives back the buffer that came in.
-abbrev pub refused : ℕ → Buffer → Flushed
-refused n b = record { answer = Err n; buffer = b }
+abbrev pub refused : Refusal → Buffer → Flushed
+refused e b = record { answer = Err e; buffer = b }
 
--- Every flush is first refused 18 for a pointer above 63.
+-- Every flush is first refused for a pointer above 63.
 unfoldable pub pointed : Buffer → Flushed → Flushed
-pointed b r = cond (ltb b.next 64) r (refused 18 b)
+pointed b r = cond (ltb b.next 64) r (refused BadState b)
 
 -- The flush of all.
 abbrev pub flushed_whole : Buffer → Flushed
@@ -60,10 +60,10 @@ flushed_whole b = pointed b (done Whole b)
 abbrev pub flushed_domain : Buffer → ℕ → Flushed
 flushed_domain b d = pointed b (done (OfDomain d) b)
 
--- The flush of a region as it was rounded, or its refusal 4 or 5.
-abbrev pub flushed_rounded : Rounded → Buffer → ℕ → Flushed
-flushed_rounded (Covers r) b d = done (OfRegion d r) b
-flushed_rounded (Refused n) b d = refused n b
+-- The flush of a region as it was rounded, or its refusal.
+abbrev pub flushed_rounded : Result Region Refusal → Buffer → ℕ → Flushed
+flushed_rounded (Ok r) b d = done (OfRegion d r) b
+flushed_rounded (Err e) b d = refused e b
 
 -- The flush of a region in one domain, which may be any number; the region is rounded and refused as a change's.
 abbrev pub flushed_region : Buffer → ℕ → ℕ → ℕ → Flushed

@@ -14,7 +14,7 @@ pub fn slot_at(ws: &[u32; BUFFER_WORDS], at: usize) -> Slot
     Slot {
         domain: ws[at],
         level: ws[at + 1],
-        block: words::byte_addr(ws[at + 2]),
+        block: ByteAddr::from(ws[at + 2]),
         entry: ws[at + 3],
     }
 }
@@ -25,7 +25,7 @@ pub fn put_slot(ws: &mut [u32; BUFFER_WORDS], at: usize, s: Slot)
 {
     ws[at] = s.domain;
     ws[at + 1] = s.level;
-    ws[at + 2] = words::addr_number(s.block);
+    ws[at + 2] = u32::from(s.block);
     ws[at + 3] = s.entry;
 }
 
@@ -33,10 +33,7 @@ pub fn put_slot(ws: &mut [u32; BUFFER_WORDS], at: usize, s: Slot)
 fn one_of(block: ByteAddr, root: ByteAddr, middle: ByteAddr, leaf: ByteAddr) -> bool
     ensures { result ≡ (eqb root.0 block.0 || eqb middle.0 block.0 || eqb leaf.0 block.0) }
 {
-    let b = words::addr_number(block);
-    words::addr_number(root) == b
-        || words::addr_number(middle) == b
-        || words::addr_number(leaf) == b
+    root == block || middle == block || leaf == block
 }
 
 // The lowest slot that matches. Most slots are passed over by one word: a slot that matches has the block of its level
@@ -47,14 +44,14 @@ pub fn find(ws: &[u32; BUFFER_WORDS], domain: u32, address: ByteAddr) -> Option<
     let root = slots::block_of(1, address);
     let middle = slots::block_of(2, address);
     let leaf = slots::block_of(3, address);
-    (0..64).map(|i| slot_at(ws, 4 * i)).find(|s| {
+    (0..SLOTS as usize).map(|i| slot_at(ws, 4 * i)).find(|s| {
         one_of(s.block, root, middle, leaf) && slots::slot_matches(*s, domain, address)
     })
 }
 
 // A slot stored at the pointer, which moves on.
 pub fn fill_next(ws: &mut [u32; BUFFER_WORDS], s: Slot)
-    requires { get_or ws.old 256 0 < 64 }
+    requires { get_or ws.old NEXT 0 < SLOTS }
     ensures { ws.new ≡ buffer_words (filled (buffer_of ws.old) s) }
 {
     let next = ws[NEXT];

@@ -9,8 +9,9 @@ ghost use Rattle.lookaside.specs.Flushes.{flushed_region};
 ghost use Rattle.lookaside.specs.Check.{is_access, demand, refusal_of, verdict_of, check_of};
 ghost use Rattle.lookaside.specs.Layout.{buffer_of, buffer_words, CheckedAs, FlushedAs};
 
-use table::{Shape, Walked};
-use words::{ByteAddr, Region, Rounded};
+use refusals::Refusal;
+use table::Shape;
+use words::ByteAddr;
 
 mod layout;
 mod slots;
@@ -24,7 +25,8 @@ pub const BUFFER_WORDS: usize = 257;
 // Which word of a buffer is next, its pointer.
 const NEXT: usize = 256;
 
-// One entry that decided a lookup, for a domain and the block of a level (1 root, 2 middle, 3 leaf).
+// One entry that decided a lookup, for a domain and the block of a level (1 root, 2 middle, 3 leaf). Its fields are the
+// words as they lie in the buffer: lent words may hold any number, so the level is one too.
 #[derive(Clone, Copy)]
 pub struct Slot {
     pub domain: u32,
@@ -40,7 +42,8 @@ pub enum Verdict {
     Deny(u32),
 }
 
-// Whether there are accesses of this kind and size.
+// Whether there are accesses of this kind and size. Both stay numbers: they come from outside, `check` answers for any, and
+// `table::passes` takes the kind as it came.
 fn is_access(kind: u32, size: u32) -> bool
     ensures { result ≡ is_access kind size }
 {
@@ -65,11 +68,11 @@ fn past_size(a: u32, size: u32) -> u32
 }
 
 // Whether the pointer is a slot's.
-fn pointed(next: u32) -> Result<(), u32>
-    ensures { result ≡ demand (ltb next 64) 18 (Ok tt) }
+fn pointed(next: u32) -> Result<(), Refusal>
+    ensures { result ≡ demand (ltb next SLOTS) Refusal.BadState (Ok tt) }
 {
     if next >= SLOTS {
-        return Err(18);
+        return Err(Refusal::BadState);
     }
     Ok(())
 }
@@ -84,21 +87,21 @@ fn refusal(
     kind: u32,
     size: u32,
     address: ByteAddr,
-) -> Result<(), u32>
+) -> Result<(), Refusal>
     ensures { result ≡ refusal_of shape long next domain kind size address.0 }
 {
     if !table::shape_fits(shape, long) {
-        return Err(1);
+        return Err(Refusal::NoShape);
     }
     pointed(next)?;
     if domain >= shape.domains {
-        return Err(2);
+        return Err(Refusal::NoDomain);
     }
     if !is_access(kind, size) {
-        return Err(9);
+        return Err(Refusal::NoAccess);
     }
-    if past_size(words::addr_number(address), size) != 0 {
-        return Err(10);
+    if past_size(u32::from(address), size) != 0 {
+        return Err(Refusal::NotAligned);
     }
     Ok(())
 }
@@ -126,29 +129,23 @@ pub fn check(
     kind: u32,
     size: u32,
     address: ByteAddr,
-) -> Result<Verdict, u32>
+) -> Result<Verdict, Refusal>
     ensures { CheckedAs (check_of pool.now shape (buffer_of buffer.old) domain kind size
         address.0) result buffer.new }
 {
-    let next = buffer[NEXT];
-    refusal(shape, pool.len(), next, domain, kind, size, address)?;
+    refusal(shape, pool.len(), buffer[NEXT], domain, kind, size, address)?;
     if let Some(slot) = layout::find(buffer, domain, address) {
         return Ok(judge(kind, slots::slot_right(slot, address), 0));
     }
-    let walked = table::decide(pool, shape, domain, address);
-    match walked {
-        Walked::Refused(n) => Err(n),
-        Walked::By(by) => {
-            let slot = Slot {
-                domain,
-                level: by.loads,
-                block: slots::block_of(by.loads, address),
-                entry: by.entry,
-            };
-            layout::fill_next(buffer, slot);
-            Ok(judge(kind, by.right, by.loads))
-        }
-    }
+    let by = table::decide(pool, shape, domain, address)?;
+    let slot = Slot {
+        domain,
+        level: by.loads,
+        block: slots::block_of(by.loads, address),
+        entry: by.entry,
+    };
+    layout::fill_next(buffer, slot);
+    Ok(judge(kind, by.right, by.loads))
 }
 
 // The one loop of all flushes: it stores into the slots that it empties; the pointer stays.
@@ -158,7 +155,7 @@ where
     requires { F.IsAlwaysCallable empties }
     ensures { (f : Flushing) → Tells (F.post empties) f → ws.new ≡ buffer_words (flushed_buffer f (buffer_of ws.old)) }
 {
-    for i in 0..64 {
+    for i in 0..SLOTS as usize {
         let s = layout::slot_at(ws, 4 * i);
         if empties(s) {
             layout::put_slot(ws, 4 * i, slots::empty_slot());
@@ -175,7 +172,7 @@ pub fn emptied(buffer: &mut [u32; BUFFER_WORDS])
 
 // Empties every slot.
 #[tactic(auto, using(crate::proofs::LayoutLaws::buffer_words_lem), unfolding(crate::specs::Flushes::pointed))]
-pub fn flush_all(buffer: &mut [u32; BUFFER_WORDS]) -> Result<(), u32>
+pub fn flush_all(buffer: &mut [u32; BUFFER_WORDS]) -> Result<(), Refusal>
     ensures { FlushedAs (flushed_whole (buffer_of buffer.old)) result buffer.new }
 {
     pointed(buffer[NEXT])?;
@@ -185,7 +182,7 @@ pub fn flush_all(buffer: &mut [u32; BUFFER_WORDS]) -> Result<(), u32>
 
 // Empties the slots of a domain, which may be any number.
 #[tactic(auto, using(crate::proofs::LayoutLaws::buffer_words_lem), unfolding(crate::specs::Flushes::pointed))]
-pub fn flush_domain(buffer: &mut [u32; BUFFER_WORDS], domain: u32) -> Result<(), u32>
+pub fn flush_domain(buffer: &mut [u32; BUFFER_WORDS], domain: u32) -> Result<(), Refusal>
     ensures { FlushedAs (flushed_domain (buffer_of buffer.old) domain) result buffer.new }
 {
     pointed(buffer[NEXT])?;
@@ -200,19 +197,14 @@ pub fn flush_region(
     domain: u32,
     start: ByteAddr,
     length: u32,
-) -> Result<(), u32>
+) -> Result<(), Refusal>
     ensures { FlushedAs (flushed_region (buffer_of buffer.old) domain start.0 length) result
         buffer.new }
 {
     pointed(buffer[NEXT])?;
-    let asked = words::round_region(start, length);
-    match asked {
-        Rounded::Refused(n) => Err(n),
-        Rounded::Covers(region) => {
-            flush(buffer, |s| {
-                slots::slot_of(s, domain) && slots::block_meets(s, region)
-            });
-            Ok(())
-        }
-    }
+    let region = words::round_region(start, length)?;
+    flush(buffer, |s| {
+        slots::slot_of(s, domain) && slots::block_meets(s, region)
+    });
+    Ok(())
 }

@@ -22,8 +22,8 @@ pub fn block_bytes(level: u32) -> u32
 pub fn block_of(level: u32, address: ByteAddr) -> ByteAddr
     ensures { result ≡ record { 0 = address.0 / block_bytes level * block_bytes level } }
 {
-    let a = words::addr_number(address);
-    words::byte_addr(a - a % block_bytes(level))
+    let a = u32::from(address);
+    ByteAddr::from(a - a % block_bytes(level))
 }
 
 // Whether a level is one of the three.
@@ -38,9 +38,7 @@ pub fn is_level(level: u32) -> bool
 pub fn slot_of(s: Slot, domain: u32) -> bool
     ensures { result ≡ holds_for s domain }
 {
-    s.domain == domain
-        && is_level(s.level)
-        && words::addr_number(block_of(s.level, s.block)) == words::addr_number(s.block)
+    s.domain == domain && is_level(s.level) && block_of(s.level, s.block) == s.block
 }
 
 // Whether an entry is good rights for a level; in a leaf every value is.
@@ -58,7 +56,7 @@ pub fn slot_matches(s: Slot, domain: u32, address: ByteAddr) -> bool
 {
     s.domain == domain
         && is_level(s.level)
-        && words::addr_number(block_of(s.level, address)) == words::addr_number(s.block)
+        && block_of(s.level, address) == s.block
         && good_entry(s.level, s.entry)
 }
 
@@ -77,7 +75,7 @@ pub fn empty_slot() -> Slot
     Slot {
         domain: 0,
         level: 0,
-        block: words::byte_addr(0),
+        block: ByteAddr::from(0),
         entry: 0,
     }
 }
@@ -87,7 +85,7 @@ pub fn empty_slot() -> Slot
 pub fn block_meets(s: Slot, region: Region) -> bool
     ensures { result ≡ meets s region }
 {
-    let first = u64::from(words::addr_number(s.block));
+    let first = u64::from(u32::from(s.block));
     let size = u64::from(block_bytes(s.level));
     first < 4 * u64::from(region.hi) && 4 * u64::from(region.lo) < first + size
 }
