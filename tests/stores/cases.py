@@ -7,8 +7,8 @@ BUFFER, STEPS = "crates/lookaside/src/lib.rt", "crates/gates/src/steps.rt"
 OWNERS, REGIONS = (f"crates/owners/src/{name}.rt" for name in ("lib", "calls"))
 MAIN, SERVING = (f"crates/rights_listing/src/{name}.rt" for name in ("main", "serving"))
 
-ASKED = "let request = plan_request("
-STORE = "    pool[i] = value;"
+ASKED = "    plan_request(\n        pool,"
+STORE = "    pool[at.index()] = value;"
 SEARCH = "fn next_store(&self, pool: &[u32], shape: Shape, from: Cursor)"
 GUIDE = "ByPlan { plan: &plan }"
 PLANNED = "if !plan::plan_change("
@@ -40,8 +40,8 @@ WRONG = [
     ("writes a word and writes it back before a change", "handed on",
      [before(CHANGE, ASKED, "let was = pool[0]; pool[0] = 7; pool[0] = was;")]),
     ("writes a word and writes it back in the one store", "one store",
-     [before(CHANGE, STORE, "let was = pool[i]; pool[i] = 7; pool[i] = was;")]),
-    ("adds to a word in the one store", "one store", [(CHANGE, STORE, "    pool[i] += value;")]),
+     [before(CHANGE, STORE, "let was = pool[0]; pool[0] = 7; pool[0] = was;")]),
+    ("adds to a word in the one store", "one store", [(CHANGE, STORE, STORE.replace("=", "+="))]),
     ("makes another change first, where the allowance is the greatest", "the allowance",
      [before(CHANGE, CHANGED, "if allowance == 0xFFFF_FFFF { " + CHANGED + "; }")]),
     ("makes another change first", "called once", [before(CHANGE, CHANGED, CHANGED + ";")]),
@@ -63,7 +63,7 @@ WRONG = [
      [(CHANGE, PUT, PUT.replace("value", "value, left")),
       (CHANGE, "at: PoolWord, value: u32)", "at: PoolWord, value: u32, left: u32)")]),
     ("refuses by the allowance", "the allowance",
-     [before(CHANGE, ASKED, "if allowance == 7 { return Answer::Cut; }")]),
+     [before(CHANGE, ASKED, "if allowance == 7 { return Ok(Ending::Cut); }")]),
     ("knows the allowance by another name", "the allowance", [before(CHANGE, ASKED, "let n = allowance;")]),
     ("stores in the search for the next store", "held",
      [(AHEAD, SEARCH, SEARCH.replace("&[u32]", "&mut [u32]")),
@@ -86,7 +86,7 @@ WRONG = [
      [(PLAN, "pub fn plan_change(\n    pool: &[u32]", "pub fn plan_change(\n    pool: &mut [u32]")]),
     ("alters a plan that is made", "one store", [before(CHANGE, PLANNED, "plan[1] = 0;")]),
     ("lends a plan to be altered once more", "held",
-     [before(CHANGE, "    match request {", "plan::put_edge(&mut plan, 4, edge);")]),
+     [before(CHANGE, "    let guide = ByPlan", "plan::put_edge(&mut plan, 4, edge);")]),
     ("fills a part of the pool twice", "below",
      [before(TABLE, ZEROED, ZEROED.replace("0)", "7)"))]),
     ("makes a pool fresh in a tidying", "nobody else", [before(TIDYING, TIDIED, "table::fresh(pool, shape);")]),
@@ -108,8 +108,7 @@ HARMLESS = [
       (CHANGE, PUT, PUT.replace("at, value", "k, v")), (CHANGE, "from = on;", "from = next;")]),
     ("calls the pool of the one store by another name",
      [(CHANGE, "fn put(pool: ", "fn put(held: "), (CHANGE, STORE, STORE.replace("pool", "held"))]),
-    ("calls a request by another name",
-     [(CHANGE, ASKED, ASKED.replace("request", "asked", 1)), (CHANGE, "match request", "match asked")]),
+    ("calls an ending by another name", [(CHANGE, "let ending =", "let end ="), (CHANGE, "Ok(ending)", "Ok(end)")]),
     ("has a store in a comment", [before(CHANGE, ASKED, "// pool[0] = allowance; put(pool) loop\n   ")]),
     ("breaks its lines elsewhere", [(CHANGE, PUT, PUT.replace(", ", ",\n            "))]),
     ("calls the pointer of a buffer by another name", [(BUFFER, "next", "pointer")]),

@@ -158,8 +158,8 @@ LOOP = (
     r"let mut (?P<left>\w+) = allowance ; let mut (?P<from>\w+) = START ; "
     r"while let Some \( Store \{ " + " , ".join(FIELD.format(field) for field in ("at", "value", "on")) + r" \} \) = "
     r"guide \. next_store \( (?P<asked>" + NAMES + r") , (?P=from) \) \{ "
-    r"if (?P=left) == 0 \{ return Answer :: Cut ; \} "
+    r"if (?P=left) == 0 \{ return Ending :: Cut ; \} "
     r"put \( (?P<given>" + NAMES + r") , " + BOUND.format("at") + " , " + BOUND.format("value") + r" \) ; "
     r"(?P=left) -= 1 ; (?P=from) = " + BOUND.format("on") + r" ; \} "
-    r"Answer :: Done \( allowance - (?P=left) \)"
+    r"Ending :: Done \( allowance - (?P=left) \)"
 )

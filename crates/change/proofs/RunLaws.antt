@@ -11,7 +11,7 @@ use Rattle.theory.specs.Pool.{words}
 use Rattle.table.specs.declared.Shape.{Shape}
 use Rattle.table.specs.Shape.{Fits}
 use Rattle.plan.specs.Aims.{Aim}
-use Rattle.change.specs.declared.Answer.TheVariants.{Done, Cut}
+use Rattle.change.specs.declared.Ending.TheVariants.{Done, Cut}
 use Rattle.change.specs.declared.Cursor.{Cursor}
 use Rattle.change.specs.declared.Store.{Store}
 use Rattle.change.specs.declared.Work.{Work}

@@ -6,12 +6,11 @@ use Rattle.theory.specs.Phase.{phase, midway}
 use Rattle.table.specs.declared.Shape.{Shape}
 use Rattle.table.specs.Shape.{Fits, first_middle}
 use Rattle.table.specs.Map.{form_of}
-use Rattle.census.specs.Places.{max_places}
 use Rattle.plan.specs.Plan.{PlanFits}
 use Rattle.plan.specs.Aims.{Aim, no_aim, Goal}
 use Rattle.plan.specs.Goals.{Planned}
-use Rattle.change.specs.declared.Answer.{Answer}
-use Rattle.change.specs.declared.Answer.TheVariants.{Done, Cut}
+use Rattle.change.specs.declared.Ending.{Ending}
+use Rattle.change.specs.declared.Ending.TheVariants.{Done, Cut}
 use Rattle.change.specs.declared.Cursor.{Cursor}
 use Rattle.change.specs.declared.Store.{Store}
 use Rattle.change.specs.declared.Work.{Work}
@@ -70,7 +69,6 @@ OnlyFrom s x owner t = (j : ℕ) → j < first_middle s → words x j ≡ t → 
 
 -- No root word but its owner leads to a middle place.
 pub record MiddleOwners (s : Shape) (o x : List ℕ) : Type 0 where
-  pub long : length o ≡ max_places
   pub only : (p : ℕ) → p < s.middles → OnlyFrom s x (get_or o p 0) (first_middle s + 1024 * p)
 
 -- What a work is told of the owners of places: a tidying those of the middle places; a change has its plan.
@@ -119,6 +117,6 @@ pub record Ready (s : Shape) (A : Aim) (w : Work) (x : List ℕ) : Type 0 where
   pub follows : Follows w start (length x)
 
 -- A change or a tidying of `p` with the allowance `n` is done, with the count, or cut.
-pub data Ends (p : List ℕ) (s : Shape) (A : Aim) (n : ℕ) : Answer → List ℕ → Type 0 where
+pub data Ends (p : List ℕ) (s : Shape) (A : Aim) (n : ℕ) : Ending → List ℕ → Type 0 where
   all_made : (q : List ℕ) → IsDone s A p n q → Ends p s A n (Done (differing p q)) q
   cut_short : (x : List ℕ) → IsCut s A p n x → Ends p s A n Cut x

@@ -25,10 +25,10 @@ fn nearer(k: PoolWord, start: PoolWord, past: PoolWord, best: Span) -> Span
     requires { k.0 ≤ best.from.0 }
     ensures { Ahead k.0 best (Outside start.0 past.0) result }
 {
-    let here = words::pool_index(k);
-    let first = words::pool_index(start);
-    let end = words::pool_index(past);
-    if end <= here || end <= first || words::pool_index(best.from) <= first {
+    let here = k.index();
+    let first = start.index();
+    let end = past.index();
+    if end <= here || end <= first || best.from.index() <= first {
         return best;
     }
     let from = if first <= here { k } else { start };
@@ -60,9 +60,12 @@ fn near_entries(
     let long = table::block_words(height);
     let first = entries_before(size, begin, paint.lo / long);
     let past = entries_before(size, begin, (paint.hi - 1) / long + 1);
-    let start = words::word_after(table, first as usize);
-    let end = words::word_after(table, past as usize);
-    nearer(k, start, end, best)
+    nearer(
+        k,
+        table.after(first as usize),
+        table.after(past as usize),
+        best,
+    )
 }
 
 // Of the table of an edge, if it stays.
@@ -75,7 +78,7 @@ fn near_table(plan: &[u32; PLAN_WORDS], height: u32, edge: Edge, k: PoolWord, be
         return best;
     }
     let begin = table::size_of(height) * edge.number;
-    near_entries(plan, height, begin, words::pool_word(edge.last), k, best)
+    near_entries(plan, height, begin, PoolWord::from(edge.last), k, best)
 }
 
 // A new table of a height.
@@ -86,8 +89,8 @@ fn near_new(height: u32, edge: Edge, k: PoolWord, best: Span) -> Span
     if edge.last >= words::BIT_31 || edge.old < words::BIT_31 {
         return best;
     }
-    let begin = words::pool_word(edge.last);
-    let end = words::word_after(begin, table::size_of(height) as usize);
+    let begin = PoolWord::from(edge.last);
+    let end = begin.after(table::size_of(height) as usize);
     nearer(k, begin, end, best)
 }
 
@@ -97,7 +100,7 @@ fn next_high(plan: &[u32; PLAN_WORDS], k: PoolWord, best: Span) -> Span
     ensures { Ahead k.0 best (HighIdle (plan_in plan.now)) result }
 {
     let blocks = plan::ends_in(plan, 1);
-    let root = words::pool_word(TABLE_WORDS * plan::domain_in(plan));
+    let root = PoolWord::from(TABLE_WORDS * plan::domain_in(plan));
     let one = near_entries(plan, ROOT, 0, root, k, best);
     let two = near_table(plan, 1, blocks.first, k, one);
     near_table(plan, 1, blocks.last, k, two)
@@ -145,8 +148,7 @@ fn next_row(plan: &[u32; PLAN_WORDS], at: Cursor, end: PoolWord) -> Cursor
     ensures { NextRow (plan_in plan.now) at end.0 result }
 {
     let k = at.past;
-    let n = words::pool_index(end);
-    if words::pool_index(k) == n {
+    if k == end {
         return Cursor {
             phase: at.phase + 1,
             word: words::FIRST_WORD,
@@ -158,7 +160,7 @@ fn next_row(plan: &[u32; PLAN_WORDS], at: Cursor, end: PoolWord) -> Cursor
         past: end,
     };
     let row = next_in(plan, at.phase, k, none);
-    let past = if words::pool_index(row.past) < n {
+    let past = if row.past.index() < end.index() {
         row.past
     } else {
         end
@@ -177,15 +179,14 @@ fn next_here(pool: &[u32], shape: Shape, plan: &[u32; PLAN_WORDS], at: Cursor) -
         at.word.0 (at.word.0 + 1) result }
 {
     let k = at.word;
-    let i = words::pool_index(k);
-    let x = pool[i];
+    let x = pool[k.index()];
     // The phase is asked last: it looks for new tables at all four edges, and most words stay as they are.
     let value = final_word(plan, k, x);
     if value == x || phase_of(shape, plan, k, x) != at.phase {
         return None;
     }
     let on = Cursor {
-        word: words::word_after(k, 1),
+        word: k.after(1),
         ..at
     };
     Some(Store { at: k, value, on })
@@ -210,9 +211,9 @@ fn next_in_row(pool: &[u32], shape: Shape, plan: &[u32; PLAN_WORDS], at: Cursor)
     ensures { NextIn shape (Work.Change (plan_in plan.now)) pool.now at.phase
         at.word.0 at.past.0 result }
 {
-    let count = words::pool_index(at.past) - words::pool_index(at.word);
+    let count = at.past.index() - at.word.index();
     for i in plain_words(pool, at.phase, at.word, count)..count {
-        let word = words::word_after(at.word, i);
+        let word = at.word.after(i);
         let next = next_here(pool, shape, plan, Cursor { word, ..at });
         if next.is_some() {
             return next;
@@ -232,7 +233,7 @@ pub fn next_change(
     ensures { NextIs shape (Work.Change (plan_in plan.now)) pool.now from.phase
         from.word.0 result }
 {
-    let end = words::pool_word(pool.len() as u32);
+    let end = PoolWord::from(pool.len() as u32);
     let mut at = from;
     // A `while`, since rows are of any length, and a phase may have few.
     while at.phase < 4 {

@@ -1,10 +1,8 @@
 // Changes and tidyings: a plan in lent words, stores that each leave a safe pool, a cut wherever the allowance ends.
 #![tactic(auto)]
 
-ghost use Rattle.std.specs.Prelude.{◌≡◌, ℕ, ◌+◌, ◌-◌, ◌<◌, ◌≤◌, List, true, length, length as list_length, set};
-ghost use Rattle.std.specs.Prelude.{unwrap_or};
+ghost use Rattle.std.specs.Prelude.{◌≡◌, ℕ, ◌+◌, ◌-◌, ◌<◌, ◌≤◌, List, true, length, set, unwrap_or};
 ghost use Rattle.table.specs.Shape.{Fits, InRange};
-ghost use Rattle.census.specs.Places.{max_places};
 ghost use Rattle.places.specs.Count.{heights, blocks};
 ghost use Rattle.targets.specs.Targets.{entry_blocks};
 ghost use Rattle.plan.specs.Plan.{InTable, of_table, of_new, entry_after, entry_before, table_after, ends_after, after};
@@ -17,10 +15,12 @@ ghost use Rattle.change.specs.Cuts.{CutAt, Due};
 ghost use Rattle.change.specs.Requests.{RegionIs, RequestIs};
 ghost use Rattle.change.specs.Runs.{Looks, NextIs, Ready, Told, Ends};
 
+use census::PLACES;
 use plan::{Edge, PLAN_WORDS, Plan};
+use refusals::Refusal;
 use table::{ROOT, Shape, TABLE_WORDS};
 use targets::Paint;
-use words::{ByteAddr, PoolWord, Rounded};
+use words::{ByteAddr, PoolWord};
 
 mod ahead; // ahead.rt: which store of a change comes next
 mod tidying; // tidying.rt: which store of a tidying does
@@ -28,12 +28,11 @@ mod tidying; // tidying.rt: which store of a tidying does
 use ahead::ByPlan;
 pub use tidying::tidy;
 
-// Done with the number of stores; cut by the allowance; or refused with the paper's number.
+// How the stores of a change or a tidying end: all are made, so many; or the allowance cut them short.
 #[derive(Clone, Copy)]
-pub enum Answer {
+pub enum Ending {
     Done(u32),
     Cut,
-    Refused(u32),
 }
 
 // What is to be made, for the contracts, since the code goes by words that are lent: a change, by its plan; or a
@@ -67,21 +66,12 @@ pub struct Store {
     pub on: Cursor,
 }
 
-// A request that is refused with the paper's number, or planned: its plan is then in the words that were lent for it.
-#[derive(Clone, Copy)]
-pub enum Request {
-    Refused(u32),
-    Planned,
-}
-
 // Whether word `k` is one of the `n` words from `t` on.
 fn in_table(t: PoolWord, n: usize, k: PoolWord) -> bool
     requires { t.0 + n < 4294967296 }
     ensures { result ≡ InTable t.0 n k.0 }
 {
-    let first = words::pool_index(t);
-    let i = words::pool_index(k);
-    first <= i && i < first + n
+    (t.index()..t.index() + n).contains(&k.index())
 }
 
 // Which word of the table that begins at `t` word `k` is.
@@ -89,14 +79,14 @@ fn entry_number(t: PoolWord, k: PoolWord) -> u32
     requires { (t.0 ≤ k.0) × (k.0 < t.0 + 1024) }
     ensures { result ≡ k.0 - t.0 }
 {
-    (words::pool_index(k) - words::pool_index(t)) as u32
+    (k.index() - t.index()) as u32
 }
 
 // Whether word `k` is of the table of a height to which the edge's new entry leads.
 fn of_table(height: u32, edge: Edge, k: PoolWord) -> bool
     ensures { result ≡ of_table height edge k.0 }
 {
-    let begin = words::pool_word(edge.last);
+    let begin = PoolWord::from(edge.last);
     edge.last < words::BIT_31 && in_table(begin, table::size_of(height) as usize, k)
 }
 
@@ -141,8 +131,7 @@ fn table_after(plan: &[u32; PLAN_WORDS], height: u32, edge: Edge, k: PoolWord, x
     requires number_bound { (edge.number < blocks height) × (of_table height edge k.0 ≡ true) }
     ensures { result ≡ table_after (plan_in plan.now) height edge (k.0 - edge.last) x }
 {
-    let begin = words::pool_word(edge.last);
-    let j = entry_number(begin, k);
+    let j = entry_number(PoolWord::from(edge.last), k);
     let n = table::size_of(height) * edge.number + j;
     entry_after(plan, height, edge.old, n, x)
 }
@@ -168,7 +157,7 @@ fn final_word(plan: &[u32; PLAN_WORDS], k: PoolWord, x: u32) -> u32
     requires { PlanFits (plan_in plan.now) }
     ensures { result ≡ after (plan_in plan.now) k.0 x }
 {
-    let root = words::pool_word(TABLE_WORDS * plan::domain_in(plan));
+    let root = PoolWord::from(TABLE_WORDS * plan::domain_in(plan));
     if in_table(root, TABLE_WORDS as usize, k) {
         // What stands above a root always leads to it.
         return entry_after(plan, ROOT, 0, entry_number(root, k), x);
@@ -211,8 +200,7 @@ fn phase_of(shape: Shape, plan: &[u32; PLAN_WORDS], k: PoolWord, x: u32) -> u32
         return 2;
     }
     // Most words do not lead, and then it does not matter where the leaves begin.
-    let leads = x < words::BIT_31
-        && words::pool_index(k) < words::pool_index(table::first_place(shape, 0));
+    let leads = x < words::BIT_31 && k.index() < table::first_place(shape, 0).index();
     if leads { 1 } else { 3 }
 }
 
@@ -224,8 +212,7 @@ fn put(pool: &mut [u32], shape: Shape, domain: u32, paint: Paint, at: PoolWord, 
     ensures cut { (old : List ℕ) (n : ℕ) → CutAt shape (aim_of domain paint) old n pool.old
         → CutAt shape (aim_of domain paint) old (n + 1) pool.new }
 {
-    let i = words::pool_index(at);
-    pool[i] = value;
+    pool[at.index()] = value;
 }
 
 // What a work goes by: it says which store comes next, from the cursor on. A change goes by its plan, a tidying by the
@@ -252,7 +239,7 @@ fn make_stores<G: Guide>(
     paint: Paint,
     guide: &G,
     allowance: u32,
-) -> Answer
+) -> Ending
     requires ready { Ready shape (aim_of domain paint) (G.work guide.now) pool.old }
     requires told { Told shape (G.work guide.now) (G.owners guide.now) pool.old }
     ensures { Ends pool.old shape (aim_of domain paint) allowance result pool.new }
@@ -261,76 +248,71 @@ fn make_stores<G: Guide>(
     let mut from = START;
     while let Some(Store { at, value, on }) = guide.next_store(pool, shape, from) {
         if left == 0 {
-            return Answer::Cut;
+            return Ending::Cut;
         }
         put(pool, shape, domain, paint, at, value);
         left -= 1;
         from = on;
     }
-    Answer::Done(allowance - left)
+    Ending::Done(allowance - left)
 }
 
-// A request that is in order up to refusal 5. All is decided before the first store.
+// A request that is in order up to refusal 5. All is decided before the first store: where it is not refused, its plan is
+// in the words that were lent for it.
 fn plan_region(
     pool: &[u32],
     shape: Shape,
-    owners: &mut [u32],
+    owners: &mut [u32; PLACES],
     domain: u32,
     paint: Paint,
     plan: &mut [u32; PLAN_WORDS],
-) -> Request
+) -> Result<(), Refusal>
     requires fits { Fits shape (length pool.now) }
-    requires owners_len { length owners.old ≡ max_places }
     requires domain_lt_domains { (domain < shape.domains) × Regular paint }
     ensures { RegionIs pool.now shape (aim_of domain paint) (plan_in plan.new) result }
 {
     if !census::census(pool, shape, owners) {
-        return Request::Refused(6);
+        return Err(Refusal::NotSound);
     }
     if !targets::settled(pool, shape, owners) {
-        return Request::Refused(7);
+        return Err(Refusal::NotSettled);
     }
     if !plan::plan_change(pool, shape, owners, domain, paint, plan) {
-        return Request::Refused(8);
+        return Err(Refusal::NoRoom);
     }
-    Request::Planned
+    Ok(())
 }
 
 // What is refused is refused here, in the paper's order.
 fn plan_request(
     pool: &[u32],
     shape: Shape,
-    owners: &mut [u32],
+    owners: &mut [u32; PLACES],
     domain: u32,
     start: ByteAddr,
     length: u32,
     right: u32,
     plan: &mut [u32; PLAN_WORDS],
-) -> Request
-    requires { list_length owners.old ≡ max_places }
+) -> Result<(), Refusal>
     ensures { RequestIs pool.now shape domain start.0 length right (plan_in plan.new)
         result }
 {
     if !table::shape_fits(shape, pool.len()) {
-        return Request::Refused(1);
+        return Err(Refusal::NoShape);
     }
     if domain >= shape.domains {
-        return Request::Refused(2);
+        return Err(Refusal::NoDomain);
     }
     if right > 3 {
-        return Request::Refused(3);
+        return Err(Refusal::NoRight);
     }
-    match words::round_region(start, length) {
-        Rounded::Refused(k) => Request::Refused(k),
-        Rounded::Covers(g) => {
-            let paint = Paint {
-                lo: g.lo,
-                hi: g.hi,
-                right,
-            };
-            plan_region(pool, shape, owners, domain, paint, plan)
-        }
-    }
+    let region = words::round_region(start, length)?;
+    let paint = Paint {
+        lo: region.lo,
+        hi: region.hi,
+        right,
+    };
+    plan_region(pool, shape, owners, domain, paint, plan)
 }
 
 // Gives a domain a right on every word that a region covers. Whatever the pool holds and whatever the numbers are, it
@@ -344,12 +326,12 @@ pub fn change(
     length: u32,
     right: u32,
     allowance: u32,
-) -> Answer
+) -> Result<Ending, Refusal>
     ensures { Changes pool.old shape domain start.0 length right allowance result pool.new }
 {
-    let mut owners = [0u32; census::PLACES];
+    let mut owners = [0u32; PLACES];
     let mut plan = [0u32; PLAN_WORDS];
-    let request = plan_request(
+    plan_request(
         pool,
         shape,
         &mut owners,
@@ -358,14 +340,10 @@ pub fn change(
         length,
         right,
         &mut plan,
-    );
-    match request {
-        Request::Refused(k) => Answer::Refused(k),
-        Request::Planned => {
-            let domain = plan::domain_in(&plan);
-            let paint = plan::paint_in(&plan);
-            let guide = ByPlan { plan: &plan };
-            make_stores(pool, shape, domain, paint, &guide, allowance)
-        }
-    }
+    )?;
+    let domain = plan::domain_in(&plan);
+    let paint = plan::paint_in(&plan);
+    let guide = ByPlan { plan: &plan };
+    let ending = make_stores(pool, shape, domain, paint, &guide, allowance);
+    Ok(ending)
 }

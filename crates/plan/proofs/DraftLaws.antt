@@ -7,6 +7,7 @@ use mathlib.Core.List.{List}
 use native.Mathlib.Omega.{arith}
 use lib.ListN.{length}
 use borrow.Author.Tests.{eq-eqb}
+use Rattle.std.specs.Prelude.{Some, None}
 use Rattle.theory.specs.Pool.{words, right_of}
 use Rattle.theory.specs.Settled.{Settled}
 use Rattle.theory.proofs.Logic.{by_cases}
@@ -20,7 +21,6 @@ use Rattle.places.specs.Count.{blocks, domain_of, address_of, want}
 use Rattle.places.proofs.NumberLaws.{in_domain, in_number}
 use Rattle.places.proofs.ChangedLaws.{changed_rights}
 use Rattle.targets.specs.declared.Paint.{Paint}
-use Rattle.targets.specs.declared.Target.TheVariants.{Says, Mixed}
 use Rattle.targets.specs.Paints.{region}
 use Rattle.targets.specs.Targets.{painted, virtual_of, Gives}
 use Rattle.targets.proofs.TargetLaws.{wanted_mixed, unwanted_said}
@@ -118,7 +118,7 @@ module _ (s : Shape) (d : ℕ) (paint : Paint) (P : ℕ → ℕ) (small : paint.
     rests w = (wants_says s goal (suc h) a goal_rights (omega arith)
         (inside h hi bn) w).rights
 
-    told_mixed : wants_of goal (suc h) a ≡ true → Told s d paint P h n (edge_for n (entry_at P h d n) Mixed)
+    told_mixed : wants_of goal (suc h) a ≡ true → Told s d paint P h n (edge_for n (entry_at P h d n) None)
     told_mixed w = record {
       number = refl;
       old = refl;
@@ -128,7 +128,7 @@ module _ (s : Shape) (d : ℕ) (paint : Paint) (P : ℕ → ℕ) (small : paint.
     }
 
     told_said : wants_of goal (suc h) a ≡ false → Told s d paint P h n
-        (edge_for n (entry_at P h d n) (Says (said_of goal (suc h) a)))
+        (edge_for n (entry_at P h d n) (Some (said_of goal (suc h) a)))
     told_said w = record {
       number = refl;
       old = refl;

@@ -12,8 +12,6 @@ use Rattle.places.specs.Final.{old, was, place_at, AllOwned, entry_word}
 use Rattle.census.specs.Places.{first_number}
 use Rattle.census.specs.Tally.{none}
 use Rattle.targets.specs.declared.Paint.{Paint}
-use Rattle.targets.specs.declared.Target.{Target}
-use Rattle.targets.specs.declared.Target.TheVariants.{Says, Mixed}
 use Rattle.targets.specs.Targets.{painted, target_of, virtual_of, Gives, Readable}
 use Rattle.plan.specs.declared.Edge.{Edge}
 use Rattle.plan.specs.declared.Ends.{Ends}
@@ -69,9 +67,9 @@ PlansChange s d paint P false q = Room s (aimed_at s (aim_of d paint) P) → ⊥
 
 -- An edge with what is known before places are given out: eight rights, the pointer that it had, or a pointer that
 -- waits for its place.
-abbrev pub edge_for : ℕ → ℕ → Target → Edge
-edge_for n e (Says w) = record { number = n; old = e; last = w }
-edge_for n e Mixed = record { number = n; old = e; last = cond (leads 1 e) e 2147483647 }
+abbrev pub edge_for : ℕ → ℕ → Option ℕ → Edge
+edge_for n e (Some w) = record { number = n; old = e; last = w }
+edge_for n e None = record { number = n; old = e; last = cond (leads 1 e) e 2147483647 }
 
 -- The edge for block `n`, where the domain has the rights `R`.
 abbrev pub edge_at : (ℕ → ℕ) → ℕ → Paint → (ℕ → ℕ) → ℕ → ℕ → Edge

@@ -18,7 +18,8 @@ ghost use Rattle.plan.specs.Edges.{kept_at, FreeIs, TakesPlace};
 
 use census::PLACES;
 use table::{Shape, TABLE_WORDS};
-use targets::{Paint, Target};
+use targets::Paint;
+use words::PoolWord;
 
 mod keeping; // keeping.rt: the tables that stay
 mod layout; // layout.rt: how a plan lies in its words
@@ -26,7 +27,7 @@ mod layout; // layout.rt: how a plan lies in its words
 pub use layout::{PLAN_WORDS, domain_in, ends_in, paint_in};
 
 // What a pointer holds while the place of its new table is still to be found: it leads, and no pool word has this
-// number.
+// number. An Option would take another of the lent words.
 pub const PENDING: u32 = 0x7FFF_FFFF;
 
 // A block or a page at an end of the region: its number in the domain, the entry that it had, and the entry that it
@@ -56,13 +57,13 @@ pub struct Plan {
 }
 
 // An edge before places are given out. A table that it had stays where it is.
-fn edge_of(number: u32, old: u32, target: Target) -> Edge
+fn edge_of(number: u32, old: u32, target: Option<u32>) -> Edge
     ensures { result ≡ edge_for number old target }
 {
     let last = match target {
-        Target::Says(w) => w,
-        Target::Mixed if old < words::BIT_31 => old,
-        Target::Mixed => PENDING,
+        Some(w) => w,
+        None if old < words::BIT_31 => old,
+        None => PENDING,
     };
     Edge { number, old, last }
 }
@@ -74,8 +75,7 @@ fn root_entry(pool: &[u32], domain: u32, block: u32) -> u32
     ensures { result ≡ words pool.now (1024 * domain + block) }
 {
     let word = table::root_word(domain, block);
-    let at = words::pool_index(word);
-    pool[at]
+    pool[word.index()]
 }
 
 // The entry of a block; of a page in a block of eight rights, the eight rights that stand for it.
@@ -88,13 +88,11 @@ fn old_entry(pool: &[u32], height: u32, domain: u32, n: u32) -> u32
         return root_entry(pool, domain, n);
     }
     let root = root_entry(pool, domain, n / TABLE_WORDS);
-    if root < words::BIT_31 {
-        let table = words::pool_word(root);
-        let page = words::word_after(table, (n % TABLE_WORDS) as usize);
-        let k = words::pool_index(page);
-        return pool[k];
+    if root >= words::BIT_31 {
+        return targets::virtual_entry(1, root, n);
     }
-    targets::virtual_entry(1, root, n)
+    let page = PoolWord::from(root).after((n % TABLE_WORDS) as usize);
+    pool[page.index()]
 }
 
 // The edge of a block, before places are given out: where a new table is wanted, its pointer waits.
@@ -159,9 +157,8 @@ fn take_place(
     }
     let count = table::places_of(shape, height);
     let place = next_free(owners, height, domain, plan, from, count)?;
-    let base = table::first_place(shape, height);
-    let table = words::word_after(base, (table::size_of(height) * place) as usize);
-    plan[i + 2] = words::entry_of(table);
+    let table = table::first_place(shape, height).after((table::size_of(height) * place) as usize);
+    plan[i + 2] = table.entry();
     Some(place + 1)
 }
 

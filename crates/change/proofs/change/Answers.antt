@@ -1,7 +1,7 @@
 -- `change::change` meets its contract.
-use Rattle.change.proofs.RegionLaws.{request_planned, request_answers}
+use Rattle.change.proofs.RegionLaws.{request_answers}
 use Rattle.change.proofs.change.Goals as goal
 
-pub returns-in-Planned : goal.returns-in-Planned
-returns-in-Planned c = request_answers (request_planned c.plan_request-request.ensures c.in-Planned.is)
-    (rw (c.domain_in-domain.ensures, c.paint_in-paint.ensures) at c.make_stores.ensures)
+pub returns : goal.returns
+returns c = request_answers c.in_ok-plan_request.ensures
+    (rw (c.domain_in-domain.ensures, c.paint_in-paint.ensures) at c.make_stores-ending.ensures)

@@ -42,9 +42,9 @@ returns-in_err-place c = let a = c.args in
 pub returns : goal.returns
 returns c = let a = c.args in
     let l = a.plan.now in
-    let k = ap (λ w. w.0) c.first_place-base.ensures in
+    let k = ap (λ w. w.0) c.first_place.ensures in
     let b = c.requires.from_bound.1 in
-    let g = edge_set l a.i c.entry_of.result (omega arith) in
+    let g = edge_set l a.i c.entry.result (omega arith) in
     record {
       taken = inr (record {
         makes_new = new a.height (edge_in l a.i) c.if-last-ge-BIT_31.false c.if-old-lt-BIT_31.false;
@@ -52,9 +52,9 @@ returns c = let a = c.args in
         first = rw c.places_of-count.ensures at c.in_ok-place.ensures;
         same_number = ap (λ (x : Edge). x.number) g;
         same_old = ap (λ (x : Edge). x.old) g;
-        points = ap (λ (x : Edge). x.last) g ∙ c.entry_of.ensures ∙ ap (λ w. w.0) c.word_after-table.ensures
+        points = ap (λ (x : Edge). x.last) g ∙ c.entry.ensures ∙ ap (λ w. w.0) c.after-table.ensures
             ∙ rw (k, c.size_of.ensures) refl;
         next = refl;
       });
-      beside = beside_set l a.i c.entry_of.result;
+      beside = beside_set l a.i c.entry.result;
     }

@@ -10,7 +10,7 @@ returns-then-is_some c = found_next c.loop-at.invariant.2 _ _ c.if-is_some.ensur
 
 pub loop-at-preserved : goal.loop-at-preserved
 loop-at-preserved c = let a = c.args in
-    let end = ap (λ w. w.0) c.pool_word-end.ensures in
+    let end = ap (λ w. w.0) c.from-end.ensures in
     let r = c.next_row-at.ensures in (
       r.row.0,
       omega (arith, r.row.1),

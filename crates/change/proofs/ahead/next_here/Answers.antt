@@ -12,7 +12,7 @@ use Rattle.change.proofs.ahead.next_here.Goals.{then-value-x-via-then-value-x, t
 pub returns-then-value-x : goal.returns-then-value-x
 returns-then-value-x c =
     let a = c.args in
-    let read = ap (words a.pool.now) c.pool_index-i.ensures in
+    let read = ap (words a.pool.now) c.index.ensures in
     elim c.then-value-x.branch [
       | then-value-x-via-then-value-x w ↦ λ u y. turn_same a.shape (plan_in a.plan.now) a.at.phase a.at.word.0 a.pool.now
           (omega (arith, c.requires.1, c.requires.0.follows.2)) u y
@@ -27,9 +27,9 @@ returns c =
     let a = c.args in
     let f = c.requires.0.follows in
     let h : a.at.word.0 < length a.pool.now = omega (arith, c.requires.1, f.2) in
-    let read = ap (words a.pool.now) c.pool_index-i.ensures in
+    let read = ap (words a.pool.now) c.index.ensures in
     let e = rw read at c.final_word-value.ensures in
-    let next = ap (λ w. w.0) c.word_after.ensures in
+    let next = ap (λ w. w.0) c.after.ensures in
     rw e (record {
       inside = h;
       word = next;

@@ -9,16 +9,16 @@ use Rattle.change.proofs.TidyAimLaws.{table_inside, plain_passed}
 use Rattle.change.proofs.tidying.next_given_up.Goals as goal
 use Rattle.change.proofs.tidying.next_given_up.Goals.{then-n-eq0+in_default, else-n-eq0}
 
-pub returns-in-Says : goal.returns-in-Says
-returns-in-Says c = let l = c.loop-i in
+pub returns-in-Some : goal.returns-in-Some
+returns-in-Some c = let l = c.loop-i in
     let a = c.args in
-    let e = ap (λ w. w.0) c.word_after-k.ensures in
+    let e = ap (λ w. w.0) c.after-k.ensures in
     let b : a.base.0 + l.i < first_leaf a.shape = table_inside _ _ _ _ _ c.requires.table.0 c.loop-i-test.true in
     rw e (record {
       inside = omega (arith, c.requires.fits.0.long);
-      word = ap (λ c. c.0) c.word_after-after.ensures ∙ rw e;
+      word = ap (λ c. c.0) c.after-next.ensures ∙ rw e;
       follows = refl;
-      stores = λ u y. aim_stores a.shape u (a.base.0 + l.i) _ _ c.in-Says.is
+      stores = λ u y. aim_stores a.shape u (a.base.0 + l.i) _ _ c.in-Some.is
           c.target_at.ensures (l.invariant.1 u y);
     })
 
@@ -26,7 +26,7 @@ pub loop-i-preserved : goal.loop-i-preserved
 loop-i-preserved c = let l = c.loop-i in
     let a = c.args in
     let n = c.plain_ahead-n in
-    let e = ap (λ w. w.0) c.word_after-k.ensures in
+    let e = ap (λ w. w.0) c.after-k.ensures in
     elim c.if-n-eq0.branch [
       | then-n-eq0+in_default w ↦
           let m : c.max-i.result ≡ 1 = omega arith in

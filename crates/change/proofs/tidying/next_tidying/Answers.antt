@@ -6,31 +6,31 @@ use native.Mathlib.Omega.{arith}
 use Rattle.change.proofs.RunLaws.{found_next, passes_on}
 use Rattle.change.proofs.TidyAimLaws.{place_at, tidy_end}
 use Rattle.change.proofs.tidying.next_tidying.Goals as goal
-use Rattle.change.proofs.tidying.next_tidying.Goals.{After-pool_word}
+use Rattle.change.proofs.tidying.next_tidying.Goals.{After-from}
 
 pub loop-place-init : goal.loop-place-init
-loop-place-init c = (omega arith, omega arith, λ u y. rw c.pool_index-k.ensures (rw c.requires.looks.follows at y))
+loop-place-init c = (omega arith, omega arith, λ u y. rw c.index-k.ensures (rw c.requires.looks.follows at y))
 
 -- Where the place begins, and how far on word `k` is.
-begins : (c : After-pool_word) → let l = c.loop-place in
-    (c.pool_word.result.0 ≡ 1024 * l.place) × (c.pool_word.result.0 + (l.k - 1024 * l.place) ≡ l.k)
-begins c = let e = ap (λ w. w.0) c.pool_word.ensures in (e, omega (arith, c.loop-place.invariant.0))
+begins : (c : After-from) → let l = c.loop-place in
+    (c.from.result.0 ≡ 1024 * l.place) × (c.from.result.0 + (l.k - 1024 * l.place) ≡ l.k)
+begins c = let e = ap (λ w. w.0) c.from.ensures in (e, omega (arith, c.loop-place.invariant.0))
 
 pub next_in_place-next-requires-clause-place : goal.next_in_place-next-requires-clause-place
 next_in_place-next-requires-clause-place c =
     let base = 1024 * c.loop-place.place in
     let e : base - base % 1024 ≡ base = omega arith in
-    let b = begins (goal.at.next_in_place-next-requires-clause-place c).After-pool_word in
+    let b = begins (goal.at.next_in_place-next-requires-clause-place c).After-from in
     (rw (b.0, ← e) (place_at c.args.shape base (omega (arith, c.loop-place-test.true))), omega (arith, c.loop-place.invariant.1))
 
 pub returns-then-is_some : goal.returns-then-is_some
 returns-then-is_some c =
-    let b = begins (goal.at.returns-then-is_some c).After-pool_word in
+    let b = begins (goal.at.returns-then-is_some c).After-from in
     found_next c.loop-place.invariant.2 _ _ c.if-is_some.ensures (rw b.1 at c.next_in_place-next.ensures)
 
 pub loop-place-preserved : goal.loop-place-preserved
 loop-place-preserved c =
-    let b = begins (goal.at.loop-place-preserved c).After-pool_word in (
+    let b = begins (goal.at.loop-place-preserved c).After-from in (
       omega arith,
       omega arith,
       rw (← b.0) (passes_on c.loop-place.invariant.2 _ _ c.if-is_some.ensures (rw b.1 at c.next_in_place-next.ensures)),
