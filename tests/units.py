@@ -188,8 +188,8 @@ def sources():
 # One wrong line in a copy of the real text: file, what stands there, what is put there, how the refusal begins.
 WRONG = [
     ("census", "let word = base.after(i as usize);", "let word = PoolWord(i as usize);", "made by hand"),
-    ("lookaside/slots", "ByteAddr::from(a - past)", "ByteAddr(a - past)", "made by hand"),
-    ("lookaside/slots", "ByteAddr::from(a - past)", "(a - past).into()", "made by hand"),
+    ("lookaside/slots", "ByteAddr::from(a - a % block_bytes(level))", "ByteAddr(a - a % block_bytes(level))", "made by hand"),
+    ("lookaside/slots", "ByteAddr::from(a - a % block_bytes(level))", "(a - a % block_bytes(level)).into()", "made by hand"),
     ("gates/steps", "let back = u32::from(b);", "let back = b.0;", "taken apart"),
     ("listing", "let k = entry.index();", "let k = entry.0;", "taken apart"),
     ("table", "let word = pool[at.index()];", "let word = pool[before as usize];", "load: pool[before as usize]"),
