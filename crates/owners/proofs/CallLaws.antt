@@ -5,8 +5,8 @@ use mathlib.Core.Logic.{◌⊎◌, inl, inr, ⊎_elim}
 use mathlib.Core.Bool.{Bool, true, false, not, cond, ◌&&◌}
 use mathlib.Core.List.{List}
 use native.Mathlib.Omega.{arith}
-use borrow.Author.Tests.{ltb-true, ltb-false, eqb-true, eq-eqb, ne_eqb, lt-ltb, le-ltb, not-false}
-use lib.Dec.{eqb, ltb}
+use borrow.Author.Tests.{leb-true, ltb-true, ltb-false, eqb-true, eq-eqb, ne_eqb, lt-ltb, le-ltb, not-false}
+use lib.Dec.{eqb, leb, ltb}
 use lib.ListN.{length}
 use Rattle.theory.proofs.Logic.{and_both}
 use Rattle.words.specs.declared.Region.{Region}
@@ -14,9 +14,11 @@ use Rattle.words.specs.declared.Rounded.{Rounded}
 use Rattle.words.specs.declared.Rounded.TheVariants.{Covers, Refused}
 use Rattle.words.specs.Region.{region_of}
 use Rattle.words.proofs.RegionLaws.{region_number}
+use Rattle.table.specs.Shape.{max_domains}
 use Rattle.rows.specs.Lent.{wrong_length}
-use Rattle.owners.specs.Regions.{max_regions, list_long, count_of, region_at, place_of}
-use Rattle.owners.specs.Calls.{outcome, asked_of, meets, same_words, owned_at, fresh_region, put_at, added, with_export}
+use Rattle.owners.specs.Regions.{max_regions, list_long, Counted, count_of, region_at, place_of}
+use Rattle.owners.specs.Rules.{export_domains}
+use Rattle.owners.specs.Calls.{outcome, asked_of, in_range, meets, same_words, owned_at, fresh_region, put_at, added, with_export}
 use Rattle.owners.specs.Calls.{made, passed, gave}
 
 -- A region comes out: the first test does not refuse, and none of those after it.
@@ -54,6 +56,22 @@ asked_in_order fits list D caller other right start len g e =
       low = ltb-false 3 right r;
       region = o;
     }
+
+-- Where a region is asked for, the list has its length and no more regions than it has room for; and where there are
+-- sixteen domains at most, each of them may have an export.
+pub asked_counted : (fits : Bool) (list : List ℕ) (D caller other right start len : ℕ) (g : Region)
+    → asked_of fits list D caller other right start len ≡ Covers g → Counted list
+asked_counted fits list D caller other right start len g e =
+    let o = asked_in_order fits list D caller other right start len g e in (o.long, o.few)
+
+pub asked_export : (list : List ℕ) (D caller other right start len : ℕ) (g : Region)
+    → asked_of (in_range D) list D caller other right start len ≡ Covers g → (other < export_domains) × (right < 4)
+asked_export list D caller other right start len g e =
+    let o = asked_in_order (in_range D) list D caller other right start len g e in
+    let d = leb-true D max_domains (and_both (leb 1 D) _ o.fitting).1 in
+    let k = o.other_known in
+    let l = o.low in
+    (omega arith, omega arith)
 
 -- What is refused before is refused 1 to 5, 18 or 101.
 pub asked_number : (fits : Bool) (list : List ℕ) (D caller other right start len k : ℕ)

@@ -1,6 +1,6 @@
 -- The calls on the list of owned regions: what making, passing on and giving an export answer, and the list that they
 -- leave.
-use Rattle.std.specs.Prelude.{ℕ, ◌+◌, ◌-◌, ◌*◌, ◌/◌, ◌%◌, ◌^◌, Bool, cond, not, ◌&&◌, ◌||◌, List, [], ◌∷◌, length, set, eqb, leb, ltb}
+use Rattle.std.specs.Prelude.{ℕ, ◌+◌, ◌-◌, ◌*◌, ◌/◌, ◌%◌, ◌^◌, Bool, min, max, cond, not, ◌&&◌, ◌||◌, List, [], ◌∷◌, length, set, eqb, leb, ltb}
 use Rattle.std.proofs.lemmas.List.Edits.{sets}
 use Rattle.rows.specs.Lent.{wrong_length}
 use Rattle.words.specs.declared.Region.{Region}
@@ -9,8 +9,6 @@ use Rattle.words.specs.declared.Rounded.TheVariants.{Covers, Refused}
 use Rattle.words.specs.Rights.{right_at}
 use Rattle.words.specs.Region.{region_of}
 use Rattle.table.specs.Shape.{max_domains}
-use Rattle.owners.specs.declared.Act.{Act}
-use Rattle.owners.specs.declared.Act.TheVariants.{Make, Pass, Give}
 use Rattle.owners.specs.declared.Owned.{Owned}
 use Rattle.owners.specs.Regions.{max_regions, list_long, count_place, count_of, region_at, place_of}
 use Rattle.owners.specs.Rules.{supervisor}
@@ -43,16 +41,9 @@ abbrev pub answered : List ℕ → (Region → Outcome) → Rounded → Outcome
 answered list f (Refused n) = outcome n list
 answered list f (Covers a) = f a
 
--- The lesser and the greater of two numbers.
-abbrev pub lesser : ℕ → ℕ → ℕ
-lesser a b = cond (ltb a b) a b
-
-abbrev pub greater : ℕ → ℕ → ℕ
-greater a b = cond (ltb a b) b a
-
 -- A region asked for and one held share a word: the later beginning is below the earlier end.
 abbrev pub meets : Region → Owned → Bool
-meets a r = ltb (greater a.lo r.lo) (lesser a.hi r.hi)
+meets a r = ltb (max a.lo r.lo) (min a.hi r.hi)
 
 -- Exactly the words of the region asked for.
 abbrev pub same_words : Region → Owned → Bool
@@ -118,31 +109,17 @@ gave list caller receiver right a =
     (outcome 0 (put_at list k (with_export (region_at list k) receiver right)))
     (outcome 19 list)
 
--- What a call does with the region that it asks for.
-abbrev pub done_of : Act → List ℕ → ℕ → ℕ → Region → Outcome
-done_of Make list caller owner a = made list caller owner a
-done_of Pass list caller owner a = passed list caller owner a
-done_of (Give right) list caller receiver a = gave list caller receiver right a
-
--- The right that it names; making and passing on name none, and 0 is in order.
-abbrev pub right_named : Act → ℕ
-right_named Make = 0
-right_named Pass = 0
-right_named (Give right) = right
-
--- What a call on the list answers and leaves. `other` is the owner or receiver that it names.
-abbrev pub call_of : Act → ℕ → List ℕ → ℕ → ℕ → ℕ → ℕ → Outcome
-call_of act D list caller other start len =
-    answered list (done_of act list caller other) (asked_of (in_range D) list D caller other (right_named act) start len)
-
--- What making a region answers and leaves.
+-- What making a region answers and leaves. It names no right, and 0 is in order.
 abbrev pub make_of : ℕ → List ℕ → ℕ → ℕ → ℕ → ℕ → Outcome
-make_of D list caller owner start len = call_of Make D list caller owner start len
+make_of D list caller owner start len =
+    answered list (made list caller owner) (asked_of (in_range D) list D caller owner 0 start len)
 
--- What passing a region on answers and leaves.
+-- What passing a region on answers and leaves. It names no right either.
 abbrev pub pass_of : ℕ → List ℕ → ℕ → ℕ → ℕ → ℕ → Outcome
-pass_of D list caller owner start len = call_of Pass D list caller owner start len
+pass_of D list caller owner start len =
+    answered list (passed list caller owner) (asked_of (in_range D) list D caller owner 0 start len)
 
 -- What giving an export answers and leaves.
 abbrev pub give_of : ℕ → List ℕ → ℕ → ℕ → ℕ → ℕ → ℕ → Outcome
-give_of D list caller receiver right start len = call_of (Give right) D list caller receiver start len
+give_of D list caller receiver right start len =
+    answered list (gave list caller receiver right) (asked_of (in_range D) list D caller receiver right start len)

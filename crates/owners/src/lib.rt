@@ -41,28 +41,6 @@ pub struct Owned {
     pub rights: u32,
 }
 
-// What a call on the list is to do with the region that it names.
-#[derive(Clone, Copy)]
-pub enum Act {
-    Make,
-    Pass,
-    Give(u32),
-}
-
-// What is asked of a region held, beside one that a call names: whether it is of the same words, or shares one.
-#[derive(Clone, Copy)]
-pub enum Asking {
-    Same,
-    Meeting,
-}
-
-// Whether a caller may have a change made; if not, the number of the refusal.
-#[derive(Clone, Copy)]
-pub enum Leave {
-    Given,
-    Refused(u32),
-}
-
 // The number of the region that a memory word lies in (the count for none), and the first word for which that is not
 // known.
 #[derive(Clone, Copy)]
@@ -72,6 +50,7 @@ pub struct Reach {
 }
 
 // A region more, of words that lie in none: domain 0 makes it.
+#[tactic(auto, using(crate::proofs::CallLaws::asked_counted, crate::proofs::CallLaws::asked_export))]
 pub fn make_region(
     domains: u32,
     regions: &mut [u32],
@@ -83,11 +62,15 @@ pub fn make_region(
     ensures { outcome result regions.new ≡ make_of domains regions.old caller owner start.0
         length }
 {
-    let act = Act::Make;
-    calls::call(act, domains, regions, caller, owner, start, length)
+    let fits = calls::in_range(domains);
+    match calls::ask(fits, regions, domains, caller, owner, 0, start, length) {
+        Rounded::Refused(n) => n,
+        Rounded::Covers(region) => calls::make(regions, caller, owner, region),
+    }
 }
 
 // A whole region passed on by its owner, which ends its exports.
+#[tactic(auto, using(crate::proofs::CallLaws::asked_counted, crate::proofs::CallLaws::asked_export))]
 pub fn pass_region(
     domains: u32,
     regions: &mut [u32],
@@ -99,11 +82,15 @@ pub fn pass_region(
     ensures { outcome result regions.new ≡ pass_of domains regions.old caller owner start.0
         length }
 {
-    let act = Act::Pass;
-    calls::call(act, domains, regions, caller, owner, start, length)
+    let fits = calls::in_range(domains);
+    match calls::ask(fits, regions, domains, caller, owner, 0, start, length) {
+        Rounded::Refused(n) => n,
+        Rounded::Covers(region) => calls::pass(regions, caller, owner, region),
+    }
 }
 
 // An export of a right on a whole region, given by its owner to another domain.
+#[tactic(auto, using(crate::proofs::CallLaws::asked_counted, crate::proofs::CallLaws::asked_export))]
 pub fn give_export(
     domains: u32,
     regions: &mut [u32],
@@ -116,8 +103,13 @@ pub fn give_export(
     ensures { outcome result regions.new ≡ give_of domains regions.old caller receiver right
         start.0 length }
 {
-    let act = Act::Give(right);
-    calls::call(act, domains, regions, caller, receiver, start, length)
+    let fits = calls::in_range(domains);
+    match calls::ask(
+        fits, regions, domains, caller, receiver, right, start, length,
+    ) {
+        Rounded::Refused(n) => n,
+        Rounded::Covers(region) => calls::give(regions, caller, receiver, right, region),
+    }
 }
 
 // Whether a caller may ask for a change: its region is in order and every word that it covers allows it. What this
@@ -131,19 +123,18 @@ fn leave_of(
     right: u32,
     start: ByteAddr,
     length: u32,
-) -> Leave
+) -> Result<(), u32>
     ensures { LeaveIs regions.now caller domain right
         (asked_of fits regions.now domains caller domain right start.0 length) result }
 {
-    let asked = calls::ask(fits, regions, domains, caller, domain, right, start, length);
-    match asked {
-        Rounded::Refused(k) => Leave::Refused(k),
+    match calls::ask(fits, regions, domains, caller, domain, right, start, length) {
+        Rounded::Refused(k) => Err(k),
         Rounded::Covers(region) => {
-            let allowed = rules::allowed(regions, caller, domain, right, region);
-            if !allowed {
-                return Leave::Refused(19);
+            if rules::allowed(regions, caller, domain, right, region) {
+                Ok(())
+            } else {
+                Err(19)
             }
-            Leave::Given
         }
     }
 }
@@ -163,12 +154,18 @@ pub fn change_by(
     ensures { ChangesBy pool.old shape regions.now caller domain start.0 length right
         allowance result pool.new }
 {
-    let n = pool.len();
-    let fits = table::shape_fits(shape, n);
-    let domains = shape.domains;
-    let leave = leave_of(fits, regions, domains, caller, domain, right, start, length);
-    match leave {
-        Leave::Refused(k) => Answer::Refused(k),
-        Leave::Given => change::change(pool, shape, domain, start, length, right, allowance),
+    let fits = table::shape_fits(shape, pool.len());
+    match leave_of(
+        fits,
+        regions,
+        shape.domains,
+        caller,
+        domain,
+        right,
+        start,
+        length,
+    ) {
+        Err(k) => Answer::Refused(k),
+        Ok(()) => change::change(pool, shape, domain, start, length, right, allowance),
     }
 }
