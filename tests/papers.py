@@ -35,19 +35,14 @@ CALLS = {
     },
 }
 
-# The only thing that such a call may require: that lent words are as many as a state has. The C face answers 101
-# where they are not, and requires nothing. The one store is called by the loop alone, and the program's parts by the
-# program.
-LENT = r"Is(?:Buffer|Gates|Stack) \w+\.(?:now|old)"
+# Such a call requires nothing: a state's words are lent as an array of their length. The one store is called by the
+# loop alone, and the program's parts by the program.
 NOT_BY_USERS = {"put", "serve", "serve_last", "write_page"}
 
 
-def requires_more(name, said):
-    """Whether the contract of a call requires more than the length of lent words."""
-    clauses = re.findall(r"^ *requires\*?(?: \w+)? \{ (.*?) \}$", said, re.S | re.M)
-    allowed = r"" if name.startswith("gol_") else LENT + r"(?: × " + LENT + r")*"
-    unread = len(clauses) != len(re.findall(r"\brequires\b", said))
-    return name not in NOT_BY_USERS and (unread or any(not re.fullmatch(allowed, clause) for clause in clauses))
+def requires_some(name, said):
+    """Whether the contract of a call requires anything."""
+    return name not in NOT_BY_USERS and re.search(r"\brequires\b", said) is not None
 
 
 def declared():
@@ -133,8 +128,8 @@ def reading(text):
             if said is None:
                 faults.append(f"there is no function {name} in {file}")
                 continue
-            if requires_more(name, said):
-                faults.append(f"{name} in {file} requires more than the length of lent words")
+            if requires_some(name, said):
+                faults.append(f"{name} in {file} has a requires")
             rests = {taken[word] for word in re.findall(r"[^\s(){}.,]+", said) if word in taken}
             faults += [f"the contract of {name} rests on {other}, which is inner" for other in sorted(rests & inner)]
     # of this repository: the library has some definitions in folders of that name
