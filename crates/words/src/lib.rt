@@ -182,7 +182,7 @@ fn words_from(low: u32, length: u32) -> u32
     requires { low < 4 }
     ensures { result ≡ rounded_length low length / 4 }
 {
-    length / 4 + (low + length % 4 + 3) / 4
+    length / 4 + (low + length % 4).div_ceil(4)
 }
 
 // The words of a start and a length in bytes.
