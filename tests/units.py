@@ -183,8 +183,8 @@ def sources():
 # One wrong line in a copy of the real text: file, what stands there, what is put there, how the refusal begins.
 WRONG = [
     ("census", "let word = base.after(i as usize);", "let word = PoolWord(i as usize);", "made by hand"),
-    ("lookaside/slots", "ByteAddr::from(a - past)", "ByteAddr(a - past)", "made by hand"),
-    ("lookaside/slots", "ByteAddr::from(a - past)", "(a - past).into()", "made by hand"),
+    ("lookaside/slots", "ByteAddr::from(a - a % block_bytes(level))", "ByteAddr(a - a % block_bytes(level))", "made by hand"),
+    ("lookaside/slots", "ByteAddr::from(a - a % block_bytes(level))", "(a - a % block_bytes(level)).into()", "made by hand"),
     ("gates/steps", "if caller.back != target {", "if caller.back.0 != target.0 {", "taken apart"),
     ("listing", "let w = pool[entry.index()];", "let w = pool[entry.0];", "taken apart"),
     ("table", "let word = pool[at.index()];", "let word = pool[before as usize];", "load: pool[before as usize]"),
