@@ -143,7 +143,6 @@ pub(crate) fn switch_step(
 }
 
 // The top frame is popped where its return address is the target, and its domain becomes current.
-#[tactic(auto, unfolding(crate::specs::Steps::given_back))]
 fn give_back(stack: &mut [u32; STACK_WORDS], target: ByteAddr) -> Result<Stepped, Refusal>
     requires { (stack_of stack.old).depth ≤ 16 }
     ensures { SteppedAs (given_back (stack_of stack.old) target) result stack.new }

@@ -1,3 +1,4 @@
+-- `gates::remove_gate` meets its contract.
 use mathlib.Core.Path.{◌≡◌, sym, ◌∙◌}
 use native.Mathlib.Omega.{arith}
 use Rattle.std.proofs.Common.{Some, None}

@@ -1,3 +1,4 @@
+-- `gates::set_gate` meets its contract.
 use Prim.Native.Nat.{◌+◌}
 use mathlib.Core.Path.{sym}
 use Rattle.std.proofs.lemmas.Result.{err_from_is_err_and}

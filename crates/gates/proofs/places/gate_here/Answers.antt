@@ -1,3 +1,4 @@
+-- `gates::places::gate_here` meets its contract.
 use mathlib.Core.Path.{sym, ap, ◌∙◌}
 use native.Mathlib.Omega.{arith}
 use Rattle.std.proofs.Common.{Some}

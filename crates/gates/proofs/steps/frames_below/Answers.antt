@@ -1,3 +1,4 @@
+-- `gates::steps::frames_below` meets its contract.
 use Prim.Native.Nat.{◌*◌}
 use mathlib.Core.Path.{◌∙◌}
 use native.Mathlib.Omega.{arith}

@@ -1,3 +1,4 @@
+-- `gates::steps::gates_below` meets its contract.
 use Prim.Native.Nat.{◌*◌}
 use mathlib.Core.Path.{◌∙◌}
 use native.Mathlib.Omega.{arith}
