@@ -174,9 +174,9 @@ pub fn fresh(pool: &mut [u32], shape: Shape) -> Result<(), Refusal>
     if !shape_fits(shape, pool.len()) {
         return Err(Refusal::NoShape);
     }
-    let roots = first_place(shape, 1).index();
-    pool[..roots].fill(words::BIT_31);
-    pool[roots..].fill(0);
+    let first_middle = first_place(shape, 1);
+    pool[..first_middle.index()].fill(words::BIT_31);
+    pool[first_middle.index()..].fill(0);
     Ok(())
 }
 
