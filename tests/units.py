@@ -191,7 +191,7 @@ WRONG = [
     ("lookaside/slots", "ByteAddr::from(a - a % block_bytes(level))", "ByteAddr(a - a % block_bytes(level))", "made by hand"),
     ("lookaside/slots", "ByteAddr::from(a - a % block_bytes(level))", "(a - a % block_bytes(level)).into()", "made by hand"),
     ("gates/steps", "if caller.back != target {", "if caller.back.0 != target.0 {", "taken apart"),
-    ("listing", "let k = entry.index();", "let k = entry.0;", "taken apart"),
+    ("listing", "let w = pool[entry.index()];", "let w = pool[entry.0];", "taken apart"),
     ("table", "let word = pool[at.index()];", "let word = pool[before as usize];", "load: pool[before as usize]"),
     ("table", "pool[..first_middle.index()].fill(", "pool[..shape.domains as usize].fill(", "fresh: pool[..shape.domains as usize]"),
     ("plan", "pool[page.index()]", "pool[root as usize]", "old_entry: pool[root as usize]"),
