@@ -66,7 +66,6 @@ BARE = {
     ("lookaside", "put_slot", "at"): "a word of a lent state",
     ("gates", "gate_at", "at"): "a word of a lent state",
     ("gates", "put_gate", "at"): "a word of a lent state",
-    ("gates", "move_gate", "at"): "a word of a lent state",
     ("gates", "frame_at", "at"): "a word of a lent state",
     ("gates", "put_frame", "at"): "a word of a lent state",
 }
