@@ -1,10 +1,10 @@
 """The sources keep memory byte addresses and pool word numbers apart: what the compiler cannot see is looked for in
 their text.
 
-Outside the crate words nobody makes a PoolWord or a ByteAddr but by its named functions, nobody takes one apart, the
-pool is indexed by what `words::pool_index` gave, and no bare number has a name that says pool word or address. The
-real text must pass, and copies with one wrong line must each be refused for it. Prints how many tests passed and
-failed.
+Outside the crate words nobody makes a PoolWord or a ByteAddr but by `from`, `after` and FIRST_WORD, nobody takes one
+apart but by `index`, `entry` and `u32::from`, the pool is read and cut at what a PoolWord's `index` gave, and no bare
+number has a name that says pool word or address. The real text must pass, and copies with one wrong line must each be
+refused for it. Prints how many tests passed and failed.
 """
 import pathlib
 import re
@@ -84,6 +84,9 @@ OFFSETS = {
     ("listing", "feed_leaf"): "its loop passes over the entries of every leaf",
 }
 
+# The index of a pool word that has a name, or of one some words after it.
+INDEX = r"\w+(?:\.\w+)*(?:\.after\((?:[^()]|\([^()]*\))*\))*\.index\(\)"
+
 # The names of slices of words that are not the pool.
 SLICES = {"owners", "runs", "out", "ws", "shape", "buffer", "gates", "stack", "regions", "part"}
 
@@ -124,26 +127,34 @@ def structs(text):
 
 
 def index_fault(crate, name, body):
-    """The first index of the pool that is not what `words::pool_index` gave."""
-    given = set(re.findall(r"\blet (\w+) = words::pool_index\(\w+\);", body))
+    """The first place of the pool that is not what `index` gave."""
+    given = set(re.findall(rf"\blet (\w+) = {INDEX};", body))
+
+    def is_given(index):
+        return index in given or re.fullmatch(INDEX, index)
+
     for found in re.finditer(r"\bpool\[", body):
-        index = body[found.end():closing(body, found.end() - 1, "[]")].strip()
-        part = re.fullmatch(r"(\w+)\.\.|\.\.(\w+)", index)
-        plus = re.fullmatch(r"(\w+) \+ .*", index)
-        if part and (part.group(1) or part.group(2)) in given:
+        place = body[found.end():closing(body, found.end() - 1, "[]")].strip()
+        first, dots, end = place.partition("..")
+        on = re.fullmatch(r"(\w+) \+ .*", end if dots else first)
+        on = on and on.group(1)
+        if on in given and first in (on, place) and (crate, name) in OFFSETS:
             continue
-        if plus and plus.group(1) in given and (crate, name) in OFFSETS:
-            continue
-        if index not in given:
-            return f"{name}: pool[{index}] is no index that words::pool_index gave"
+        if place == dots or not all(is_given(index) for index in (first, end) if index):
+            return f"{name}: pool[{place}] is no place that index gave"
+    for method in re.findall(r"\bpool\s*\.(\w+)", body):
+        if method != "len":
+            return f"{name}: pool.{method} goes by no index"
     return None
 
 
 def faults(crate, text, met):
     """What is wrong in a file of a crate; what the lists allow is added to `met`."""
     text = code(text)
-    for made in re.findall(r"\b(?:PoolWord|ByteAddr)\s*\(", text):
+    for made in re.findall(r"\b(?:PoolWord|ByteAddr)\s*\(|\.into\(\)", text):
         yield f"made by hand: {made}"
+    for named in re.findall(r"\bfn (index|after|entry)\b", text):
+        yield f"named as what words has: {named}"
     for taken in re.findall(r"[\w)\]]\.0\b", text):
         yield f"taken apart: {taken}"
     holds = [(name, body) for name, body in structs(text)]
@@ -174,14 +185,15 @@ def sources():
 
 # One wrong line in a copy of the real text: file, what stands there, what is put there, how the refusal begins.
 WRONG = [
-    ("census", "let word = words::word_after(base, i as usize);", "let word = PoolWord(i as usize);", "made by hand"),
-    ("lookaside/slots", "words::byte_addr(a - past)", "ByteAddr(a - past)", "made by hand"),
-    ("gates/steps", "let back = words::addr_number(b);", "let back = b.0;", "taken apart"),
-    ("listing", "let k = words::pool_index(entry);", "let k = entry.0;", "taken apart"),
-    ("table", "let i = words::pool_index(at);", "let i = before as usize;", "load: pool[i]"),
-    ("table", "fill(&mut pool[..roots], words::BIT_31);", "fill(&mut pool[..n], words::BIT_31);", "fresh: pool[..n]"),
+    ("census", "let word = base.after(i as usize);", "let word = PoolWord(i as usize);", "made by hand"),
+    ("lookaside/slots", "ByteAddr::from(a - past)", "ByteAddr(a - past)", "made by hand"),
+    ("lookaside/slots", "ByteAddr::from(a - past)", "(a - past).into()", "made by hand"),
+    ("gates/steps", "let back = u32::from(b);", "let back = b.0;", "taken apart"),
+    ("listing", "let w = pool[entry.index()];", "let w = pool[entry.0];", "taken apart"),
+    ("table", "let word = pool[at.index()];", "let word = pool[before as usize];", "load: pool[before as usize]"),
+    ("table", "pool[..first_middle.index()].fill(", "pool[..shape.domains as usize].fill(", "fresh: pool[..shape.domains as usize]"),
     ("plan", "return pool[k];", "return pool[root as usize];", "old_entry: pool[root as usize]"),
-    ("census", "            let w = pool[k];", "            let w = pool[k + 1];", "table_check: pool[k + 1]"),
+    ("census", "let w = pool[word.index()];", "let w = pool[word.index() + 1];", "table_check: pool[word.index() + 1]"),
     ("targets", "let w = pool[start + j as usize];", "let w = pool[number + j as usize];",
      "entries_have: pool[number + j as usize]"),
     ("change/ahead", "    table: PoolWord,", "    table: u32,", "a bare number: table of near_entries"),

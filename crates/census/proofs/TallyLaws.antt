@@ -16,10 +16,8 @@ use Rattle.table.specs.declared.Entry.{Entry}
 use Rattle.table.specs.declared.Entry.TheVariants.{Rights, Leads, Bad}
 use Rattle.table.specs.Entries.{decode_of}
 use Rattle.table.proofs.EntryLaws.{decode_rights}
-use Rattle.places.specs.Count.{blocks}
-use Rattle.census.specs.Places.{first_number}
 use Rattle.census.specs.Tally.{Tally, refused, owned, and_then, give, enter, through, table_tally, entry_tally}
-use Rattle.census.specs.Tally.{roots_tally, Answers, tables}
+use Rattle.census.specs.Tally.{roots_tally, Answers}
 
 -- What an answer tells.
 pub answers_owned : (y : Tally) (r : Bool) (o : List ℕ) → Answers y r o → r ≡ true → y ≡ owned o
@@ -33,11 +31,11 @@ answers_refused (owned x) r o a e = absurd (true≢false (sym a.0 ∙ e))
 pub same_answers : (y z : Tally) (r : Bool) (o : List ℕ) → y ≡ z → Answers z r o → Answers y r o
 same_answers y z r o e a = rw e a
 
-pub owned_answers : (y : Tally) (o : List ℕ) → y ≡ owned o → Answers y true o
-owned_answers y o e = rw e (refl, refl)
+pub owned_answers : (y : Tally) (r : Bool) (o : List ℕ) → r ≡ true → y ≡ owned o → Answers y r o
+owned_answers y r o f e = rw e (f, refl)
 
-pub refused_answers : (y : Tally) (o : List ℕ) → y ≡ refused → Answers y false o
-refused_answers y o e = rw e refl
+pub refused_answers : (y : Tally) (r : Bool) (o : List ℕ) → r ≡ false → y ≡ refused → Answers y r o
+refused_answers y r o f e = rw e f
 
 -- Of `n` words, `i` are passed; one further.
 module _ (f : ℕ → ℕ → List ℕ → Tally) (n k j i : ℕ) (o : List ℕ) (b : i < n) where
@@ -133,28 +131,6 @@ roots_refused s p n zero e = let z : n + 0 ≡ n = omega arith in rw z e
 roots_refused s p n (suc m) e =
     let z : n + suc m ≡ suc (n + m) = omega arith in
     rw z (ap (λ y. and_then y (table_tally s p 2 (1024 * (n + m)) (n + m))) (roots_refused s p n m e))
-
--- The entries of a table are of blocks that there may be.
-pub entry_number : (D h i j : ℕ) → 0 < h → h ≤ 2 → i < tables D h → j < 1024 → 1024 * i + j < tables D (h - 1)
-entry_number D zero i j lo hi b c = absurd (omega arith)
-entry_number D (suc zero) i j lo hi b c = omega arith
-entry_number D (suc (suc zero)) i j lo hi b c = omega arith
-entry_number D (suc (suc (suc h))) i j lo hi b c = absurd (omega arith)
-
-pub few_numbers : (D h i : ℕ) → D ≤ 4 → i < tables D h → i < 4194304
-few_numbers D zero i d b = omega arith
-few_numbers D (suc zero) i d b = omega arith
-few_numbers D (suc (suc h)) i d b = omega arith
-
--- How many blocks of a domain may have a table of a height.
-pub upper_blocks : (h : ℕ) → (h ≡ 0 → ⊥) → blocks h ≡ 1024
-upper_blocks zero e = absurd (e refl)
-upper_blocks (suc h) e = refl
-
--- Which number the first place of a height has.
-pub upper_number : (h : ℕ) → (h ≡ 0 → ⊥) → first_number h ≡ 0
-upper_number zero e = absurd (e refl)
-upper_number (suc h) e = refl
 
 pub upper_size : (h : ℕ) → 0 < h → size h ≡ 1024
 upper_size zero lo = absurd (omega arith)

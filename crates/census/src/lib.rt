@@ -3,12 +3,12 @@
 // may have two owners.
 #![tactic(auto)]
 
-ghost use Rattle.std.specs.Prelude.{◌≡◌, ◌+◌, ◌-◌, ◌%◌, ◌≤◌, ◌<◌, length, replicate, true};
+ghost use Rattle.std.specs.Prelude.{◌≡◌, ◌+◌, ◌-◌, ◌%◌, ◌≤◌, ◌<◌, length, true};
 ghost use Rattle.theory.specs.Pool.{words};
 ghost use Rattle.table.specs.Shape.{Fits, InRange, size};
 ghost use Rattle.places.specs.Count.{blocks, domain_of};
 ghost use Rattle.census.specs.Places.{max_places, place_height, place_word, first_number};
-ghost use Rattle.census.specs.Tally.{none, give, AllPlain, entry_tally, table_tally, Answers, tables};
+ghost use Rattle.census.specs.Tally.{give, AllPlain, entry_tally, table_tally, Answers, tables};
 ghost use Rattle.census.specs.Census.{Census};
 
 use table::{Entry, LEAF_WORDS, Shape, TABLE_WORDS};
@@ -17,17 +17,15 @@ use words::PoolWord;
 // How many places there may be, middle and leaf.
 pub const PLACES: usize = 72;
 
-// The owner of a place where no table stands: a number that no block has.
+// The owner of a place where no table stands: a number that no block has. (An Option<u32> takes twice as much, and the
+// owners stand on a stack of 1,024 bytes.)
 pub const NONE: u32 = 0xFFFF_FFFF;
 
 // The height of the tables that place `n` is for.
 pub fn place_height(n: usize) -> u32
     ensures { result ≡ place_height n }
 {
-    if n < table::FIRST_LEAF {
-        return 1;
-    }
-    0
+    if n < table::FIRST_LEAF { 1 } else { 0 }
 }
 
 // The pool word where place `n` begins.
@@ -36,64 +34,50 @@ pub fn place_word(shape: Shape, n: usize) -> PoolWord
     requires n_lt_max_places { n < max_places }
     ensures { result ≡ record { 0 = place_word shape n } }
 {
-    let domains = shape.domains;
-    let middles = shape.middles;
+    let middles = TABLE_WORDS * shape.domains;
     if n < table::FIRST_LEAF {
-        return words::pool_word(TABLE_WORDS * domains + TABLE_WORDS * n as u32);
+        return PoolWord::from(middles + TABLE_WORDS * n as u32);
     }
-    words::pool_word(
-        TABLE_WORDS * domains + TABLE_WORDS * middles + LEAF_WORDS * (n - table::FIRST_LEAF) as u32,
-    )
+    let leaves = middles + TABLE_WORDS * shape.middles;
+    PoolWord::from(leaves + LEAF_WORDS * (n - table::FIRST_LEAF) as u32)
 }
 
 // The number of the first place for tables of a height.
 pub fn first_number(height: u32) -> u32
     ensures { result ≡ first_number height }
 {
-    if height == 0 {
-        return 8;
+    match height {
+        0 => table::FIRST_LEAF as u32,
+        _ => 0,
     }
-    0
 }
 
 // The domain of a block that may have a table of a height.
 pub fn domain_of(height: u32, block: u32) -> u32
     ensures { result ≡ domain_of height block }
 {
-    if height == 0 {
-        return block / table::DOMAIN_PAGES;
+    match height {
+        0 => block / table::DOMAIN_PAGES,
+        _ => block / table::DOMAIN_BLOCKS,
     }
-    block / table::DOMAIN_BLOCKS
 }
 
 // The number in its domain of a block that may have a table of a height.
 pub fn block_in_domain(height: u32, block: u32) -> u32
     ensures { result ≡ block % blocks height }
 {
-    if height == 0 {
-        return block % table::DOMAIN_PAGES;
-    }
-    block % table::DOMAIN_BLOCKS
-}
-
-// No place has an owner.
-fn clear(owners: &mut [u32])
-    ensures { owners.new ≡ replicate (length owners.old) none }
-{
-    let mut i = 0;
-    while i < owners.len() {
-        owners[i] = NONE;
-        i += 1;
+    match height {
+        0 => block % table::DOMAIN_PAGES,
+        _ => block % table::DOMAIN_BLOCKS,
     }
 }
 
 // Place `n` becomes that of a block, unless it has an owner already.
-fn give_place(n: usize, block: u32, owners: &mut [u32]) -> bool
-    requires { n < length owners.old }
+fn give_place(n: usize, block: u32, owners: &mut [u32; PLACES]) -> bool
+    requires { n < max_places }
     ensures { Answers (give n block owners.old) result owners.new }
 {
-    let owner = owners[n];
-    if owner != NONE {
+    if owners[n] != NONE {
         return false;
     }
     owners[n] = block;
@@ -106,15 +90,10 @@ pub fn plain_ahead(pool: &[u32], word: PoolWord, i: u32) -> u32
     requires { (i < 1024) × (word.0 + (1024 - i) ≤ length pool.now) }
     ensures { (i + result ≤ 1024) × AllPlain (words pool.now) word.0 result }
 {
-    let k = words::pool_index(word);
-    let w = pool[k];
-    let plain = words::good_rights(w);
-    if !plain {
+    if !words::good_rights(pool[word.index()]) {
         return 0;
     }
-    let rest = TABLE_WORDS - i;
-    let n = words::skip_rights(pool, word, rest as usize);
-    n as u32
+    words::skip_rights(pool, word, (TABLE_WORDS - i) as usize) as u32
 }
 
 // The table of a height above the leaves that begins at `base`, of a block.
@@ -125,25 +104,23 @@ fn table_check(
     height: u32,
     base: PoolWord,
     block: u32,
-    owners: &mut [u32],
+    owners: &mut [u32; PLACES],
 ) -> bool
     requires fits { Fits shape (length pool.now) }
     requires height_nonzero { (0 < height) × (height ≤ 2) × (block < tables shape.domains height) }
     requires height_in_bounds { base.0 + size height ≤ length pool.now }
-    requires owners_len { length owners.old ≡ max_places }
     ensures { Answers (table_tally shape pool.now height base.0 block owners.old) result
         owners.new }
 {
     let first = TABLE_WORDS * block;
-    let mut i: u32 = 0;
+    let mut i = 0;
+    // No `for`: it passes over as many entries at a time as are eight rights.
     while i < TABLE_WORDS {
-        let word = words::word_after(base, i as usize);
+        let word = base.after(i as usize);
         let n = plain_ahead(pool, word, i);
         if n == 0 {
-            let k = words::pool_index(word);
-            let w = pool[k];
-            let fine = entry_check(pool, shape, height, w, first + i, owners);
-            if !fine {
+            let w = pool[word.index()];
+            if !entry_check(pool, shape, height, w, first + i, owners) {
                 return false;
             }
             i += 1;
@@ -162,29 +139,20 @@ fn entry_check(
     height: u32,
     w: u32,
     block: u32,
-    owners: &mut [u32],
+    owners: &mut [u32; PLACES],
 ) -> bool
     requires fits { Fits shape (length pool.now) }
     requires height_nonzero { (0 < height) × (height ≤ 2) × (block < tables shape.domains (height - 1)) }
-    requires owners_len { length owners.old ≡ max_places }
     ensures { Answers (entry_tally shape pool.now height w block owners.old) result
         owners.new }
 {
-    let e = table::decode(shape, height, w);
-    match e {
+    match table::decode(shape, height, w) {
         Entry::Rights(_) => true,
         Entry::Bad => false,
         Entry::Leads(t, n) => {
-            let first = give_place(n, block, owners);
-            if first {
-                // A leaf is not read: there every value is good.
-                if height == 1 {
-                    return true;
-                }
-                table_check(pool, shape, height - 1, t, block, owners)
-            } else {
-                false
-            }
+            // A leaf is not read: there every value is good.
+            give_place(n, block, owners)
+                && (height == 1 || table_check(pool, shape, height - 1, t, block, owners))
         }
     }
 }
@@ -192,21 +160,16 @@ fn entry_check(
 // Whether the pool is sound, and, where it is, the owners of its places: of each place the number of the block whose
 // table stands there, over all domains (1024 * d + b for block b of domain d, 1048576 * d + p for page p), or NONE.
 #[inline(never)]
-pub fn census(pool: &[u32], shape: Shape, owners: &mut [u32]) -> bool
+pub fn census(pool: &[u32], shape: Shape, owners: &mut [u32; PLACES]) -> bool
     requires fits { Fits shape (length pool.now) }
-    requires owners_len { length owners.old ≡ max_places }
     ensures { Census pool.now shape result owners.new }
 {
-    let domains = shape.domains;
-    clear(owners);
-    let mut d = 0;
-    while d < domains {
-        let root = words::pool_word(TABLE_WORDS * d);
-        let fine = table_check(pool, shape, 2, root, d, owners);
-        if !fine {
+    owners.fill(NONE);
+    for d in 0..shape.domains {
+        let root = PoolWord::from(TABLE_WORDS * d);
+        if !table_check(pool, shape, 2, root, d, owners) {
             return false;
         }
-        d += 1;
     }
     true
 }

@@ -4,13 +4,13 @@ use Prim.Native.Nat.{ℕ, ◌+◌, ◌*◌, ◌/◌, ◌≤◌}
 use mathlib.Core.Path.{◌≡◌, refl, sym, ap, subst, ◌∙◌}
 use mathlib.Core.List.{List}
 use native.Mathlib.Omega.{arith}
+use Rattle.std.specs.Prelude.{Ok}
 use Rattle.theory.specs.Pool.{words}
 use Rattle.theory.proofs.WalkLaws.{together_decides}
 use Rattle.words.specs.Stretches.{Longest}
 use Rattle.words.proofs.StretchLaws.{one_longest, longest_around}
 use Rattle.table.specs.declared.Shape.{Shape}
 use Rattle.table.specs.declared.Deciding.{Deciding}
-use Rattle.table.specs.declared.Found.TheVariants.{By}
 use Rattle.table.specs.Map.{block, part, block_at, entry_rights, form_of}
 use Rattle.table.specs.Stretches.{first_byte, last_byte}
 use Rattle.table.specs.Lookup.{decided_by, found_at, lookup_of}
@@ -38,8 +38,8 @@ module _ (R : ℕ → ℕ) (h a b : ℕ) (whole : (x y : ℕ) → x / part h ≡
       one_longest R (block_at h a) (block_at h a + block h) b there
       (longest_around R (block_at h a) (block_at h a + block h) a b here from upto)
 
-module _ (p : List ℕ) (s : Shape) (d a : ℕ) (x : Deciding) (e : lookup_of p s d a ≡ By x) where
-  pub same_answer : (b : ℕ) → x.first.0 ≤ b → b ≤ x.last.0 → lookup_of p s d b ≡ By x
+module _ (p : List ℕ) (s : Shape) (d a : ℕ) (x : Deciding) (e : lookup_of p s d a ≡ Ok x) where
+  pub same_answer : (b : ℕ) → x.first.0 ≤ b → b ≤ x.last.0 → lookup_of p s d b ≡ Ok x
   same_answer b lo hi =
       let (h, k, z, q) = whole_found p s d a x e in
       let (fits, domain) = answered p s d a x e in
@@ -51,7 +51,7 @@ module _ (p : List ℕ) (s : Shape) (d a : ℕ) (x : Deciding) (e : lookup_of p 
       let t = block_together s h a b (same_block R h a b (entry_whole h w) from upto) in
       lookup_walks p s d b fits domain
       ∙ ap (found_at (form_of s) (words p) b) (together_decides (form_of s) (words p) a b (λ v. refl) d z t)
-      ∙ ap (λ (y : Deciding). By y) (alike R h w b (same_right R h a b (entry_whole h w) from upto) f l ∙ sym q)
+      ∙ ap (λ (y : Deciding). Ok y) (alike R h w b (same_right R h a b (entry_whole h w) from upto) f l ∙ sym q)
     where
       alike : (R : ℕ → ℕ) (h w b : ℕ) → R b ≡ R a → first_byte R h b ≡ first_byte R h a → last_byte R h b ≡ last_byte R h a
           → decided_by R h w b ≡ decided_by R h w a

@@ -4,9 +4,8 @@ use mathlib.Core.Path.{◌≡◌, refl, sym, ap}
 use mathlib.Core.Logic.{◌≢◌}
 use mathlib.Core.Bool.{Bool, true, false, cond}
 use native.Mathlib.Omega.{arith}
-use native.Mathlib.Nat.{div-lt_iff_lt-mul}
 use lib.Dec.{ltb}
-use borrow.Author.Tests.{le-leb, lt-leb, lt-ltb, le-ltb, eq-eqb, ne_eqb, leb-true, ltb-true, eqb-true}
+use borrow.Author.Tests.{lt-ltb, le-ltb, eq-eqb, ne_eqb, leb-true, ltb-true, eqb-true}
 use Rattle.words.specs.Rights.{good_rights}
 use Rattle.words.specs.declared.PoolWord.{PoolWord}
 use Rattle.table.specs.declared.Shape.{Shape}
@@ -19,21 +18,6 @@ use Rattle.theory.proofs.Logic.{and_both}
 
 -- The test of a place, by its three halves.
 module _ (from long n w : ℕ) where
-  pub place_low : w < from → is_place from long n w ≡ false
-  place_low a = simp (lt-leb from w a)
-
-  pub place_high : from ≤ w → from + long * n ≤ w → is_place from long n w ≡ false
-  place_high a b = simp (le-leb from w a, le-ltb w (from + long * n) b)
-
-  pub place_off : from ≤ w → w < from + long * n → (w - from) % long ≢ 0 → is_place from long n w ≡ false
-  place_off a b c = simp (le-leb from w a, lt-ltb w (from + long * n) b, ne_eqb ((w - from) % long) 0 c)
-
-  pub place_is : from ≤ w → w < from + long * n → (w - from) % long ≡ 0 → is_place from long n w ≡ true
-  place_is a b c = simp (le-leb from w a, lt-ltb w (from + long * n) b, eq-eqb ((w - from) % long) 0 c)
-
-  pub place_below : from ≤ w → w < from + long * n → 0 < long → (w - from) / long < n
-  place_below a b c = (div-lt_iff_lt-mul c).1 (omega arith)
-
   pub is_place_lem : is_place from long n w ≡ true → (from ≤ w) × (w < from + long * n) × ((w - from) % long ≡ 0)
   is_place_lem e =
       let (e1, c) = and_both _ _ e in
@@ -71,13 +55,13 @@ module _ (l p g : Bool) (w : ℕ) (t : PoolWord) (n : ℕ) where
   shown = cond l (cond p (Leads t n) Bad) (cond g (Rights w) Bad)
 
 pub bad_rights : {w : ℕ} → Bad ≡ Rights w → ⊥
-bad_rights e = let z : ◌≡◌ {A = ℕ} 0 1 = cc in omega arith
+bad_rights e = cc
 
 pub bad_leads : {t : PoolWord} {n : ℕ} → Bad ≡ Leads t n → ⊥
-bad_leads e = let z : ◌≡◌ {A = ℕ} 0 1 = cc in omega arith
+bad_leads e = cc
 
 pub rights_leads : {w n : ℕ} {t : PoolWord} → Rights w ≡ Leads t n → ⊥
-rights_leads e = let z : ◌≡◌ {A = ℕ} 0 1 = cc in omega arith
+rights_leads e = cc
 
 shown_bad : (l p g : Bool) (w : ℕ) (t : PoolWord) (n : ℕ) → shown l p g w t n ≡ Bad → cond l p g ≡ false
 shown_bad true true g w t n e = absurd (bad_leads (sym e))

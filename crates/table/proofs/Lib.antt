@@ -1,4 +1,3 @@
-pub mod HeightLaws
 pub mod ShapeLaws
 pub mod EntryLaws
 pub mod BlockLaws

@@ -8,6 +8,9 @@ use native.Mathlib.Omega.{arith}
 use lib.ListN.{length}
 use lib.Dec.{ltb}
 use borrow.Author.Tests.{lt-ltb, le-ltb, ltb-true, ltb-false}
+use Rattle.std.specs.Prelude.{Result, Ok, Err}
+use Rattle.refusals.specs.declared.Refusal.{Refusal}
+use Rattle.refusals.specs.declared.Refusal.TheVariants.{NoShape, NoDomain}
 use Rattle.theory.specs.Form.{Form}
 use Rattle.theory.specs.Pool.{SoundPool, words, entry, right_of}
 use Rattle.theory.specs.Walk.{End, bad, decides, walk}
@@ -21,9 +24,6 @@ use Rattle.table.specs.declared.Shape.{Shape}
 use Rattle.table.specs.declared.Entry.TheVariants.{Leads}
 use Rattle.table.specs.declared.Decided.{Decided}
 use Rattle.table.specs.declared.Deciding.{Deciding}
-use Rattle.table.specs.declared.Walked.TheVariants.{By as Decides, Refused as Refuses}
-use Rattle.table.specs.declared.Found.{Found}
-use Rattle.table.specs.declared.Found.TheVariants.{By, Refused}
 use Rattle.table.specs.Shape.{Fits, fits_of}
 use Rattle.table.specs.Map.{addresses, block, block_at, entry_rights, index, form_of}
 use Rattle.table.specs.Entries.{decode_of}
@@ -64,32 +64,32 @@ module _ (p : List ℕ) (s : Shape) (d a : ℕ) where
   abbrev end : End
   end = walk (form_of s) (words p) a 2 (entry (form_of s) d a)
 
-  pub lookup_misfit : fits_of s (length p) ≡ false → lookup_of p s d a ≡ Refused 1
+  pub lookup_misfit : fits_of s (length p) ≡ false → lookup_of p s d a ≡ Err NoShape
   lookup_misfit e = rw e
 
-  pub lookup_no_domain : fits_of s (length p) ≡ true → s.domains ≤ d → lookup_of p s d a ≡ Refused 2
+  pub lookup_no_domain : fits_of s (length p) ≡ true → s.domains ≤ d → lookup_of p s d a ≡ Err NoDomain
   lookup_no_domain e h = rw (e, le-ltb d s.domains h)
 
   pub lookup_walks : fits_of s (length p) ≡ true → d < s.domains → lookup_of p s d a ≡ found_at (form_of s) (words p) a end
   lookup_walks e h = rw (e, lt-ltb d s.domains h)
 
-refused_not_by : {n : ℕ} {x : Deciding} → Refused n ≡ By x → ⊥
-refused_not_by e = let z : ◌≡◌ {A = ℕ} 0 1 = cc in omega arith
+err_not_ok : {r : Refusal} {x : Deciding} → Err r ≡ Ok x → ⊥
+err_not_ok e = cc
 
 -- What the end of a walk must be for an answer that is a right.
-found_decides : (F : Form) (P : ℕ → ℕ) (a : ℕ) (e : End) (x : Deciding) → found_at F P a e ≡ By x
+found_decides : (F : Form) (P : ℕ → ℕ) (a : ℕ) (e : End) (x : Deciding) → found_at F P a e ≡ Ok x
     → (h : ℕ) × (k : ℕ) × (e ≡ decides h k) × (x ≡ decided_by (F.says h (P k)) h (P k) a)
-found_decides F P a bad x e = absurd (refused_not_by e)
+found_decides F P a bad x e = absurd (err_not_ok e)
 found_decides F P a (decides h k) x e = (h, k, refl, cc)
 
-module _ (p : List ℕ) (s : Shape) (d a : ℕ) (x : Deciding) (e : lookup_of p s d a ≡ By x) where
+module _ (p : List ℕ) (s : Shape) (d a : ℕ) (x : Deciding) (e : lookup_of p s d a ≡ Ok x) where
   -- An answer that is a right was not refused, ..
   pub answered : (fits_of s (length p) ≡ true) × (d < s.domains)
   answered = by_cases (fits_of s (length p))
       (λ f. by_cases (ltb d s.domains)
       (λ l. (f, ltb-true d s.domains l))
-      (λ l. absurd (refused_not_by (sym (lookup_no_domain p s d a f (ltb-false d s.domains l)) ∙ e))))
-      (λ f. absurd (refused_not_by (sym (lookup_misfit p s d a f) ∙ e)))
+      (λ l. absurd (err_not_ok (sym (lookup_no_domain p s d a f (ltb-false d s.domains l)) ∙ e))))
+      (λ f. absurd (err_not_ok (sym (lookup_misfit p s d a f) ∙ e)))
 
   -- .. and comes from the end of a walk.
   pub whole_found : (h : ℕ) × (k : ℕ) × (end p s d a ≡ decides h k)
@@ -153,7 +153,7 @@ module _ (p : List ℕ) (s : Shape) (d a : ℕ) (x : Deciding) (e : lookup_of p 
       subst (λ (v : Deciding). v ≡ decided_by (entry_rights (3 - v.loads) v.entry) (3 - v.loads) v.entry a)
       (sym q) again
 
-pub looks_up : (p : List ℕ) (s : Shape) (d a : ℕ) (r : Found) → r ≡ lookup_of p s d a → LooksUp p s d a r
+pub looks_up : (p : List ℕ) (s : Shape) (d a : ℕ) (r : Result Deciding Refusal) → r ≡ lookup_of p s d a → LooksUp p s d a r
 looks_up p s d a r e = record {
   answer = e;
   block = λ x q. right_block p s d a x (sym e ∙ q);
@@ -161,21 +161,18 @@ looks_up p s d a r e = record {
 }
 
 -- What a walk decides tells the whole answer: a refusal is the same, ..
-pub walks_refused : (f : Found) (n : ℕ) → Refuses n ≡ without_reach f → f ≡ Refused n
-walks_refused (By x) n e = let z : ◌≡◌ {A = ℕ} 0 1 = cc in absurd (omega arith)
-walks_refused (Refused m) n e = cc
+pub walks_refused : (f : Result Deciding Refusal) (r : Refusal) → Err r ≡ without_reach f → f ≡ Err r
+walks_refused (Ok x) r e = cc
+walks_refused (Err k) r e = cc
 
 -- .. and else its right, its entry and its loads are those of the answer.
-pub walks_by : (f : Found) (y : Decided) → Decides y ≡ without_reach f
-    → (x : Deciding) × (f ≡ By x) × (x.right ≡ y.right) × (x.entry ≡ y.entry) × (x.loads ≡ y.loads)
-walks_by (By x) y e = (x, refl, cc, cc, cc)
-walks_by (Refused m) y e = let z : ◌≡◌ {A = ℕ} 0 1 = cc in absurd (omega arith)
+pub walks_by : (f : Result Deciding Refusal) (y : Decided) → Ok y ≡ without_reach f
+    → (x : Deciding) × (f ≡ Ok x) × (x.right ≡ y.right) × (x.entry ≡ y.entry) × (x.loads ≡ y.loads)
+walks_by (Ok x) y e = (x, refl, cc, cc, cc)
+walks_by (Err k) y e = absurd cc
 
 module _ (p : List ℕ) (s : Shape) (d a : ℕ) where
-  pub walked_refused : (n : ℕ) → Refuses n ≡ without_reach (lookup_of p s d a) → LooksUp p s d a (Refused n)
-  walked_refused n e = looks_up p s d a (Refused n) (sym (walks_refused (lookup_of p s d a) n e))
-
-  module _ (y : Decided) (e : Decides y ≡ without_reach (lookup_of p s d a)) where
+  module _ (y : Decided) (e : Ok y ≡ without_reach (lookup_of p s d a)) where
     pub walked_loads : (1 ≤ y.loads) × (y.loads ≤ 3)
     walked_loads =
         let (x, f, _, _, l) = walks_by (lookup_of p s d a) y e in
@@ -183,22 +180,22 @@ module _ (p : List ℕ) (s : Shape) (d a : ℕ) where
         (omega arith, omega arith)
 
     pub walked_by : (r : Deciding) → r ≡ decided_by (entry_rights (3 - y.loads) y.entry) (3 - y.loads) y.entry a
-        → LooksUp p s d a (By r)
+        → LooksUp p s d a (Ok r)
     walked_by r q =
         let (x, f, _, w, l) = walks_by (lookup_of p s d a) y e in
-        looks_up p s d a (By r) (ap (λ (v : Deciding). By v)
+        looks_up p s d a (Ok r) (ap (λ (v : Deciding). Ok v)
         (q ∙ ap (λ m. decided_by (entry_rights (3 - m) y.entry) (3 - m) y.entry a) (sym l)
         ∙ ap (λ m. decided_by (entry_rights (3 - x.loads) m) (3 - x.loads) m a) (sym w)
         ∙ sym (whole_again p s d a x f)) ∙ sym f)
 
 -- There is one answer.
-pub one_lookup : {p : List ℕ} {s : Shape} {d a : ℕ} {q r : Found} → LooksUp p s d a q → LooksUp p s d a r → q ≡ r
+pub one_lookup : {p : List ℕ} {s : Shape} {d a : ℕ} {q r : Result Deciding Refusal} → LooksUp p s d a q → LooksUp p s d a r → q ≡ r
 one_lookup x y = x.answer ∙ sym y.answer
 
 -- In a sound pool a lookup for a domain below D finds the table's right.
 pub sound_lookup : (p : List ℕ) (s : Shape) (d a : ℕ) → SoundPool (form_of s) (words p) → Fits s (length p)
     → d < s.domains
-    → (x : Deciding) × (lookup_of p s d a ≡ By x) × (x.right ≡ right_of (form_of s) (words p) d a)
+    → (x : Deciding) × (lookup_of p s d a ≡ Ok x) × (x.right ≡ right_of (form_of s) (words p) d a)
 sound_lookup p s d a q f h =
     let (m, k, z) = sound_decides (form_of s) (words p) a (lawful _) q 2 (entry (form_of s) d a)
     (entry_reach (form_of s) (lawful _) d a h) in

@@ -34,56 +34,52 @@ pub const DOMAIN_PAGES: u32 = 1048576;
 pub fn size_of(height: u32) -> u32
     ensures { result ≡ size height }
 {
-    if height == 0 {
-        return LEAF_WORDS;
+    match height {
+        0 => LEAF_WORDS,
+        _ => TABLE_WORDS,
     }
-    TABLE_WORDS
 }
 
 // How many rights an entry has.
 pub fn parts_of(height: u32) -> u32
     ensures { result ≡ parts height }
 {
-    if height == 0 {
-        return 16;
+    match height {
+        0 => 16,
+        _ => 8,
     }
-    8
 }
 
 // How many memory words the block of an entry has.
 pub fn block_words(height: u32) -> u32
     ensures { result ≡ block_words height }
 {
-    if height == 0 {
-        return LINE_BYTES / 4;
+    match height {
+        0 => LINE_BYTES / 4,
+        1 => PAGE_BYTES / 4,
+        _ => BLOCK_BYTES / 4,
     }
-    if height == 1 {
-        return PAGE_BYTES / 4;
-    }
-    BLOCK_BYTES / 4
 }
 
 // How many memory words one of its rights covers.
 pub fn part_words(height: u32) -> u32
     ensures { result ≡ words_in height }
 {
-    if height == 0 {
-        return 1;
+    match height {
+        0 => 1,
+        1 => PAGE_BYTES / 32,
+        _ => BLOCK_BYTES / 32,
     }
-    if height == 1 {
-        return PAGE_BYTES / 32;
-    }
-    BLOCK_BYTES / 32
 }
 
 // How many entries of the height `below` stand for one right of the entry above them.
 pub fn part_entries(below: u32) -> u32
     ensures { result ≡ size below / 8 }
 {
-    if below == 0 {
-        return LEAF_WORDS / 8;
+    match below {
+        0 => LEAF_WORDS / 8,
+        _ => TABLE_WORDS / 8,
     }
-    TABLE_WORDS / 8
 }
 
 // All of these of one height: the entries of a table, the rights of an entry, and the memory words that one of them and
@@ -99,15 +95,11 @@ pub struct Level {
 pub fn level_of(height: u32) -> Level
     ensures { result ≡ level_of height }
 {
-    let entries = size_of(height);
-    let parts = parts_of(height);
-    let step = part_words(height);
-    let block = block_words(height);
     Level {
-        entries,
-        parts,
-        step,
-        block,
+        entries: size_of(height),
+        parts: parts_of(height),
+        step: part_words(height),
+        block: block_words(height),
     }
 }
 
@@ -115,10 +107,7 @@ pub fn level_of(height: u32) -> Level
 pub fn leads(height: u32, w: u32) -> bool
     ensures { result ≡ leads height w }
 {
-    if height == 0 {
-        return false;
-    }
-    w < words::BIT_31
+    height != 0 && w < words::BIT_31
 }
 
 // The entry that says one right for its whole block.
@@ -126,22 +115,20 @@ pub fn same_entry(height: u32, right: u32) -> u32
     requires { right < 4 }
     ensures { result ≡ same_of height right }
 {
-    if height == 0 {
-        return words::sixteen_of(right);
+    match height {
+        0 => words::sixteen_of(right),
+        _ => words::eight_of(right),
     }
-    words::eight_of(right)
 }
 
 // How many places there are for tables of a height: leaves, or middle tables.
 pub fn places_of(shape: Shape, height: u32) -> u32
     ensures { result ≡ places shape height }
 {
-    let middles = shape.middles;
-    let leaves = shape.leaves;
-    if height == 0 {
-        return leaves;
+    match height {
+        0 => shape.leaves,
+        _ => shape.middles,
     }
-    middles
 }
 
 // The pool word where these places begin.
@@ -149,12 +136,10 @@ pub fn first_place(shape: Shape, height: u32) -> PoolWord
     requires { InRange shape }
     ensures { result ≡ record { 0 = first_place shape height } }
 {
-    let domains = shape.domains;
-    let middles = shape.middles;
-    if height == 0 {
-        return words::pool_word(TABLE_WORDS * domains + TABLE_WORDS * middles);
+    match height {
+        0 => PoolWord::from(TABLE_WORDS * (shape.domains + shape.middles)),
+        _ => PoolWord::from(TABLE_WORDS * shape.domains),
     }
-    words::pool_word(TABLE_WORDS * domains)
 }
 
 // The root word of a block of a domain.
@@ -162,6 +147,5 @@ pub fn root_word(domain: u32, block: u32) -> PoolWord
     requires { (domain < 4194303) × (block < 1024) }
     ensures { result ≡ record { 0 = 1024 * domain + block } }
 {
-    let root = words::pool_word(TABLE_WORDS * domain);
-    words::word_after(root, block as usize)
+    PoolWord::from(TABLE_WORDS * domain).after(block as usize)
 }

@@ -1,16 +1,17 @@
 // The table: the shape of a pool, what its entries say, making it fresh, and the lookup of one word.
 #![tactic(auto)]
 
-ghost use Rattle.std.specs.Prelude.{◌≡◌, ◌+◌, ◌*◌, ◌<◌, ◌≤◌, length, replicate};
+ghost use Rattle.std.specs.Prelude.{◌≡◌, ◌+◌, ◌*◌, ◌<◌, ◌≤◌, length};
 ghost use Rattle.theory.specs.Pool.{words};
 ghost use Rattle.theory.specs.Walk.{walk};
-ghost use Rattle.table.specs.Shape.{fits_of, Fits, InRange};
+ghost use Rattle.table.specs.Shape.{fits_of, pool_length, Fits, InRange};
 ghost use Rattle.table.specs.Map.{index, part_of, form_of};
 ghost use Rattle.table.specs.Entries.{leads_to, decode_of};
 ghost use Rattle.table.specs.Fresh.{MakesFresh};
 ghost use Rattle.table.specs.Lookup.{found_at, without_reach, lookup_of, LooksUp};
 ghost use Rattle.table.specs.Access.{passes_of};
 
+use refusals::Refusal;
 use words::{ByteAddr, PoolWord};
 
 mod geometry; // geometry.rt: blocks, parts, sizes and places by the height
@@ -63,24 +64,12 @@ pub struct Loaded {
     pub loads: u32,
 }
 
-#[derive(Clone, Copy)]
-pub enum Made {
-    Done,
-    Refused(u32),
-}
-
 // The right that a walk finds, the entry that decides it, and how many words were read.
 #[derive(Clone, Copy)]
 pub struct Decided {
     pub right: u32,
     pub entry: u32,
     pub loads: u32,
-}
-
-#[derive(Clone, Copy)]
-pub enum Walked {
-    By(Decided),
-    Refused(u32),
 }
 
 // What a lookup answers: the same, and the first and the last byte of the stretch that has this right, inside the
@@ -94,32 +83,23 @@ pub struct Deciding {
     pub last: ByteAddr,
 }
 
-#[derive(Clone, Copy)]
-pub enum Found {
-    By(Deciding),
-    Refused(u32),
+// How many words a pool of this shape has.
+fn pool_length(shape: Shape) -> usize
+    requires { InRange shape }
+    ensures { result ≡ pool_length shape }
+{
+    let leaves = LEAF_WORDS * shape.leaves;
+    (TABLE_WORDS * (shape.domains + shape.middles) + leaves) as usize
 }
 
-// Whether a pool of `long` words has this shape. The ranges come first: with them no product below can wrap.
+// Whether a pool of `long` words has this shape. The ranges come first: with them its length cannot wrap.
 pub fn shape_fits(shape: Shape, long: usize) -> bool
     ensures { result ≡ fits_of shape long }
 {
-    let domains = shape.domains;
-    let middles = shape.middles;
-    let leaves = shape.leaves;
-    if domains < 1 {
-        return false;
-    }
-    if domains > MAX_DOMAINS {
-        return false;
-    }
-    if middles > MAX_MIDDLES {
-        return false;
-    }
-    if leaves > MAX_LEAVES {
-        return false;
-    }
-    long == (TABLE_WORDS * domains + TABLE_WORDS * middles + LEAF_WORDS * leaves) as usize
+    (1..=MAX_DOMAINS).contains(&shape.domains)
+        && shape.middles <= MAX_MIDDLES
+        && shape.leaves <= MAX_LEAVES
+        && long == pool_length(shape)
 }
 
 // The entry by which an address goes in a table of a height.
@@ -127,14 +107,13 @@ pub fn index_in(height: u32, address: ByteAddr) -> usize
     requires { height ≤ 2 }
     ensures { result ≡ index height address.0 }
 {
-    let a = words::addr_number(address);
-    if height == 2 {
-        return (a / BLOCK_BYTES % TABLE_WORDS) as usize;
-    }
-    if height == 1 {
-        return (a / PAGE_BYTES % TABLE_WORDS) as usize;
-    }
-    (a / LINE_BYTES % LEAF_WORDS) as usize
+    let a = u32::from(address);
+    let entry = match height {
+        0 => a / LINE_BYTES % LEAF_WORDS,
+        1 => a / PAGE_BYTES % TABLE_WORDS,
+        _ => a / BLOCK_BYTES % TABLE_WORDS,
+    };
+    entry as usize
 }
 
 // Which right of an entry of a height is that of an address.
@@ -142,14 +121,12 @@ pub fn part_in(height: u32, address: ByteAddr) -> u32
     requires { height ≤ 2 }
     ensures { result ≡ part_of height address.0 }
 {
-    let a = words::addr_number(address);
-    if height == 2 {
-        return a / 524288 % 8;
+    let a = u32::from(address);
+    match height {
+        0 => a / 4 % 16,
+        1 => a / (PAGE_BYTES / 8) % 8,
+        _ => a / (BLOCK_BYTES / 8) % 8,
     }
-    if height == 1 {
-        return a / 512 % 8;
-    }
-    a / 4 % 16
 }
 
 // A pointer to the first word of one of `count` places of `long` words, the first of them at `first` and with the
@@ -158,19 +135,12 @@ fn leads_to(first: PoolWord, long: u32, count: u32, nth: usize, w: u32) -> Entry
     requires { (0 < long) × (first.0 + long * count < 4294967296) × (nth + count < 4294967296) }
     ensures { result ≡ leads_to first.0 long count nth w }
 {
-    let from = words::entry_of(first);
-    if w < from {
+    let from = first.entry();
+    if w < from || w >= from + long * count || (w - from) % long != 0 {
         return Entry::Bad;
     }
-    if w >= from + long * count {
-        return Entry::Bad;
-    }
-    let off = w - from;
-    if off % long != 0 {
-        return Entry::Bad;
-    }
-    let place = (off / long) as usize;
-    Entry::Leads(words::pool_word(w), nth + place)
+    let place = (w - from) / long;
+    Entry::Leads(PoolWord::from(w), nth + place as usize)
 }
 
 // What the word `w` says as an entry of a height.
@@ -178,51 +148,36 @@ pub fn decode(shape: Shape, height: u32, w: u32) -> Entry
     requires { InRange shape }
     ensures { result ≡ decode_of shape height w }
 {
-    let domains = shape.domains;
-    let middles = shape.middles;
-    let leaves = shape.leaves;
-    if height == 0 {
-        return Entry::Rights(w);
-    }
-    if w < words::BIT_31 {
-        if height == 1 {
-            let first_leaf = words::pool_word(TABLE_WORDS * domains + TABLE_WORDS * middles);
-            return leads_to(first_leaf, LEAF_WORDS, leaves, FIRST_LEAF, w);
+    match height {
+        0 => Entry::Rights(w),
+        1 if w < words::BIT_31 => {
+            leads_to(
+                first_place(shape, 0),
+                LEAF_WORDS,
+                shape.leaves,
+                FIRST_LEAF,
+                w,
+            )
         }
-        let first_middle = words::pool_word(TABLE_WORDS * domains);
-        return leads_to(first_middle, TABLE_WORDS, middles, 0, w);
-    }
-    if words::good_rights(w) {
-        return Entry::Rights(w);
-    }
-    Entry::Bad
-}
-
-// One value for every word of a part of the pool.
-fn fill(part: &mut [u32], value: u32)
-    ensures { part.new ≡ replicate (length part.old) value }
-{
-    let mut i = 0;
-    while i < part.len() {
-        part[i] = value;
-        i += 1;
+        _ if w < words::BIT_31 => {
+            leads_to(first_place(shape, 1), TABLE_WORDS, shape.middles, 0, w)
+        }
+        _ if words::good_rights(w) => Entry::Rights(w),
+        _ => Entry::Bad,
     }
 }
 
 // Every root word says eight times none; all places are zero.
-pub fn fresh(pool: &mut [u32], shape: Shape) -> Made
+pub fn fresh(pool: &mut [u32], shape: Shape) -> Result<(), Refusal>
     ensures { MakesFresh shape pool.old result pool.new }
 {
-    let n = pool.len();
-    if !shape_fits(shape, n) {
-        return Made::Refused(1);
+    if !shape_fits(shape, pool.len()) {
+        return Err(Refusal::NoShape);
     }
-    let domains = shape.domains;
-    let past_roots = words::pool_word(TABLE_WORDS * domains);
-    let roots = words::pool_index(past_roots);
-    fill(&mut pool[..roots], words::BIT_31);
-    fill(&mut pool[roots..], 0);
-    Made::Done
+    let first_middle = first_place(shape, 1);
+    pool[..first_middle.index()].fill(words::BIT_31);
+    pool[first_middle.index()..].fill(0);
+    Ok(())
 }
 
 // The one read of a walk, and its count: the loads that a lookup reports are the reads that it makes.
@@ -231,97 +186,83 @@ fn load(pool: &[u32], at: PoolWord, before: u32) -> Loaded
     ensures { (result.word ≡ words pool.now at.0) × (result.word < 4294967296)
         × (result.loads ≡ before + 1) }
 {
-    let i = words::pool_index(at);
-    let word = pool[i];
+    let word = pool[at.index()];
     let loads = before + 1;
     Loaded { word, loads }
 }
 
 // The walk from the root word of an address down to the entry that decides.
-fn walk_down(pool: &[u32], shape: Shape, domain: u32, address: ByteAddr) -> Walked
+fn walk_down(pool: &[u32], shape: Shape, domain: u32, address: ByteAddr) -> Result<Decided, Refusal>
     requires fits { Fits shape (length pool.now) }
     requires domain_lt_domains { domain < shape.domains }
     ensures { result ≡ without_reach (found_at (form_of shape) (words pool.now) address.0
         (walk (form_of shape) (words pool.now) address.0 2 (1024 * domain + index 2 address.0))) }
 {
-    let mut height: u32 = 2;
-    let mut loads: u32 = 0;
-    let root = words::pool_word(TABLE_WORDS * domain);
-    let first = index_in(2, address);
-    let mut at = words::word_after(root, first);
+    let mut height = ROOT;
+    let mut loads = 0;
+    let mut at = PoolWord::from(TABLE_WORDS * domain).after(index_in(ROOT, address));
+    // Not a `for` over the heights: past its end it would have to answer for a leaf that leads, which there is not.
     loop {
         let got = load(pool, at, loads);
-        let w = got.word;
         loads = got.loads;
-        let e = decode(shape, height, w);
-        match e {
-            Entry::Bad => {
-                return Walked::Refused(6);
-            }
-            Entry::Rights(r) => {
-                let i = part_in(height, address);
-                let right = words::right_at(r, i);
-                let by = Decided {
+        match decode(shape, height, got.word) {
+            Entry::Bad => return Err(Refusal::NotSound),
+            Entry::Rights(entry) => {
+                let right = words::right_at(entry, part_in(height, address));
+                return Ok(Decided {
                     right,
-                    entry: r,
+                    entry,
                     loads,
-                };
-                return Walked::By(by);
+                });
             }
-            Entry::Leads(t, _) => {
+            Entry::Leads(table, _) => {
                 height -= 1;
-                let i = index_in(height, address);
-                at = words::word_after(t, i);
+                at = table.after(index_in(height, address));
             }
         }
     }
 }
 
 // What a lookup answers, but for how far it reaches: checks and steps ask no more.
-pub fn decide(pool: &[u32], shape: Shape, domain: u32, address: ByteAddr) -> Walked
+pub fn decide(
+    pool: &[u32],
+    shape: Shape,
+    domain: u32,
+    address: ByteAddr,
+) -> Result<Decided, Refusal>
     ensures { result ≡ without_reach (lookup_of pool.now shape domain address.0) }
 {
-    let n = pool.len();
-    if !shape_fits(shape, n) {
-        return Walked::Refused(1);
+    if !shape_fits(shape, pool.len()) {
+        return Err(Refusal::NoShape);
     }
-    let domains = shape.domains;
-    if domain >= domains {
-        return Walked::Refused(2);
+    if domain >= shape.domains {
+        return Err(Refusal::NoDomain);
     }
     walk_down(pool, shape, domain, address)
 }
 
 // The right of a domain at an address, the entry that decides it, how many words were read, and how far the right
 // reaches inside the entry's block.
-pub fn lookup(pool: &[u32], shape: Shape, domain: u32, address: ByteAddr) -> Found
+pub fn lookup(
+    pool: &[u32],
+    shape: Shape,
+    domain: u32,
+    address: ByteAddr,
+) -> Result<Deciding, Refusal>
     ensures { LooksUp pool.now shape domain address.0 result }
 {
-    let walked = decide(pool, shape, domain, address);
-    match walked {
-        Walked::Refused(n) => Found::Refused(n),
-        Walked::By(by) => {
-            let all = reach::reached(by.entry, by.loads, address);
-            Found::By(all)
-        }
-    }
+    let by = decide(pool, shape, domain, address)?;
+    Ok(reach::reached(by.entry, by.loads, address))
 }
 
 // Whether an access of a kind passes on a right.
 pub fn passes(kind: u32, right: u32) -> bool
     ensures { result ≡ passes_of kind right }
 {
-    if kind == LOAD {
-        if right < 1 {
-            return false;
-        }
-        return right <= 3;
+    match kind {
+        LOAD => matches!(right, 1..=3),
+        STORE => right == 2,
+        FETCH => right == 3,
+        _ => false,
     }
-    if kind == STORE {
-        return right == 2;
-    }
-    if kind == FETCH {
-        return right == 3;
-    }
-    false
 }

@@ -13,13 +13,12 @@ fn reached_by(w: u32, loads: u32, address: ByteAddr, step: u32, count: u32) -> D
     requires { (step ≡ part (3 - loads)) × (count ≡ parts (3 - loads)) × (loads ≤ 3) }
     ensures { result ≡ decided_by (entry_rights (3 - loads) w) (3 - loads) w address.0 }
 {
-    let a = words::addr_number(address);
-    let number = a / step;
+    let number = u32::from(address) / step;
     let i = number % count;
     let around = words::stretch_at(w, count, i);
     let block = number - i;
-    let first = words::byte_addr((block + around.first) * step);
-    let last = words::byte_addr((block + around.last) * step + (step - 1));
+    let first = ByteAddr::from((block + around.first) * step);
+    let last = ByteAddr::from((block + around.last) * step + (step - 1));
     Deciding {
         right: around.right,
         entry: w,
@@ -34,11 +33,9 @@ pub fn reached(w: u32, loads: u32, address: ByteAddr) -> Deciding
     requires { (1 ≤ loads) × (loads ≤ 3) }
     ensures { result ≡ decided_by (entry_rights (3 - loads) w) (3 - loads) w address.0 }
 {
-    if loads == 1 {
-        return reached_by(w, loads, address, BLOCK_BYTES / 8, 8);
+    match loads {
+        1 => reached_by(w, loads, address, BLOCK_BYTES / 8, 8),
+        2 => reached_by(w, loads, address, PAGE_BYTES / 8, 8),
+        _ => reached_by(w, loads, address, 4, 16),
     }
-    if loads == 2 {
-        return reached_by(w, loads, address, PAGE_BYTES / 8, 8);
-    }
-    reached_by(w, loads, address, 4, 16)
 }

@@ -4,16 +4,13 @@ use mathlib.Core.Path.{◌≡◌, refl, sym, ap, ◌∙◌}
 use mathlib.Core.Bool.{false}
 use mathlib.Core.List.{List}
 use native.Mathlib.Omega.{arith}
-use lib.ListN.{length}
-use borrow.Author.Tests.{lt-ltb, le-ltb}
+use borrow.Author.Tests.{le-ltb}
 use Rattle.words.specs.Rights.{right_at, pack}
 use Rattle.table.specs.Map.{block, parts, leads}
 use Rattle.table.specs.Wants.{words_in, above, said_of}
 use Rattle.targets.specs.declared.Paint.{Paint}
 use Rattle.targets.specs.declared.Cover.TheVariants.{Apart, Whole}
-use Rattle.targets.specs.declared.One.{One}
-use Rattle.targets.specs.declared.Target.{Target}
-use Rattle.targets.specs.declared.Target.TheVariants.{Says}
+use Rattle.std.proofs.Common.{Option, Some}
 use Rattle.targets.specs.Targets.{painted, given, target_of, Gives, GivesLeaf, Readable}
 use Rattle.targets.specs.Steps.{CoverIs, Plain, OneIs, PartIs, GoodRights, SaysIs}
 use Rattle.targets.proofs.PackLaws.{leaf_packed, eight_packed}
@@ -37,12 +34,6 @@ pub readable_good : (q : List ℕ) (h e : ℕ) → Readable q h e → GoodRights
 readable_good q zero e r = tt
 readable_good q (suc h) e r = r.rights
 
--- The table of a readable entry lies in the pool.
-pub readable_inside : (q : List ℕ) (h e : ℕ) → 0 < h → e < 2147483648 → Readable q h e → e < length q
-readable_inside q zero e l b r = absurd (omega arith)
-readable_inside q (suc zero) e l b r = omega (arith, r.table (lt-ltb e 2147483648 b))
-readable_inside q (suc (suc h)) e l b r = omega (arith, r.table (lt-ltb e 2147483648 b))
-
 -- An entry that is rights is its rights packed.
 entry_packed : (h e : ℕ) → e < 4294967296 → GoodRights h e → leads h e ≡ false → pack (above h) (parts h) (right_at e)
     ≡ e
@@ -52,25 +43,25 @@ entry_packed (suc h) e l g f = sym (eight_packed e (g f))
 module _ (p : Paint) (R : ℕ → ℕ) (h n long : ℕ) (is : long ≡ block h / 4) where
   -- The region covers the block.
   pub whole_entry : CoverIs Whole p (n * long) long → target_of (painted p R) h (n * block h)
-      ≡ Says (pack (above h) (parts h) (λ i. p.right))
+      ≡ Some (pack (above h) (parts h) (λ i. p.right))
   whole_entry c = whole_target p R h n (rw is at c)
 
   -- The region lies apart from the block, and its entry is rights.
   pub apart_entry : (P : ℕ → ℕ) (e : ℕ) → e < 4294967296 → GoodRights h e → Gives P h e n R → leads h e ≡ false
       → CoverIs Apart p (n * long) long
-      → target_of (painted p R) h (n * block h) ≡ Says e
-  apart_entry P e b r g l c = apart_target p R h n P e g l (rw is at c) ∙ ap Says (entry_packed h e b r l)
+      → target_of (painted p R) h (n * block h) ≡ Some e
+  apart_entry P e b r g l c = apart_target p R h n P e g l (rw is at c) ∙ ap Some (entry_packed h e b r l)
 
 module _ (p : Paint) (P R : ℕ → ℕ) where
   -- A leaf entry is painted.
   pub leaf_entry : (h e n t : ℕ) → h ≡ 0 → Gives P h e n R
       → ((R : ℕ → ℕ) → GivesLeaf e n R → t ≡ said_of (painted p R) 0 (n * 64))
-      → target_of (painted p R) h (n * block h) ≡ Says t
+      → target_of (painted p R) h (n * block h) ≡ Some t
   leaf_entry zero e n t z g f = leaf_target (painted p R) (n * 64) t (f R (gives_leaf P R e n g))
   leaf_entry (suc h) e n t z g f = absurd (omega arith)
 
   -- What a search of its table found.
-  pub found_entry : (h b e n : ℕ) (t : Target) → h ≡ suc b → Gives P h e n R
+  pub found_entry : (h b e n : ℕ) (t : Option ℕ) → h ≡ suc b → Gives P h e n R
       → t ≡ target_of (painted p (given P (suc b) e)) (suc b) (n * block (suc b)) → t ≡ target_of (painted p R) h
       (n * block h)
   found_entry h b e n t up g f = f ∙ rw up (given_target p R (suc b) n P e (rw up at g))
@@ -80,7 +71,7 @@ module _ (p : Paint) (P : ℕ → ℕ) (b e n i : ℕ) where
   rights_after = painted p (given P (suc b) e)
 
   -- A sub-block of an entry that is rights.
-  pub rights_found : (o long : ℕ) (r : One) → 2147483648 ≤ e → i < 8 → o ≡ right_at e i → long ≡ words_in (suc b)
+  pub rights_found : (o long : ℕ) (r : Option ℕ) → 2147483648 ≤ e → i < 8 → o ≡ right_at e i → long ≡ words_in (suc b)
       → (Plain (given P (suc b) e) ((8 * n + i) * long) long o → OneIs r rights_after ((8 * n + i) * long) long)
       → PartIs P p (suc b) e n i r
   rights_found o long r l bi says is f =
@@ -92,4 +83,4 @@ module _ (p : Paint) (P : ℕ → ℕ) (b e n i : ℕ) where
 pub bare_says : (p : Paint) (h e n same : ℕ) → p.hi ≤ p.lo → e ≡ same → e < 4294967296 → GoodRights h e → leads h e
     ≡ false → SaysIs p h e n same
 bare_says p h e n same le is b r l P R g =
-    apart_entry p R h n (block h / 4) refl P e b r g l (λ j x. inside_none p (n * (block h / 4) + j) le) ∙ ap Says is
+    apart_entry p R h n (block h / 4) refl P e b r g l (λ j x. inside_none p (n * (block h / 4) + j) le) ∙ ap Some is

@@ -15,8 +15,8 @@ use Rattle.table.specs.Entries.{same_of}
 use Rattle.table.proofs.BlockLaws.{first_word}
 use Rattle.table.proofs.WantLaws.{same_pack}
 use Rattle.targets.specs.declared.Paint.{Paint}
-use Rattle.targets.specs.declared.One.TheVariants.{Right, Two}
-use Rattle.targets.specs.declared.Target.TheVariants.{Says}
+use Rattle.std.proofs.Common.{Some, None}
+use Rattle.std.specs.Bool.{then_some}
 use Rattle.targets.specs.Targets.{painted, given, target_of, Decides}
 use Rattle.targets.specs.Steps.{Plain, PartIs, BlockHas, BlocksHave}
 use Rattle.targets.proofs.PaintLaws.{painted_agree}
@@ -39,7 +39,7 @@ decides_equal : {A : Type 0} (x y : ℕ) → (x ≡ y → A) → (A → x ≡ y)
 decides_equal x y f g = record { holds = λ e. f (eqb-true x y e); passes = λ a. eq-eqb x y (g a) }
 
 -- What decides the one decides what says the same.
-decides_as : {A B : Type 0} (r : Bool) → Decides r A → (A → B) → (B → A) → Decides r B
+pub decides_as : {A B : Type 0} (r : Bool) → Decides r A → (A → B) → (B → A) → Decides r B
 decides_as r d f g = record { holds = λ e. f (d.holds e); passes = λ b. d.passes (g b) }
 
 -- A stretch has but one right throughout ..
@@ -53,20 +53,20 @@ plain_decides R s n u v l f = decides_equal u v (λ q. rw q at f) (plain_one R s
 -- The block of height `h` numbered `n`, and the right `u`.
 module _ (R : ℕ → ℕ) (h n u : ℕ) where
   -- Where it has the right throughout, its entry should be that right's ..
-  plain_said : Plain R (n * (block h / 4)) (block h / 4) u → target_of R h (n * block h) ≡ Says (same_of h u)
-  plain_said f = plain_target R h n u f ∙ ap Says (same_pack h u)
+  plain_said : Plain R (n * (block h / 4)) (block h / 4) u → target_of R h (n * block h) ≡ Some (same_of h u)
+  plain_said f = plain_target R h n u f ∙ ap Some (same_pack h u)
 
   -- .. and only there.
-  pub said_plain : ((a : ℕ) → R a < 4) → u < 4 → target_of R h (n * block h) ≡ Says (same_of h u)
+  pub said_plain : ((a : ℕ) → R a < 4) → u < 4 → target_of R h (n * block h) ≡ Some (same_of h u)
       → Plain R (n * (block h / 4)) (block h / 4) u
   said_plain small b e = target_plain R h n small (same_of h u) e u (λ i l.
       ap (λ w. right_at w i) (sym (same_pack h u)) ∙ pack_digit (above h) (parts h) i (λ i. u) (λ j m. b) l)
 
   -- So whether it has the right is a test of the entry that it should have.
   pub said_decides : (w same : ℕ) → ((a : ℕ) → R a < 4) → u < 4 → same ≡ same_of h u
-      → target_of R h (n * block h) ≡ Says w → Decides (eqb w same) (Plain R (n * (block h / 4)) (block h / 4) u)
+      → target_of R h (n * block h) ≡ Some w → Decides (eqb w same) (Plain R (n * (block h / 4)) (block h / 4) u)
   said_decides w same small b is e = decides_equal w same
-      (λ q. said_plain small b (e ∙ ap Says (q ∙ is)))
+      (λ q. said_plain small b (e ∙ ap Some (q ∙ is)))
       (λ f. same_said (sym e ∙ plain_said f) ∙ sym is)
 
 -- Of the block numbered `n` whose entry `e` leads to a table: the `m` entries of the table from number `i` on, whose
@@ -118,13 +118,13 @@ module _ (p : Paint) (P : ℕ → ℕ) (b e n i count u : ℕ) (s : Entries b n 
   number = (8 * n + i) * count
 
   -- Where the blocks of all of them have a right throughout, the sub-block has that one ..
-  pub part_one : BlocksHave P p b (e + count * i) count number u → PartIs P p (suc b) e n i (Right u)
+  part_one : BlocksHave P p b (e + count * i) count number u → PartIs P p (suc b) e n i (Some u)
   part_one f = rw (s.first, s.whole) at (entries_plain p P b e n (count * i) count number s.low lead s.inside
       s.number u f)
 
   -- .. and where not all have the right of the first word, it has two.
-  pub part_two : u ≡ painted p (given P b (P (e + count * i))) (4 * (number * (block b / 4)))
-      → (BlocksHave P p b (e + count * i) count number u → ⊥) → PartIs P p (suc b) e n i Two
+  part_two : u ≡ painted p (given P b (P (e + count * i))) (4 * (number * (block b / 4)))
+      → (BlocksHave P p b (e + count * i) count number u → ⊥) → PartIs P p (suc b) e n i None
   part_two is none v f =
       let R = painted p (given P (suc b) e) in
       let z : number * (block b / 4) + 0 ≡ number * (block b / 4) = omega arith in
@@ -134,3 +134,9 @@ module _ (p : Paint) (P : ℕ → ℕ) (b e n i count u : ℕ) (s : Entries b n 
       (ap (λ x. 4 * x / block b) (sym z) ∙ entry_number b number 0 (some_word b) ∙ omega arith) ∙ sym is in
       let q : v ≡ u = sym (g 0 (rw s.whole (first_word (suc b)))) ∙ ap (λ x. R (4 * x)) z ∙ first in
       none (plain_entries p P b e n (count * i) count number s.low lead s.inside s.number u (rw q at g))
+
+  -- So the test of all of them tells its one right, or that it has none.
+  pub part_found : (t : Bool) → u ≡ painted p (given P b (P (e + count * i))) (4 * (number * (block b / 4)))
+      → Decides t (BlocksHave P p b (e + count * i) count number u) → PartIs P p (suc b) e n i (then_some t u)
+  part_found true is d = part_one (d.holds refl)
+  part_found false is d = part_two is (λ f. false≢true (d.passes f))

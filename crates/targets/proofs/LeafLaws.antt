@@ -1,4 +1,5 @@
 -- Laws of a leaf as it stands: a sub-block whose eight entries are not one right's has two rights.
+use Rattle.std.proofs.Common.{None}
 use Prim.Native.Nat.{ℕ, ◌+◌, ◌*◌, ◌/◌, ◌%◌, ◌<◌}
 use mathlib.Core.Path.{◌≡◌, refl, sym, ap, ◌∙◌}
 use mathlib.Core.List.{List}
@@ -10,7 +11,6 @@ use Rattle.words.specs.Passing.{AllSame}
 use Rattle.words.proofs.RightsLaws.{pack_same, sixteen_pack}
 use Rattle.table.specs.Map.{block}
 use Rattle.targets.specs.declared.Paint.{Paint}
-use Rattle.targets.specs.declared.Target.TheVariants.{Mixed}
 use Rattle.targets.specs.Targets.{painted, given, target_of, Gives}
 use Rattle.targets.specs.Steps.{Plain, EvenEntries, SeenMixed}
 use Rattle.targets.proofs.PaintLaws.{painted_none}
@@ -43,7 +43,7 @@ module _ (p : List ℕ) (e n i : ℕ) (lead : e < 2147483648) (b : i < 8) where
         ∙ pack_same 0 16 (right_at w) (λ k. u) (λ k bk. sym (word_right_lem j k bj bk) ∙ f (16 * j + k) (omega arith))
         ∙ sixteen_pack u
 
-    pub uneven_mixed : (EvenEntries p (e + 8 * i) → ⊥) → target_of R 1 (n * 4096) ≡ Mixed
+    pub uneven_mixed : (EvenEntries p (e + 8 * i) → ⊥) → target_of R 1 (n * 4096) ≡ None
     uneven_mixed two = two_target R 1 n i b (λ u f.
         let z : e + 8 * i + 0 ≡ e + 8 * i = omega arith in
         let first : u ≡ right_at (words p (e + 8 * i)) 0 =
@@ -52,7 +52,7 @@ module _ (p : List ℕ) (e n i : ℕ) (lead : e < 2147483648) (b : i < 8) where
 
 -- A leaf that is seen to be mixed is what its entry should lead to.
 pub seen_target : (P R : ℕ → ℕ) (p : Paint) (h e n : ℕ) → SeenMixed P p h e → Gives P h e n R
-    → Mixed ≡ target_of (painted p R) h (n * block h)
+    → None ≡ target_of (painted p R) h (n * block h)
 seen_target P R p h e n x g =
     let f : Gives P 1 e n R = rw x.height at g in
     rw x.height (sym (target_agree (painted p R) 1 n (given P 1 e)

@@ -1,4 +1,5 @@
 -- The laws of targets.
+pub mod ChainLaws
 pub mod TargetLaws
 pub mod PackLaws
 pub mod PaintLaws

@@ -38,6 +38,15 @@ module _ (p : Paint) (x : ℕ) where
       go true = le-ltb x p.hi b
       go false = refl
 
+  pub inside_not : (p.lo ≤ x → x < p.hi → ⊥) → inside p x ≡ false
+  inside_not f = elim (dec_lt x p.lo) [
+    | yes l ↦ inside_low l
+    | no l ↦ elim (dec_lt x p.hi) [
+      | yes h ↦ absurd (f (omega arith) h)
+      | no h ↦ inside_high (omega arith)
+    ]
+  ]
+
   pub inside_none : p.hi ≤ p.lo → inside p x ≡ false
   inside_none h = elim (dec_lt x p.lo) [
     | yes l ↦ inside_low l

@@ -1,4 +1,5 @@
 -- Laws of sub-blocks: where each has one right the target is rights, where one has two it is mixed.
+use Rattle.std.proofs.Common.{None, Some}
 use Prim.Native.Nat.{ℕ, zero, suc, ◌+◌, ◌*◌, ◌/◌, ◌%◌, ◌<◌}
 use mathlib.Core.Path.{◌≡◌, sym, ap, ◌∙◌}
 use mathlib.Core.Bool.{Bool, false, cond, not, true≢false}
@@ -12,7 +13,6 @@ use Rattle.table.specs.Map.{block, parts}
 use Rattle.table.specs.Wants.{any, word_at, words_in, mixed, wants_of, above, said_of}
 use Rattle.table.proofs.BlockLaws.{first_word, word_block}
 use Rattle.table.proofs.WantLaws.{any_yes, any_which, any_none, any_same, mixed_none}
-use Rattle.targets.specs.declared.Target.TheVariants.{Says, Mixed}
 use Rattle.targets.specs.Targets.{target_of}
 use Rattle.targets.specs.Steps.{Plain}
 use Rattle.targets.proofs.TargetLaws.{wanted_mixed, unwanted_said, said_unwanted}
@@ -68,14 +68,14 @@ module _ (R : ℕ → ℕ) (h n : ℕ) where
   even_part_is i e j l = ap R (part_word_lem h n i j) ∙ mixed_none R h at i j e l
 
   -- Where each sub-block has one right, the entry says these.
-  pub parts_target : (f : ℕ → ℕ) → ((i : ℕ) → i < parts h → PartIs i (f i)) → target_of R h at ≡ Says
+  pub parts_target : (f : ℕ → ℕ) → ((i : ℕ) → i < parts h → PartIs i (f i)) → target_of R h at ≡ Some
       (pack (above h) (parts h) f)
   parts_target f g =
       unwanted_said R h at (any_never (mixed R h at) (parts h) (λ i l. part_even i (f i) (g i l)))
-      ∙ ap Says (pack_same (above h) (parts h) _ f (λ i l. part_right i (f i) 0 (g i l) (first_word h)))
+      ∙ ap Some (pack_same (above h) (parts h) _ f (λ i l. part_right i (f i) 0 (g i l) (first_word h)))
 
   -- Where one has two, a table is wanted.
-  pub two_target : (i : ℕ) → i < parts h → ((u : ℕ) → PartIs i u → ⊥) → target_of R h at ≡ Mixed
+  pub two_target : (i : ℕ) → i < parts h → ((u : ℕ) → PartIs i u → ⊥) → target_of R h at ≡ None
   two_target i l g = wanted_mixed R h at (any_yes (mixed R h at) (parts h) i l (by_cases (mixed R h at i)
       (λ e. e)
       (λ e. absurd (g _ (even_part_is i e)))))
@@ -93,11 +93,11 @@ module _ (R : ℕ → ℕ) (h n : ℕ) where
       ap (λ v. R (4 * v)) y ∙ f i bi k bk
 
   -- .. and then its entry says that ..
-  pub plain_target : (u : ℕ) → Plain R (n * (block h / 4)) (block h / 4) u → target_of R h at ≡ Says
+  pub plain_target : (u : ℕ) → Plain R (n * (block h / 4)) (block h / 4) u → target_of R h at ≡ Some
       (pack (above h) (parts h) (λ i. u))
   plain_target u f = parts_target (λ i. u) (plain_part u f)
 
-  module _ (small : (a : ℕ) → R a < 4) (x : ℕ) (e : target_of R h at ≡ Says x) where
+  module _ (small : (a : ℕ) → R a < 4) (x : ℕ) (e : target_of R h at ≡ Some x) where
     target_right : (i : ℕ) → i < parts h → R (word_at h at i 0) ≡ right_at x i
     target_right i l =
         sym (pack_digit (above h) (parts h) i (λ i. R (word_at h at i 0)) (λ i m. small _) l) ∙ ap (λ v. right_at v i)
@@ -113,11 +113,11 @@ module _ (R : ℕ → ℕ) (h n : ℕ) where
   -- Only the rights of the block count.
   pub target_agree : (T : ℕ → ℕ) → ((a : ℕ) → a / block h ≡ n → R a ≡ T a) → target_of R h at ≡ target_of T h at
   target_agree T same =
-      ap (λ t. cond t Mixed (Says (said_of R h at)))
+      ap (λ t. cond t None (Some (said_of R h at)))
       (any_same _ _ (parts h) (λ i bi. any_same _ _ (words_in h) (λ j bj.
       ap (λ x. not (eqb x (R (word_at h at i 0)))) (same _ (within i j bi bj))
       ∙ ap (λ x. not (eqb (T (word_at h at i j)) x)) (same _ (within i 0 bi (first_word h))))))
-      ∙ ap (λ w. cond (wants_of T h at) Mixed (Says w))
+      ∙ ap (λ w. cond (wants_of T h at) None (Some w))
       (pack_same (above h) (parts h) _ _ (λ i bi. same _ (within i 0 bi (first_word h))))
     where
       number : (h : ℕ) → n * block h / block h ≡ n

@@ -1,4 +1,5 @@
 -- The contracts leave one answer for each input.
+use Rattle.std.proofs.Common.{Option}
 use Prim.Native.Nat.{ℕ, ◌*◌, ◌/◌, ◌%◌}
 use mathlib.Core.Path.{◌≡◌, refl, sym, ◌∙◌}
 use mathlib.Core.Bool.{Bool, true, false, false≢true}
@@ -6,17 +7,16 @@ use Rattle.words.specs.Rights.{right_at}
 use Rattle.table.specs.Map.{block}
 use Rattle.table.specs.Wants.{said_of}
 use Rattle.targets.specs.declared.Paint.{Paint}
-use Rattle.targets.specs.declared.Target.{Target}
 use Rattle.targets.specs.Targets.{painted, target_of, given, Gives, GivesLeaf, Decides}
 
--- What `page_target` and `block_target` promise, and what `paint_word` does.
-abbrev TargetPromise : Paint → (ℕ → ℕ) → ℕ → ℕ → ℕ → Target → Type 0
+-- What `entry_target` promises, and what `paint_word` does.
+abbrev TargetPromise : Paint → (ℕ → ℕ) → ℕ → ℕ → ℕ → Option ℕ → Type 0
 TargetPromise p P h e n r = (R : ℕ → ℕ) → Gives P h e n R → r ≡ target_of (painted p R) h (n * block h)
 
 abbrev WordPromise : Paint → ℕ → ℕ → ℕ → Type 0
 WordPromise p w n r = (R : ℕ → ℕ) → GivesLeaf w n R → r ≡ said_of (painted p R) 0 (n * 64)
 
-pub one_target : (p : Paint) (P : ℕ → ℕ) (h e n : ℕ) (q r : Target) → TargetPromise p P h e n q
+pub one_target : (p : Paint) (P : ℕ → ℕ) (h e n : ℕ) (q r : Option ℕ) → TargetPromise p P h e n q
     → TargetPromise p P h e n r → q ≡ r
 one_target p P h e n q r x y = x (given P h e) (λ a f. refl) ∙ sym (y (given P h e) (λ a f. refl))
 

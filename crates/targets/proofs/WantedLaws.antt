@@ -1,4 +1,6 @@
 -- Laws of wanted tables: a sound pool is settled exactly where every table in it is wanted.
+use Rattle.std.proofs.Common.{Option}
+use Rattle.std.specs.Option.{is_none}
 use Prim.Native.Nat.{ℕ, zero, suc, ◌+◌, ◌*◌, ◌-◌, ◌/◌, ◌%◌, ◌≤◌, ◌<◌}
 use mathlib.Core.Path.{◌≡◌, refl, sym, ap, ◌∙◌}
 use mathlib.Core.Logic.{⊎_elim}
@@ -27,9 +29,8 @@ use Rattle.census.specs.Census.{StandsAt, Owners}
 use Rattle.census.proofs.CensusLaws.{place_low, old_reached}
 use Rattle.census.proofs.OwnerLaws.{was_owner, was_taken}
 use Rattle.targets.specs.declared.Paint.{Paint}
-use Rattle.targets.specs.declared.Target.{Target}
 use Rattle.targets.specs.Targets.{painted, target_of, Gives, Readable}
-use Rattle.targets.specs.Steps.{is_mixed, LeafIn}
+use Rattle.targets.specs.Steps.{LeafIn}
 use Rattle.targets.proofs.TargetLaws.{wanted_mixed, unwanted_said}
 use Rattle.targets.proofs.PaintLaws.{painted_none}
 use Rattle.targets.proofs.PartLaws.{target_agree}
@@ -40,15 +41,15 @@ pub unpainted_target : (p : Paint) (R : ℕ → ℕ) (h n : ℕ) → p.hi ≤ p.
     ≡ target_of R h (n * block h)
 unpainted_target p R h n none = target_agree (painted p R) h n R (λ a e. painted_none p R a none)
 
-mixed_wants : (R : ℕ → ℕ) (h a : ℕ) → is_mixed (target_of R h a) ≡ wants_of R h a
+mixed_wants : (R : ℕ → ℕ) (h a : ℕ) → is_none (target_of R h a) ≡ wants_of R h a
 mixed_wants R h a = by_cases (wants_of R h a)
-    (λ w. ap is_mixed (wanted_mixed R h a w) ∙ sym w)
-    (λ w. ap is_mixed (unwanted_said R h a w) ∙ sym w)
+    (λ w. ap is_none (wanted_mixed R h a w) ∙ sym w)
+    (λ w. ap is_none (unwanted_said R h a w) ∙ sym w)
 
 -- So the test of it tells whether a table is wanted.
-pub unpainted_wants : (p : Paint) (R : ℕ → ℕ) (h n : ℕ) (t : Target) (r : Bool) → p.hi ≤ p.lo → r ≡ is_mixed t
+pub unpainted_wants : (p : Paint) (R : ℕ → ℕ) (h n : ℕ) (t : Option ℕ) (r : Bool) → p.hi ≤ p.lo → r ≡ is_none t
     → t ≡ target_of (painted p R) h (n * block h) → r ≡ wants_of R h (n * block h)
-unpainted_wants p R h n t r none e f = e ∙ ap is_mixed (f ∙ unpainted_target p R h n none)
+unpainted_wants p R h n t r none e f = e ∙ ap is_none (f ∙ unpainted_target p R h n none)
     ∙ mixed_wants R h (n * block h)
 
 -- The entry of a block gives it the rights of its domain ..
@@ -124,9 +125,9 @@ module _ (p : List ℕ) (s : Shape) (fits : Fits s (length p)) (q : SoundPool (f
         below (suc h) hi = omega arith
 
     -- With nothing painted, the test of its target tells whether it is wanted.
-    pub place_wants : (paint : Paint) (t : Target) (r : Bool) → paint.hi ≤ paint.lo
+    pub place_wants : (paint : Paint) (t : Option ℕ) (r : Bool) → paint.hi ≤ paint.lo
         → ((T : ℕ → ℕ) → Gives (words p) (h + 1) e m T → t ≡ target_of (painted paint T) (h + 1) (m * block (h + 1)))
-        → r ≡ is_mixed t → r ≡ want R (place_height n) i
+        → r ≡ is_none t → r ≡ want R (place_height n) i
     place_wants paint t r empty told is =
         let g : Gives (words p) (h + 1) e m (R (domain_of h i)) = rw (add-one, em, ← there)
         (entry_gives s (words p) h i low has) in

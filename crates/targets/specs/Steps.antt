@@ -1,5 +1,5 @@
 -- The steps by which a target is found, Memory word `x` is the four bytes from `4 * x` on.
-use Rattle.std.specs.Prelude.{ℕ, zero, suc, ◌+◌, ◌*◌, ◌/◌, ◌≤◌, ◌<◌, ◌≡◌, Bool, true, false, ◌&&◌, cond, List, leb, ltb, get_or}
+use Rattle.std.specs.Prelude.{ℕ, zero, suc, ◌+◌, ◌*◌, ◌/◌, ◌≤◌, ◌<◌, ◌≡◌, Bool, true, false, ◌&&◌, cond, List, Option, Some, None, leb, ltb, get_or}
 use Rattle.theory.specs.Pool.{words}
 use Rattle.words.specs.Rights.{right_at, good_rights, sixteen_of}
 use Rattle.words.specs.Passing.{AllSame}
@@ -11,12 +11,6 @@ use Rattle.targets.specs.Targets.{painted, given, target_of, Gives}
 use Rattle.targets.specs.declared.Paint.{Paint}
 use Rattle.targets.specs.declared.Cover.{Cover}
 use Rattle.targets.specs.declared.Cover.TheVariants.{Apart, Partly, Whole}
-use Rattle.targets.specs.declared.One.{One}
-use Rattle.targets.specs.declared.One.TheVariants.{Right, Two}
-use Rattle.targets.specs.declared.Told.{Told}
-use Rattle.targets.specs.declared.Told.TheVariants.{Known, Unknown}
-use Rattle.targets.specs.declared.Target.{Target}
-use Rattle.targets.specs.declared.Target.TheVariants.{Says, Mixed}
 
 -- The region has the memory word `x`.
 unfoldable pub inside : Paint → ℕ → Bool
@@ -52,12 +46,12 @@ abbrev pub Plain : (ℕ → ℕ) → ℕ → ℕ → ℕ → Type 0
 Plain R s n u = (j : ℕ) → j < n → R (4 * (s + j)) ≡ u
 
 -- They have one right, or no one right.
-abbrev pub OneIs : One → (ℕ → ℕ) → ℕ → ℕ → Type 0
-OneIs (Right u) R s n = Plain R s n u
-OneIs Two R s n = (u : ℕ) → Plain R s n u → ⊥
+abbrev pub OneIs : Option ℕ → (ℕ → ℕ) → ℕ → ℕ → Type 0
+OneIs (Some u) R s n = Plain R s n u
+OneIs None R s n = (u : ℕ) → Plain R s n u → ⊥
 
 -- Of the block of height `h` numbered `n`, which has the entry `e` in the pool `P`: sub-block `i` once painted.
-abbrev pub PartIs : (ℕ → ℕ) → Paint → ℕ → ℕ → ℕ → ℕ → One → Type 0
+abbrev pub PartIs : (ℕ → ℕ) → Paint → ℕ → ℕ → ℕ → ℕ → Option ℕ → Type 0
 PartIs P p h e n i o = OneIs o (painted p (given P h e)) (n * (block h / 4) + words_in h * i) (words_in h)
 
 -- That block has the right `u` on all its words once painted ..
@@ -75,12 +69,12 @@ GoodRights (suc h) e = leads (suc h) e ≡ false → good_rights e ≡ true
 
 -- In every pool, the block of height `h` numbered `n` whose entry is `e` should have the entry `w` once painted ..
 abbrev pub SaysIs : Paint → ℕ → ℕ → ℕ → ℕ → Type 0
-SaysIs p h e n w = (P R : ℕ → ℕ) → Gives P h e n R → target_of (painted p R) h (n * block h) ≡ Says w
+SaysIs p h e n w = (P R : ℕ → ℕ) → Gives P h e n R → target_of (painted p R) h (n * block h) ≡ Some w
 
 -- .. which is known, or needs a search, and so is no leaf entry.
-abbrev pub ToldIs : Told → Paint → ℕ → ℕ → ℕ → Type 0
-ToldIs (Known w) p h e n = SaysIs p h e n w
-ToldIs Unknown p h e n = 0 < h
+abbrev pub ToldIs : Option ℕ → Paint → ℕ → ℕ → ℕ → Type 0
+ToldIs (Some w) p h e n = SaysIs p h e n w
+ToldIs None p h e n = 0 < h
 
 -- The eight entries of a leaf from pool word `k` on say the first right of the first of them, sixteen times each.
 abbrev pub EvenEntries : List ℕ → ℕ → Type 0
@@ -88,18 +82,13 @@ EvenEntries p k = AllSame p k 8 (sixteen_of (right_at (words p k) 0))
 
 -- The leaf at pool word `e` is wanted by whichever page has it.
 abbrev pub LeafMixed : (ℕ → ℕ) → ℕ → Type 0
-LeafMixed P e = (n : ℕ) → target_of (given P 1 e) 1 (n * 4096) ≡ Mixed
+LeafMixed P e = (n : ℕ) → target_of (given P 1 e) 1 (n * 4096) ≡ None
 
 -- Nothing is painted, and the entry `e` of a height leads to such a leaf.
 pub record SeenMixed (P : ℕ → ℕ) (p : Paint) (h e : ℕ) : Type 0 where
   pub none : p.hi ≤ p.lo
   pub height : h ≡ 1
   pub leaf : LeafMixed P e
-
--- The target is that of a block that wants a table.
-abbrev pub is_mixed : Target → Bool
-is_mixed (Says w) = false
-is_mixed Mixed = true
 
 -- Place `n` is for a middle table, and a leaf stands in the block that is numbered `i` over all domains.
 pub record LeafIn (o : List ℕ) (n i : ℕ) : Type 0 where

@@ -1,5 +1,5 @@
 -- Targets: what the entry of a page or a block should be, once a region is painted with a right.
-use Rattle.std.specs.Prelude.{ℕ, zero, suc, ◌+◌, ◌/◌, ◌%◌, ◌≤◌, ◌<◌, ◌≡◌, Bool, true, false, cond, List, length}
+use Rattle.std.specs.Prelude.{ℕ, zero, suc, ◌+◌, ◌/◌, ◌%◌, ◌≤◌, ◌<◌, ◌≡◌, Bool, true, false, cond, List, length, None, Option, Some}
 use Rattle.theory.specs.Pool.{words}
 use Rattle.words.specs.Rights.{right_at, good_rights}
 use Rattle.words.specs.Region.{covered}
@@ -8,18 +8,16 @@ use Rattle.table.specs.Map.{addresses, block, part, parts, index, leads}
 use Rattle.table.specs.Entries.{same_of}
 use Rattle.table.specs.Wants.{wants_of, said_of}
 use Rattle.targets.specs.declared.Paint.{Paint}
-use Rattle.targets.specs.declared.Target.{Target}
-use Rattle.targets.specs.declared.Target.TheVariants.{Says, Mixed}
 use Rattle.targets.specs.Paints.{region}
 
 -- The rights `R`, with the painted right on every address that the region covers.
 unfoldable pub painted : Paint → (ℕ → ℕ) → ℕ → ℕ
 painted p R a = cond (covered (region p) a) p.right (R a)
 
--- What the entry of height `h` of the block around `a` should be, with the rights `R`: a pointer where a table is
--- wanted, else rights.
-abbrev pub target_of : (ℕ → ℕ) → ℕ → ℕ → Target
-target_of R h a = cond (wants_of R h a) Mixed (Says (said_of R h a))
+-- What the entry of height `h` of the block around `a` should be, with the rights `R`: rights, or none where a table is
+-- wanted, to which it must lead.
+abbrev pub target_of : (ℕ → ℕ) → ℕ → ℕ → Option ℕ
+target_of R h a = cond (wants_of R h a) None (Some (said_of R h a))
 
 -- The entry of height `h` that stands for block `n` where there is no table: the right that the entry `e` above has
 -- for it.

@@ -13,9 +13,7 @@ fn even_entries(pool: &[u32], at: PoolWord) -> bool
     ensures { EvenEntries pool.now at.0 → result ≡ true }
 {
     let k = words::pool_index(at);
-    let w = pool[k];
-    let right = words::right_at(w, 0);
-    let same = words::sixteen_of(right);
+    let same = words::sixteen_of(words::right_at(pool[k], 0));
     words::all_same(pool, at, 8, same)
 }
 
@@ -24,16 +22,7 @@ fn leaf_mixed(pool: &[u32], leaf: PoolWord) -> bool
     requires { (leaf.0 < 2147483648) × (leaf.0 + 64 ≤ length pool.now) }
     ensures { result ≡ true → LeafMixed (words pool.now) leaf.0 }
 {
-    let mut i: usize = 0;
-    while i < 8 {
-        let at = words::word_after(leaf, 8 * i);
-        let even = even_entries(pool, at);
-        if !even {
-            return true;
-        }
-        i += 1;
-    }
-    false
+    (0..8).any(|i| !even_entries(pool, words::word_after(leaf, 8 * i)))
 }
 
 // Whether the entry leads to a leaf that is seen to have two rights in a sub-block, and nothing is painted. The
@@ -42,17 +31,8 @@ pub fn seen_mixed(pool: &[u32], paint: Paint, height: u32, e: u32) -> bool
     requires { Readable pool.now height e }
     ensures { result ≡ true → SeenMixed (words pool.now) paint height e }
 {
-    let lo = paint.lo;
-    let hi = paint.hi;
-    if lo < hi {
-        return false;
-    }
-    if height != 1 {
-        return false;
-    }
-    if e >= words::BIT_31 {
-        return false;
-    }
-    let leaf = words::pool_word(e);
-    leaf_mixed(pool, leaf)
+    paint.hi <= paint.lo
+        && height == 1
+        && e < words::BIT_31
+        && leaf_mixed(pool, words::pool_word(e))
 }

@@ -25,13 +25,6 @@ pub struct Paint {
     pub right: u32,
 }
 
-// What the entry of a page or a block should be: eight rights; or a pointer, since some sub-block has two rights.
-#[derive(Clone, Copy)]
-pub enum Target {
-    Says(u32),
-    Mixed,
-}
-
 // The empty region: rights as they stand.
 pub const UNPAINTED: Paint = Paint {
     lo: 0,
@@ -47,56 +40,27 @@ enum Cover {
     Whole,
 }
 
-// Whether a stretch of memory words has one right.
-#[derive(Clone, Copy)]
-enum One {
-    Right(u32),
-    Two,
-}
-
-// What the entry of a block should be, as far as it is known without a search of its sub-blocks.
-#[derive(Clone, Copy)]
-enum Told {
-    Known(u32),
-    Unknown,
-}
-
 // How the region meets the `n` memory words from `s` on. The first test is for an empty region: inside the stretch it
 // would seem to part it.
 fn meeting(paint: Paint, s: u32, n: u32) -> Cover
     requires { s + n ≤ 0x40000000 }
     ensures { CoverIs result paint s n }
 {
-    let lo = paint.lo;
-    let hi = paint.hi;
     let end = s + n;
-    if hi <= lo {
-        return Cover::Apart;
+    if paint.hi <= paint.lo || paint.hi <= s || end <= paint.lo {
+        Cover::Apart
+    } else if s < paint.lo || paint.hi < end {
+        Cover::Partly
+    } else {
+        Cover::Whole
     }
-    if hi <= s {
-        return Cover::Apart;
-    }
-    if end <= lo {
-        return Cover::Apart;
-    }
-    if s < lo {
-        return Cover::Partly;
-    }
-    if hi < end {
-        return Cover::Partly;
-    }
-    Cover::Whole
 }
 
 // How many of the sixteen words from `s` on come before word `x`.
 fn words_before(s: u32, x: u32) -> u32
     ensures { Before s x result }
 {
-    if x <= s {
-        return 0;
-    }
-    let k = x - s;
-    if k < 16 { k } else { 16 }
+    x.saturating_sub(s).min(16)
 }
 
 // The leaf entry `w`, which the region parts: its own rights before and after the region, and the painted one between.
@@ -108,8 +72,8 @@ fn repack(paint: Paint, w: u32, s: u32) -> u32
 {
     let a = words_before(s, paint.lo);
     let b = words_before(s, paint.hi);
-    let same = words::sixteen_of(paint.right) as u64;
-    let old = w as u64;
+    let same = u64::from(words::sixteen_of(paint.right));
+    let old = u64::from(w);
     let low: u64 = 1 << (2 * a);
     let high: u64 = 1 << (2 * b);
     (old % low + (same % high - same % low) + (old - old % high)) as u32
@@ -121,56 +85,41 @@ pub fn paint_word(paint: Paint, w: u32, chunk: u32) -> u32
     ensures { (R : ℕ → ℕ) → GivesLeaf w chunk R → result ≡ said_of (painted paint R) 0 (chunk * 64) }
 {
     let s = chunk * 16;
-    let c = meeting(paint, s, 16);
-    match c {
+    match meeting(paint, s, 16) {
         Cover::Apart => w,
-        Cover::Whole => {
-            let right = paint.right;
-            words::sixteen_of(right)
-        }
+        Cover::Whole => words::sixteen_of(paint.right),
         Cover::Partly => repack(paint, w, s),
     }
 }
 
-// Whether the `n` words from `s` on, which have the right `o`, have one right after the painting.
-fn even_part(paint: Paint, o: u32, s: u32, n: u32) -> One
+// The one right of the `n` words from `s` on after the painting, where they had the right `o`, or none if they have two.
+fn even_part(paint: Paint, o: u32, s: u32, n: u32) -> Option<u32>
     requires { s + n ≤ 0x40000000 }
     ensures { (R : ℕ → ℕ) → Plain R s n o → OneIs result (painted paint R) s n }
 {
-    let right = paint.right;
-    let c = meeting(paint, s, n);
-    match c {
-        Cover::Apart => One::Right(o),
-        Cover::Whole => One::Right(right),
-        Cover::Partly => { if o == right { One::Right(o) } else { One::Two } }
+    match meeting(paint, s, n) {
+        Cover::Apart => Some(o),
+        Cover::Whole => Some(paint.right),
+        Cover::Partly if o == paint.right => Some(o),
+        Cover::Partly => None,
     }
 }
 
-// What the entry of the block numbered `n` should be after the painting, where it is `e`. A block that is covered
-// whole needs no search, nor does one that is not covered and has no table, and a leaf entry never does.
-fn at_once(paint: Paint, height: u32, e: u32, n: u32) -> Told
+// What the entry of the block numbered `n` should be after the painting, where it is `e`, as far as it is known without
+// a search of its sub-blocks. A block that is covered whole needs none, nor does one that is not covered and has no
+// table, and a leaf entry never does.
+fn at_once(paint: Paint, height: u32, e: u32, n: u32) -> Option<u32>
     requires good_rights { GoodRights height e }
     requires height_bound { (height ≤ 2) × (n < entry_blocks height) × (paint.right < 4) }
     ensures { ToldIs result paint height e n }
 {
     let long = table::block_words(height);
-    let c = meeting(paint, n * long, long);
-    if let Cover::Whole = c {
-        let right = paint.right;
-        return Told::Known(table::same_entry(height, right));
+    match meeting(paint, n * long, long) {
+        Cover::Whole => Some(table::same_entry(height, paint.right)),
+        Cover::Apart if height == 0 || e >= words::BIT_31 => Some(e),
+        _ if height == 0 => Some(paint_word(paint, e, n)),
+        _ => None,
     }
-    if let Cover::Apart = c {
-        if e >= words::BIT_31 {
-            return Told::Known(e);
-        }
-        if height == 0 {
-            return Told::Known(e);
-        }
-    }
-    if height == 0 {
-        return Told::Known(paint_word(paint, e, n));
-    }
-    Told::Unknown
 }
 
 // Whether it is `same` because it stands so and nothing is painted: the settled test asks this of nearly every entry.
@@ -178,22 +127,11 @@ fn stands(paint: Paint, height: u32, e: u32, n: u32, same: u32) -> bool
     requires { GoodRights height e }
     ensures { result ≡ true → SaysIs paint height e n same }
 {
-    let lo = paint.lo;
-    let hi = paint.hi;
-    if lo < hi {
-        return false;
-    }
-    if e != same {
-        return false;
-    }
-    if e >= words::BIT_31 {
-        return true;
-    }
-    height == 0
+    paint.hi <= paint.lo && e == same && (height == 0 || e >= words::BIT_31)
 }
 
-// Whether sub-block `i` of a block whose entry is rights has one right after the painting.
-fn rights_part(paint: Paint, below: u32, e: u32, n: u32, i: u32) -> One
+// The one right of sub-block `i` of a block whose entry is rights, after the painting, or none if it has two.
+fn rights_part(paint: Paint, below: u32, e: u32, n: u32, i: u32) -> Option<u32>
     requires { (0x80000000 ≤ e) × (below < 2) × (n < entry_blocks (suc below)) × (i < 8) }
     ensures { (P : ℕ → ℕ) → PartIs P paint (suc below) e n i result }
 {
@@ -207,18 +145,7 @@ fn rights_have(paint: Paint, below: u32, e: u32, n: u32, right: u32) -> bool
     requires { (0x80000000 ≤ e) × (below < 2) × (n < entry_blocks (suc below)) }
     ensures { (P : ℕ → ℕ) → Decides result (BlockHas P paint (suc below) e n right) }
 {
-    let mut i: u32 = 0;
-    while i < 8 {
-        let one = rights_part(paint, below, e, n, i);
-        let One::Right(u) = one else {
-            return false;
-        };
-        if u != right {
-            return false;
-        }
-        i += 1;
-    }
-    true
+    (0..8).all(|i| rights_part(paint, below, e, n, i) == Some(right))
 }
 
 // The right of the first word of a block after the painting: found down the first entries, it needs no search.
@@ -228,23 +155,15 @@ fn first_right(pool: &[u32], paint: Paint, height: u32, e: u32, n: u32) -> u32
     ensures { result ≡ painted paint (given (words pool.now) height e) (4 * (n * (block height / 4))) }
 {
     let s = n * table::block_words(height);
-    let lo = paint.lo;
-    let hi = paint.hi;
-    if lo <= s {
-        if s < hi {
-            return paint.right;
-        }
+    if paint.lo <= s && s < paint.hi {
+        return paint.right;
     }
-    if height == 0 {
-        return words::right_at(e, 0);
-    }
-    if e >= words::BIT_31 {
+    if height == 0 || e >= words::BIT_31 {
         return words::right_at(e, 0);
     }
     let table = words::pool_word(e);
     let k = words::pool_index(table);
-    let w = pool[k];
-    words::right_at(w, 0)
+    words::right_at(pool[k], 0)
 }
 
 // Whether a block with any entry has the right on all its words after the painting. This and `entries_have` call each
@@ -260,12 +179,10 @@ fn has_all(pool: &[u32], paint: Paint, height: u32, e: u32, n: u32, right: u32) 
         return true;
     }
     if height == 0 {
-        let w = paint_word(paint, e, n);
-        return w == same;
+        return paint_word(paint, e, n) == same;
     }
     let long = table::block_words(height);
-    let c = meeting(paint, n * long, long);
-    if let Cover::Whole = c {
+    if let Cover::Whole = meeting(paint, n * long, long) {
         return paint.right == right;
     }
     if e >= words::BIT_31 {
@@ -293,21 +210,18 @@ fn entries_have(
     ensures { Decides result (BlocksHave (words pool.now) paint height from.0 count number right) }
 {
     let start = words::pool_index(from);
-    let mut j: u32 = 0;
-    while j < count {
+    for j in 0..count {
         let w = pool[start + j as usize];
-        let all = has_all(pool, paint, height, w, number + j, right);
-        if !all {
+        if !has_all(pool, paint, height, w, number + j, right) {
             return false;
         }
-        j += 1;
     }
     true
 }
 
-// Whether sub-block `i` of a block with any entry has one right: of one that leads, the entries of its table, which
-// have the height `below`, are asked for the right of the first word.
-fn part(pool: &[u32], paint: Paint, below: u32, e: u32, n: u32, i: u32) -> One
+// The one right of sub-block `i` of a block with any entry, or none if it has two: of one that leads, the entries of
+// its table, which have the height `below`, are asked for the right of the first word.
+fn part(pool: &[u32], paint: Paint, below: u32, e: u32, n: u32, i: u32) -> Option<u32>
     requires readable { Readable pool.now (suc below) e }
     requires below_bound { (below < 2) × (n < entry_blocks (suc below)) × (i < 8) × (paint.right < 4) }
     ensures { PartIs (words pool.now) paint (suc below) e n i result }
@@ -320,73 +234,41 @@ fn part(pool: &[u32], paint: Paint, below: u32, e: u32, n: u32, i: u32) -> One
     let word = words::word_after(table, (count * i) as usize);
     let from = words::pool_index(word);
     let number = (8 * n + i) * count;
-    let e0 = pool[from];
-    let right = first_right(pool, paint, below, e0, number);
+    let right = first_right(pool, paint, below, pool[from], number);
     let all = entries_have(pool, paint, below, word, count, number, right);
-    if !all {
-        return One::Two;
-    }
-    One::Right(right)
+    all.then_some(right)
 }
 
-// The block's target, sub-block by sub-block. Each right is added to the entry as it comes, in the place that `unit`
-// is worth: an array to gather them in would stand on the stack.
-fn search(pool: &[u32], paint: Paint, below: u32, e: u32, n: u32) -> Target
+// The block's target, sub-block by sub-block. Each right is added to the entry as it comes: an array to gather them in
+// would stand on the stack.
+fn search(pool: &[u32], paint: Paint, below: u32, e: u32, n: u32) -> Option<u32>
     requires readable { Readable pool.now (suc below) e }
     requires below_bound { (below < 2) × (n < entry_blocks (suc below)) × (paint.right < 4) }
     ensures { result ≡ target_of (painted paint (given (words pool.now) (suc below) e)) (suc below)
         (n * block (suc below)) }
 {
-    let mut said: u32 = words::BIT_31;
-    let mut unit: u32 = 1;
-    let mut i: u32 = 0;
-    while i < 8 {
-        let one = part(pool, paint, below, e, n, i);
-        let One::Right(u) = one else {
-            return Target::Mixed;
-        };
-        said += u * unit;
-        unit *= 4;
-        i += 1;
+    let mut said = words::BIT_31;
+    for i in 0..8 {
+        said += part(pool, paint, below, e, n, i)? << (2 * i);
     }
-    Target::Says(said)
+    Some(said)
 }
 
-// What the entry of the block numbered `n` should be after the painting, where it is `e`.
-pub fn entry_target(pool: &[u32], paint: Paint, height: u32, e: u32, n: u32) -> Target
+// What the entry of the block numbered `n` should be after the painting, where it is `e`: the rights that say the block,
+// or none where a sub-block has two rights, so that it must lead to a table.
+pub fn entry_target(pool: &[u32], paint: Paint, height: u32, e: u32, n: u32) -> Option<u32>
     requires readable { Readable pool.now height e }
     requires height_bound { (height ≤ 2) × (n < entry_blocks height) × (paint.right < 4) }
     ensures { (R : ℕ → ℕ) → Gives (words pool.now) height e n R
         → result ≡ target_of (painted paint R) height (n * block height) }
 {
-    let known = at_once(paint, height, e, n);
-    if let Told::Known(w) = known {
-        return Target::Says(w);
+    if let Some(w) = at_once(paint, height, e, n) {
+        return Some(w);
     }
     if leaves::seen_mixed(pool, paint, height, e) {
-        return Target::Mixed;
+        return None;
     }
     search(pool, paint, height - 1, e, n)
-}
-
-// What the entry of a page should be.
-pub fn page_target(pool: &[u32], paint: Paint, e: u32, page: u32) -> Target
-    requires readable { Readable pool.now 1 e }
-    requires page_bound { (page < 1048576) × (paint.right < 4) }
-    ensures { (R : ℕ → ℕ) → Gives (words pool.now) 1 e page R
-        → result ≡ target_of (painted paint R) 1 (page * 4096) }
-{
-    entry_target(pool, paint, 1, e, page)
-}
-
-// What the entry of a block of 4 MB should be.
-pub fn block_target(pool: &[u32], paint: Paint, e: u32, block: u32) -> Target
-    requires readable { Readable pool.now 2 e }
-    requires block_bound { (block < 1024) × (paint.right < 4) }
-    ensures { (R : ℕ → ℕ) → Gives (words pool.now) 2 e block R
-        → result ≡ target_of (painted paint R) 2 (block * 4194304) }
-{
-    entry_target(pool, paint, 2, e, block)
 }
 
 // The entry of a height that would stand for block `n`, where the entry `e` above it is eight rights and there is no
@@ -394,8 +276,6 @@ pub fn block_target(pool: &[u32], paint: Paint, e: u32, block: u32) -> Target
 pub fn virtual_entry(height: u32, e: u32, n: u32) -> u32
     ensures { result ≡ virtual_of height e n }
 {
-    let entries = table::part_entries(height);
-    let i = n / entries % 8;
-    let right = words::right_at(e, i);
-    table::same_entry(height, right)
+    let i = n / table::part_entries(height) % 8;
+    table::same_entry(height, words::right_at(e, i))
 }

@@ -8,20 +8,11 @@ ghost use Rattle.places.specs.Count.{want};
 ghost use Rattle.census.specs.Places.{max_places, place_height};
 ghost use Rattle.census.specs.Census.{StandsAt, Owners};
 ghost use Rattle.targets.specs.Targets.{Decides};
-ghost use Rattle.targets.specs.Steps.{is_mixed, LeafIn};
+ghost use Rattle.targets.specs.Steps.{LeafIn};
 
-use crate::{Target, UNPAINTED, entry_target};
-use census::NONE;
+use crate::{UNPAINTED, entry_target};
+use census::{NONE, PLACES};
 use table::Shape;
-
-fn is_mixed(t: Target) -> bool
-    ensures { result ≡ is_mixed t }
-{
-    match t {
-        Target::Says(_) => false,
-        Target::Mixed => true,
-    }
-}
 
 // Whether the table that stands at place `n`, that of a block, is wanted: with nothing painted, no rights can be its
 // entry.
@@ -35,51 +26,34 @@ fn table_wanted(pool: &[u32], shape: Shape, n: usize, block: u32) -> bool
     let place = census::place_word(shape, n);
     let e = words::entry_of(place);
     let number = census::block_in_domain(height, block);
-    let t = entry_target(pool, UNPAINTED, height + 1, e, number);
-    is_mixed(t)
+    let target = entry_target(pool, UNPAINTED, height + 1, e, number);
+    target.is_none()
 }
 
 // Whether place `n` is that of a middle table with a leaf, by the owners of the leaf places.
-fn has_leaf(owners: &[u32], n: usize, block: u32) -> bool
-    requires { length owners.now ≡ max_places }
+fn has_leaf(owners: &[u32; PLACES], n: usize, block: u32) -> bool
     ensures { result ≡ true → LeafIn owners.now n block }
 {
-    if n >= table::FIRST_LEAF {
-        return false;
-    }
-    let mut m: usize = table::FIRST_LEAF;
-    while m < census::PLACES {
-        let page = owners[m];
-        if page / table::TABLE_WORDS == block {
-            return true;
-        }
-        m += 1;
-    }
-    false
+    n < table::FIRST_LEAF
+        && owners[table::FIRST_LEAF..]
+            .iter()
+            .any(|page| page / table::TABLE_WORDS == block)
 }
 
 // Whether a sound pool is settled: every table in it, by the owners of its places, is wanted. (In a sound pool a
 // block that wants a table has one.) The leaves come first: a table with a leaf that is wanted is wanted too, so only
 // one without leaves is searched.
 #[inline(never)]
-pub fn settled(pool: &[u32], shape: Shape, owners: &[u32]) -> bool
+pub fn settled(pool: &[u32], shape: Shape, owners: &[u32; PLACES]) -> bool
     requires fits { Fits shape (length pool.now) }
     requires sound_pool { SoundPool (form_of shape) (words pool.now) }
     requires owners { Owners pool.now shape owners.now }
     ensures { Decides result (Settled (form_of shape) (words pool.now)) }
 {
-    let mut n: usize = census::PLACES;
-    while 0 < n {
-        n -= 1;
+    for n in (0..PLACES).rev() {
         let owner = owners[n];
-        if owner != NONE {
-            let leaf = has_leaf(owners, n, owner);
-            if !leaf {
-                let wanted = table_wanted(pool, shape, n, owner);
-                if !wanted {
-                    return false;
-                }
-            }
+        if owner != NONE && !has_leaf(owners, n, owner) && !table_wanted(pool, shape, n, owner) {
+            return false;
         }
     }
     true

@@ -8,7 +8,9 @@ use native.Mathlib.Decide.{ℕ_discrete, dec_lt, dec_le}
 use lib.Dec.{leb, ltb}
 use borrow.Author.Tests.{eq-eqb, ne_eqb, le-leb, lt-leb, lt-ltb, le-ltb, leb-true, ltb-true}
 use Rattle.words.specs.declared.Region.{Region}
-use Rattle.words.specs.declared.Rounded.TheVariants.{Covers, Refused}
+use Rattle.std.specs.Prelude.{Result, Ok, Err}
+use Rattle.refusals.specs.declared.Refusal.{Refusal}
+use Rattle.refusals.specs.declared.Refusal.TheVariants.{EmptyRegion, PastTheEnd}
 use Rattle.words.specs.Region.{rounded_start, rounded_length, rounded_end, rounded, region_of, numbers, covered}
 
 pub region_equal : (r s : Region) → r.lo ≡ s.lo → r.hi ≡ s.hi → r ≡ s
@@ -16,12 +18,12 @@ region_equal r s e f = ap (λ x. record { lo = x; hi = r.hi }) e ∙ ap (λ x. r
 
 -- The three answers.
 
-pub region_empty : (start length : ℕ) → length ≡ 0 → region_of start length ≡ Refused 4
+pub region_empty : (start length : ℕ) → length ≡ 0 → region_of start length ≡ Err EmptyRegion
 unfolding region_of
 region_empty start length h = rw (eq-eqb length 0 h) refl
 
 pub region_beyond : (start length : ℕ) → 0 < length → 4294967296 < rounded_end start length → region_of start length
-    ≡ Refused 5
+    ≡ Err PastTheEnd
 unfolding region_of
 region_beyond start length h k = rw (
   ne_eqb length 0 (λ e. omega arith),
@@ -30,7 +32,7 @@ region_beyond start length h k = rw (
 ) refl
 
 pub region_covers : (start length : ℕ) → 0 < length → rounded_end start length ≤ 4294967296 → region_of start length
-    ≡ Covers (rounded start length)
+    ≡ Ok (rounded start length)
 unfolding region_of
 region_covers start length h k = rw (
   ne_eqb length 0 (λ e. omega arith),
@@ -39,7 +41,8 @@ region_covers start length h k = rw (
 ) refl
 
 -- A region is refused with 4 or 5 ..
-pub region_number : (start length k : ℕ) → region_of start length ≡ Refused k → (k ≡ 4) ⊎ (k ≡ 5)
+pub region_number : (start length : ℕ) (k : Refusal) → region_of start length ≡ Err k
+    → (k ≡ EmptyRegion) ⊎ (k ≡ PastTheEnd)
 region_number start length k e = elim (ℕ_discrete length 0) [
   | yes a ↦ inl (number (sym (region_empty start length a) ∙ e))
   | no a ↦ elim (dec_lt 4294967296 (rounded_end start length)) [
@@ -48,11 +51,11 @@ region_number start length k e = elim (ℕ_discrete length 0) [
   ]
 ]
   where
-    number : {m : ℕ} → Refused m ≡ Refused k → k ≡ m
+    number : {m : Refusal} → ◌≡◌ {A = Result Region Refusal} (Err m) (Err k) → k ≡ m
     number z = cc
 
-    other : {g : Region} → Covers g ≡ Refused k → ⊥
-    other z = let y : ◌≡◌ {A = ℕ} 0 1 = cc in omega arith
+    other : {g : Region} → Ok g ≡ Err k → ⊥
+    other z = cc
 
 -- .. or has the words from its rounded start up to its rounded end, in the paper's numbers.
 pub region_numbers : (start length : ℕ) → 0 < length → rounded_end start length ≤ 4294967296
@@ -71,7 +74,7 @@ pub record Covering (start length : ℕ) (r : Region) : Type 0 where
   pub some : r.lo < r.hi
   pub below : r.hi ≤ 1073741824
 
-pub region_covering : (start length : ℕ) (r : Region) → region_of start length ≡ Covers r → Covering start length r
+pub region_covering : (start length : ℕ) (r : Region) → region_of start length ≡ Ok r → Covering start length r
 region_covering start length r e = elim (ℕ_discrete length 0) [
   | yes h ↦ absurd (never (sym (region_empty start length h) ∙ e))
   | no h ↦ elim (dec_lt 4294967296 (rounded_end start length)) [
@@ -80,10 +83,10 @@ region_covering start length r e = elim (ℕ_discrete length 0) [
   ]
 ]
   where
-    never : {n : ℕ} → Refused n ≡ Covers r → ⊥
-    never p = let z : ◌≡◌ {A = ℕ} 0 1 = cc in omega arith
+    never : {k : Refusal} → Err k ≡ Ok r → ⊥
+    never p = cc
 
-    same : Covers r ≡ Covers (rounded start length) → r ≡ rounded start length
+    same : ◌≡◌ {A = Result Region Refusal} (Ok r) (Ok (rounded start length)) → r ≡ rounded start length
     same p = cc
 
     made : 0 < length → rounded_end start length ≤ 4294967296 → r ≡ rounded start length → Covering start length r
@@ -153,11 +156,11 @@ covered_asked start length a h e =
     ]
 
 -- 5 is given exactly where one of them lies past the end of memory.
-pub asked_beyond : (start length : ℕ) → 0 < length → 4294967296 < start + length → region_of start length ≡ Refused 5
+pub asked_beyond : (start length : ℕ) → 0 < length → 4294967296 < start + length → region_of start length ≡ Err PastTheEnd
 asked_beyond start length h k = region_beyond start length h (omega arith)
 
 pub asked_within : (start length : ℕ) → 0 < length → start + length ≤ 4294967296
-    → region_of start length ≡ Covers (rounded start length)
+    → region_of start length ≡ Ok (rounded start length)
 asked_within start length h k = region_covers start length h (omega arith)
 
 -- From the first byte of a word on, the length is rounded by itself.

@@ -1,8 +1,9 @@
 -- Regions: how a start and a length in bytes are rounded to memory words, and when they are refused.
-use Rattle.std.specs.Prelude.{ℕ, ◌+◌, ◌*◌, ◌/◌, ◌%◌, Bool, cond, ◌&&◌, eqb, leb, ltb}
+use Rattle.std.specs.Prelude.{ℕ, ◌+◌, ◌*◌, ◌/◌, ◌%◌, Bool, cond, ◌&&◌, eqb, leb, ltb, Result, Ok, Err}
+use Rattle.refusals.specs.declared.Refusal.{Refusal}
+use Rattle.refusals.specs.declared.Refusal.TheVariants.{EmptyRegion, PastTheEnd}
+use Rattle.refusals.specs.Refusals.{number}
 use Rattle.words.specs.declared.Region.{Region}
-use Rattle.words.specs.declared.Rounded.{Rounded}
-use Rattle.words.specs.declared.Rounded.TheVariants.{Covers, Refused}
 
 -- The start, in bytes, rounded down to a multiple of 4.
 abbrev pub rounded_start : ℕ → ℕ
@@ -20,11 +21,11 @@ rounded_end start length = rounded_start start + rounded_length start length
 abbrev pub rounded : ℕ → ℕ → Region
 rounded start length = record { lo = rounded_start start / 4; hi = rounded_end start length / 4 }
 
--- What a start and a length answer: 4 for the length 0, 5 for an end above 2^32, else the words.
-unfoldable pub region_of : ℕ → ℕ → Rounded
+-- What a start and a length answer: refused where the length is 0 or the end is above 2^32, else the words.
+unfoldable pub region_of : ℕ → ℕ → Result Region Refusal
 region_of start length =
-    cond (eqb length 0) (Refused 4)
-    (cond (ltb 4294967296 (rounded_end start length)) (Refused 5) (Covers (rounded start length)))
+    cond (eqb length 0) (Err EmptyRegion)
+    (cond (ltb 4294967296 (rounded_end start length)) (Err PastTheEnd) (Ok (rounded start length)))
 
 -- The paper's numbers for what comes back: a refusal, and the memory words covered.
 pub record Numbers : Type 0 where
@@ -33,9 +34,9 @@ pub record Numbers : Type 0 where
   pub hi : ℕ
 
 -- A refusal is its number with all other results zero.
-abbrev pub numbers : Rounded → Numbers
-numbers (Covers g) = record { refusal = 0; lo = g.lo; hi = g.hi }
-numbers (Refused n) = record { refusal = n; lo = 0; hi = 0 }
+abbrev pub numbers : Result Region Refusal → Numbers
+numbers (Ok g) = record { refusal = 0; lo = g.lo; hi = g.hi }
+numbers (Err k) = record { refusal = number k; lo = 0; hi = 0 }
 
 -- The byte address is one of a word of the region.
 abbrev pub covered : Region → ℕ → Bool

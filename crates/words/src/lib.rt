@@ -2,10 +2,13 @@
 // rounded to memory words.
 #![tactic(auto)]
 
-ghost use Rattle.std.specs.Prelude.{◌≡◌, true, ◌+◌, ◌/◌, ◌<◌, ◌≤◌, length};
+ghost use Rattle.std.specs.Prelude.{◌≡◌, true, ◌+◌, ◌/◌, ◌<◌, ◌≤◌, length, ◌==◌, ◌&&◌, fold};
+ghost use Rattle.std.specs.List.{prefix_len};
 ghost use Rattle.words.specs.Rights.{right_at, eight_of, sixteen_of, good_rights};
 ghost use Rattle.words.specs.Region.{rounded_length, region_of};
-ghost use Rattle.words.specs.Passing.{Passed, SkipsRights, AllSame};
+ghost use Rattle.words.specs.Passing.{SkipsRights, AllSame};
+
+use refusals::Refusal;
 
 mod stretches; // stretches.rt: how far one right goes inside an entry
 
@@ -15,74 +18,74 @@ pub use stretches::{Stretch, stretch_at};
 pub const BIT_31: u32 = 0x8000_0000;
 
 // A byte address of the memory that the table protects.
-#[derive(Clone, Copy)]
+#[derive(Clone, Copy, PartialEq, Eq)]
 pub struct ByteAddr(pub u32);
 
 // The number of a word of the pool. It has a type of its own, so that the compiler refuses it where an address is
 // wanted.
-#[derive(Clone, Copy)]
+#[derive(Clone, Copy, PartialEq, Eq)]
 pub struct PoolWord(pub usize);
 
 // The memory words `lo ≤ w < hi`; memory word `w` is the four bytes from `4 * w` on.
-#[derive(Clone, Copy)]
+#[derive(Clone, Copy, PartialEq, Eq)]
 pub struct Region {
     pub lo: u32,
     pub hi: u32,
-}
-
-// A region as it is asked for: the words that it covers, or the number of the refusal.
-#[derive(Clone, Copy)]
-pub enum Rounded {
-    Covers(Region),
-    Refused(u32),
 }
 
 // The pool's first word.
 pub const FIRST_WORD: PoolWord = PoolWord(0);
 
 // A number from outside becomes an address.
-pub fn byte_addr(n: u32) -> ByteAddr
-    ensures { result ≡ record { 0 = n } }
-{
-    ByteAddr(n)
+impl From<u32> for ByteAddr {
+    ghost from_gives = { λ n a. a ≡ record { 0 = n } };
+
+    fn from(n: u32) -> ByteAddr {
+        ByteAddr(n)
+    }
 }
 
 // An address becomes a number again, to be split or handed outside.
-pub fn addr_number(a: ByteAddr) -> u32
-    ensures { result ≡ a.0 }
-{
-    a.0
+impl From<ByteAddr> for u32 {
+    ghost from_gives = { λ a n. n ≡ a.0 };
+
+    fn from(a: ByteAddr) -> u32 {
+        a.0
+    }
 }
 
 // A pointer entry, or a number that is reckoned from the shape, as the pool word number that it is.
-pub fn pool_word(entry: u32) -> PoolWord
-    ensures { result ≡ record { 0 = entry } }
-{
-    PoolWord(entry as usize)
+impl From<u32> for PoolWord {
+    ghost from_gives = { λ n w. w ≡ record { 0 = n } };
+
+    fn from(n: u32) -> PoolWord {
+        PoolWord(n as usize)
+    }
 }
 
-// The entry that leads to the table that begins at the word.
-pub fn entry_of(w: PoolWord) -> u32
-    requires { w.0 < 4294967296 }
-    ensures { result ≡ w.0 }
-{
-    let n = pool_index(w);
-    n as u32
-}
+impl PoolWord {
+    // Where the word stands in the slice that is the pool.
+    pub fn index(self) -> usize
+        ensures { result ≡ self.0 }
+    {
+        self.0
+    }
 
-// Where the word stands in the slice that is the pool.
-pub fn pool_index(w: PoolWord) -> usize
-    ensures { result ≡ w.0 }
-{
-    w.0
-}
+    // The word `i` words on.
+    pub fn after(self, i: usize) -> PoolWord
+        requires { self.0 + i < 4294967296 }
+        ensures { result ≡ record { 0 = self.0 + i } }
+    {
+        PoolWord(self.0 + i)
+    }
 
-// The word `i` words on.
-pub fn word_after(w: PoolWord, i: usize) -> PoolWord
-    requires { w.0 + i < 4294967296 }
-    ensures { result ≡ record { 0 = w.0 + i } }
-{
-    PoolWord(w.0 + i)
+    // The entry that leads to the table that begins at the word.
+    pub fn entry(self) -> u32
+        requires { self.0 < 4294967296 }
+        ensures { result ≡ self.0 }
+    {
+        self.0 as u32
+    }
 }
 
 // The right in bits 2i+1 and 2i.
@@ -113,53 +116,39 @@ pub fn sixteen_of(right: u32) -> u32
 pub fn good_rights(w: u32) -> bool
     ensures { result ≡ good_rights w }
 {
-    if w < BIT_31 {
-        return false;
-    }
-    w < 0x8001_0000
+    BIT_31 <= w && w < 0x8001_0000
 }
 
-// 1 where the word is eight rights, else 0.
-fn one_if_rights(w: u32) -> usize
-    ensures { (result ≤ 1) × (result ≡ 1 → good_rights w ≡ true) }
+// Whether the words are all eight rights. Each is asked, with no way out at the first that is not, as `all` would have:
+// so the compiler tests four at a time, where it knows how many there are.
+fn all_rights(words: &[u32]) -> bool
+    ensures { result ≡ fold (λ all w. all && good_rights w) true words.now }
 {
-    if good_rights(w) {
-        return 1;
-    }
-    0
+    words.iter().fold(true, |all, w| all & good_rights(*w))
 }
 
-// Whether the `count` words from `at` on are all eight rights. They are counted with no way out of the loop: so the
-// compiler tests four at a time, where `count` is a number that it knows.
-fn all_rights(pool: &[u32], at: PoolWord, count: usize) -> bool
-    requires { at.0 + count ≤ length pool.now }
-    ensures { result ≡ true → Passed pool.now at.0 (at.0 + count) }
+// Whether the words are all `value`, each asked as above.
+fn all_are(words: &[u32], value: u32) -> bool
+    ensures { result ≡ fold (λ all w. all && (w == value)) true words.now }
 {
-    let first = pool_index(at);
-    let mut n: usize = 0;
-    let mut i: usize = 0;
-    while i < count {
-        let w = pool[first + i];
-        n += one_if_rights(w);
-        i += 1;
-    }
-    n == count
+    words.iter().fold(true, |all, w| all & (*w == value))
 }
 
-// How many of the `count` words from `from` on are passed over `step` at a time, up to some that are not all eight
-// rights.
-fn pass_by(pool: &[u32], from: PoolWord, count: usize, step: usize) -> usize
-    requires { (from.0 + count ≤ length pool.now) × (0 < step) }
-    ensures { (result ≤ count) × Passed pool.now from.0 (from.0 + result) }
+// How many of the words stand before the first that is not eight rights.
+fn rights_ahead(words: &[u32]) -> usize
+    ensures { (result ≤ length words.now) × (result ≡ prefix_len good_rights words.now) }
 {
-    let first = pool_index(from);
-    let mut n: usize = 0;
-    while step <= count - n {
-        let at = first + n;
-        let all = all_rights(pool, PoolWord(at), step);
-        if !all {
-            break;
-        }
+    words.iter().take_while(|w| good_rights(**w)).count()
+}
+
+// How many of them are passed over `step` at a time, up to some that are not all eight rights.
+fn pass_by(words: &[u32], step: usize) -> usize
+    requires { 0 < step }
+    ensures { (result ≤ length words.now) × (result ≤ prefix_len good_rights words.now) }
+{
+    let mut n = 0;
+    // no chain: of chunks_exact, take_while and count the search did not prove that each part passed is eight rights
+    while step <= words.len() - n && all_rights(&words[n..n + step]) {
         n += step;
     }
     n
@@ -171,48 +160,21 @@ pub fn skip_rights(pool: &[u32], from: PoolWord, count: usize) -> usize
     requires { from.0 + count ≤ length pool.now }
     ensures { SkipsRights pool.now from.0 (from.0 + count) (from.0 + result) }
 {
-    let first = pool_index(from);
-    let wide = pass_by(pool, from, count, 32);
-    let next = first + wide;
-    let rest = count - wide;
-    let near = pass_by(pool, PoolWord(next), rest, 4);
-    let mut n = wide + near;
-    while n < count {
-        let w = pool[first + n];
-        let good = good_rights(w);
-        if !good {
-            break;
-        }
-        n += 1;
-    }
-    n
+    let first = from.index();
+    let words = &pool[first..first + count];
+    let wide = pass_by(words, 32);
+    let near = wide + pass_by(&words[wide..], 4);
+    near + rights_ahead(&words[near..])
 }
 
-// 1 where the word is `value`, else 0.
-fn one_if_same(w: u32, value: u32) -> usize
-    ensures { (result ≤ 1) × (result ≡ 1 → w ≡ value) × (w ≡ value → result ≡ 1) }
-{
-    if w == value {
-        return 1;
-    }
-    0
-}
-
-// Whether the `count` words from `at` on all are `value`, counted as above.
+// Whether the `count` words from `at` on all are `value`.
 pub fn all_same(pool: &[u32], at: PoolWord, count: usize, value: u32) -> bool
     requires { at.0 + count ≤ length pool.now }
     ensures { (result ≡ true → AllSame pool.now at.0 count value)
         × (AllSame pool.now at.0 count value → result ≡ true) }
 {
-    let first = pool_index(at);
-    let mut n: usize = 0;
-    let mut i: usize = 0;
-    while i < count {
-        let w = pool[first + i];
-        n += one_if_same(w, value);
-        i += 1;
-    }
-    n == count
+    let first = at.index();
+    all_are(&pool[first..first + count], value)
 }
 
 // How many words a length in bytes takes that begins `low` bytes into a word. What is left of whole words is rounded by
@@ -221,20 +183,20 @@ fn words_from(low: u32, length: u32) -> u32
     requires { low < 4 }
     ensures { result ≡ rounded_length low length / 4 }
 {
-    length / 4 + (low + length % 4 + 3) / 4
+    length / 4 + (low + length % 4).div_ceil(4)
 }
 
 // The words of a start and a length in bytes.
-pub fn round_region(start: ByteAddr, length: u32) -> Rounded
+pub fn round_region(start: ByteAddr, length: u32) -> Result<Region, Refusal>
     ensures { result ≡ region_of start.0 length }
 {
     if length == 0 {
-        return Rounded::Refused(4);
+        return Err(Refusal::EmptyRegion);
     }
     let lo = start.0 / 4;
     let hi = lo + words_from(start.0 % 4, length);
     if hi > 0x4000_0000 {
-        return Rounded::Refused(5);
+        return Err(Refusal::PastTheEnd);
     }
-    Rounded::Covers(Region { lo, hi })
+    Ok(Region { lo, hi })
 }

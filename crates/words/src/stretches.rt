@@ -6,7 +6,7 @@ ghost use Rattle.words.specs.Stretches.{Longest};
 use super::right_at;
 
 // The right of the parts of an entry, from the first to the last.
-#[derive(Clone, Copy)]
+#[derive(Clone, Copy, PartialEq, Eq)]
 pub struct Stretch {
     pub right: u32,
     pub first: u32,
@@ -27,14 +27,14 @@ pub fn stretch_at(w: u32, parts: u32, i: u32) -> Stretch
     requires { (i < parts) × (parts ≤ 16) }
     ensures { (result.right ≡ right_at w i) × Longest (right_at w) 0 parts i result.first result.last }
 {
-    let right = right_at(w, i);
     let turns = turns_in(w);
     let before = turns % (1 << (2 * i));
     let first = (33 - u32::leading_zeros(before)) / 2;
     let alike = u32::trailing_zeros(turns >> (2 * i)) / 2;
-    let mut last = i + alike;
-    if last >= parts {
-        last = parts - 1;
+    let last = u32::min(i + alike, parts - 1);
+    Stretch {
+        right: right_at(w, i),
+        first,
+        last,
     }
-    Stretch { right, first, last }
 }

@@ -1,68 +1,44 @@
 -- `census::entry_check` and `census::table_check` meet their contracts.
-use Rattle.std.proofs.Common.{◌+◌, ◌-◌, ◌*◌, ◌≤◌, ℕ, List, refl, sym, ap, ◌∙◌, arith}
+use Rattle.std.proofs.Common.{◌+◌, ◌-◌, ◌*◌, ℕ, List, refl, sym, ap, ◌∙◌, arith}
+use borrow.Author.Tests.{eq-eqb}
 use Rattle.theory.specs.Pool.{words}
 use Rattle.words.specs.Rights.{good_rights}
 use Rattle.table.specs.declared.Shape.{Shape}
-use Rattle.table.proofs.EntryLaws.{decoded_leads}
 use Rattle.census.specs.Tally.{Tally, entry_tally}
-use Rattle.census.proofs.PlaceLaws.{decoded_place}
 use Rattle.census.proofs.TallyLaws.{upper_size, answers_owned, answers_refused, same_answers, owned_answers}
 use Rattle.census.proofs.TallyLaws.{refused_answers, through_step, through_stop, through_pass, through_start, through_end}
 use Rattle.census.proofs.TallyLaws.{table_leaf, table_through, enter_rights, enter_bad, enter_given, enter_again}
-use Rattle.census.proofs.TallyLaws.{rights_pass, entry_number, few_numbers}
+use Rattle.census.proofs.TallyLaws.{rights_pass}
 use Rattle.census.proofs.+entry_check_table_check.Goals as goal
 
 -- Root or middle table: what its entries are checked by.
 abbrev check : Shape → List ℕ → ℕ → ℕ → ℕ → List ℕ → Tally
 check s pool h k = entry_tally s pool h (words pool k)
 
-pub entry_check-give_place-first-requires : goal.entry_check-give_place-first-requires
-entry_check-give_place-first-requires t c =
-    let h = c.requires.height_nonzero in
-    let x = decoded_place _ c.requires.fits.range _ _ _ _ h.0 h.1 (sym c.decode-e.ensures ∙ c.in-Leads.is) in
-    omega (arith, x.below, c.requires.owners_len)
+pub entry_check-returns-in-Rights : goal.entry_check-returns-in-Rights
+entry_check-returns-in-Rights t c =
+    owned_answers _ _ _ refl (enter_rights _ _ _ (sym c.decode.ensures ∙ c.in-Rights.is))
+
+pub entry_check-returns-in-Bad : goal.entry_check-returns-in-Bad
+entry_check-returns-in-Bad t c = refused_answers _ _ _ refl (enter_bad _ _ _ (sym c.decode.ensures ∙ c.in-Bad.is))
 
 pub entry_check-returns-then-height-eq1 : goal.entry_check-returns-then-height-eq1
 entry_check-returns-then-height-eq1 t c =
-    owned_answers _ _ (enter_given _ _ _ (sym c.decode-e.ensures ∙ c.in-Leads.is)
-    (answers_owned _ _ _ c.give_place-first.ensures c.if-first.true)
+    owned_answers _ _ _ (eq-eqb _ _ c.if-height-eq1.true)
+    (enter_given _ _ _ (sym c.decode.ensures ∙ c.in-Leads.is)
+    (answers_owned _ _ _ c.give_place.ensures c.if-give_place.true)
     ∙ table_leaf _ _ _ _ _ _ (omega (arith, c.if-height-eq1.true)))
-
-pub entry_check-table_check-requires : goal.entry_check-table_check-requires
-entry_check-table_check-requires t c =
-    let h = c.requires.height_nonzero in
-    let low : c.args.height - 1 ≤ 2 = omega arith in
-    let (u, g, l, room) = decoded_leads _ _ _ _ _ h.0 h.1 (sym c.decode-e.ensures ∙ c.in-Leads.is) in (
-      omega arith,
-      (
-        c.requires.fits,
-        (
-          (omega (arith, c.if-height-eq1.false), low, h.2),
-          (omega (arith, c.requires.fits.long), omega (arith, c.requires.owners_len)),
-        ),
-      ),
-    )
-
-pub entry_check-returns-in-Rights : goal.entry_check-returns-in-Rights
-entry_check-returns-in-Rights t c =
-    owned_answers _ _ (enter_rights _ _ _ (sym c.decode-e.ensures ∙ c.in-Rights.is))
-
-pub entry_check-returns-in-Bad : goal.entry_check-returns-in-Bad
-entry_check-returns-in-Bad t c = refused_answers _ _ (enter_bad _ _ _ (sym c.decode-e.ensures ∙ c.in-Bad.is))
 
 pub entry_check-returns-else-height-eq1 : goal.entry_check-returns-else-height-eq1
 entry_check-returns-else-height-eq1 t c =
-    same_answers _ _ _ _ (enter_given _ _ _ (sym c.decode-e.ensures ∙ c.in-Leads.is)
-    (answers_owned _ _ _ c.give_place-first.ensures c.if-first.true)) c.table_check.ensures
+    same_answers _ _ _ _ (enter_given _ _ _ (sym c.decode.ensures ∙ c.in-Leads.is)
+    (answers_owned _ _ _ c.give_place.ensures c.if-give_place.true)) c.table_check.ensures
 
-pub entry_check-returns-else-first : goal.entry_check-returns-else-first
-entry_check-returns-else-first t c =
-    refused_answers _ _ (enter_again _ _ _ (sym c.decode-e.ensures ∙ c.in-Leads.is)
-    (answers_refused _ _ _ c.give_place-first.ensures c.if-first.false))
-
-pub table_check-overflow_mul-first : goal.table_check-overflow_mul-first
-table_check-overflow_mul-first t c =
-    omega (arith, few_numbers _ c.args.height _ c.requires.fits.range.domains c.requires.height_nonzero.2)
+pub entry_check-returns-else-give_place : goal.entry_check-returns-else-give_place
+entry_check-returns-else-give_place t c =
+    refused_answers _ _ _ c.if-give_place.false
+    (enter_again _ _ _ (sym c.decode.ensures ∙ c.in-Leads.is)
+    (answers_refused _ _ _ c.give_place.ensures c.if-give_place.false))
 
 pub table_check-loop-i-init : goal.table_check-loop-i-init
 table_check-loop-i-init t c =
@@ -71,42 +47,31 @@ table_check-loop-i-init t c =
     let size = upper_size a.height above in (
       omega arith,
       omega (arith, c.requires.height_in_bounds),
-      refl,
       through_start (check a.shape a.pool.now a.height) 1024 a.base.0 (1024 * a.block) a.owners.now
           ∙ sym (table_through a.shape a.pool.now a.height a.base.0 a.block a.owners.now above),
     )
 
-pub table_check-entry_check-fine-requires : goal.table_check-entry_check-fine-requires
-table_check-entry_check-fine-requires t c =
+pub table_check-returns-then-not-entry_check : goal.table_check-returns-then-not-entry_check
+table_check-returns-then-not-entry_check t c =
     let a = c.args in
-    let h = c.requires.height_nonzero in
-    let few = entry_number a.shape.domains a.height a.block c.loop-i.i h.0 h.1 h.2 (omega arith) in (
-      omega arith,
-      (c.requires.fits, ((h.0, h.1, few), omega (arith, c.loop-i.invariant.2, c.requires.owners_len))),
-    )
-
-pub table_check-returns-then-not-fine : goal.table_check-returns-then-not-fine
-table_check-returns-then-not-fine t c =
-    let a = c.args in
-    let x = c.pool_index-k.ensures ∙ ap (λ w. w.0) c.word_after-word.ensures in
-    refused_answers _ _ (sym c.loop-i.invariant.3
+    let x = c.index.ensures ∙ ap (λ w. w.0) c.after-word.ensures in
+    refused_answers _ _ _ refl (sym c.loop-i.invariant.2
     ∙ through_stop (check a.shape a.pool.now a.height) 1024 a.base.0 (1024 * a.block) c.loop-i.i c.loop-i.owners
     (omega arith)
     (ap (λ k. check a.shape a.pool.now a.height k (1024 * a.block + c.loop-i.i) c.loop-i.owners) (sym x)
-    ∙ answers_refused _ _ _ c.entry_check-fine.ensures c.if-not-fine.true))
+    ∙ answers_refused _ _ _ c.entry_check.ensures c.if-not-entry_check.true))
 
 pub table_check-loop-i-preserved-then-n-eq0 : goal.table_check-loop-i-preserved-then-n-eq0
 table_check-loop-i-preserved-then-n-eq0 t c =
     let a = c.args in
-    let x = c.pool_index-k.ensures ∙ ap (λ w. w.0) c.word_after-word.ensures in (
+    let x = c.index.ensures ∙ ap (λ w. w.0) c.after-word.ensures in (
       omega arith,
       c.loop-i.invariant.1,
-      omega (arith, c.loop-i.invariant.2),
       sym (through_step (check a.shape a.pool.now a.height) 1024 a.base.0 (1024 * a.block) c.loop-i.i
           c.loop-i.owners (omega arith) _
           (ap (λ k. check a.shape a.pool.now a.height k (1024 * a.block + c.loop-i.i) c.loop-i.owners) (sym x)
-          ∙ answers_owned _ _ _ c.entry_check-fine.ensures c.if-not-fine.false))
-          ∙ c.loop-i.invariant.3,
+          ∙ answers_owned _ _ _ c.entry_check.ensures c.if-not-entry_check.false))
+          ∙ c.loop-i.invariant.2,
     )
 
 pub table_check-loop-i-preserved : goal.table_check-loop-i-preserved
@@ -114,22 +79,21 @@ table_check-loop-i-preserved t c =
     let a = c.args in
     let P = words a.pool.now in
     let at = a.base.0 in
-    let here = ap (λ w. w.0) c.word_after-word.ensures in (
+    let here = ap (λ w. w.0) c.after-word.ensures in (
       omega arith,
       c.loop-i.invariant.1,
-      c.loop-i.invariant.2,
       sym (through_pass (check a.shape a.pool.now a.height) 1024 at (1024 * a.block) c.loop-i.i c.loop-i.owners
           c.plain_ahead-n.result c.plain_ahead-n.ensures.0
           (λ e h. rights_pass a.shape a.pool.now a.height (P (at + c.loop-i.i + e))
           (1024 * a.block + c.loop-i.i + e) c.loop-i.owners c.requires.height_nonzero.0
           (omega (arith, c.type_inv.pool (at + c.loop-i.i + e)))
           (ap (λ x. good_rights (P (x + e))) (sym here) ∙ c.plain_ahead-n.ensures.1 e h)))
-          ∙ c.loop-i.invariant.3,
+          ∙ c.loop-i.invariant.2,
     )
 
 pub table_check-returns : goal.table_check-returns
 table_check-returns t c =
     let a = c.args in
-    owned_answers _ _ (sym c.loop-i.invariant.3
+    owned_answers _ _ _ refl (sym c.loop-i.invariant.2
     ∙ through_end (check a.shape a.pool.now a.height) (1024 - c.loop-i.i) (a.base.0 + c.loop-i.i)
     (1024 * a.block + c.loop-i.i) c.loop-i.owners (omega arith))

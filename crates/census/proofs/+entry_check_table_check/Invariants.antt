@@ -14,7 +14,7 @@ decreases-table_check l = 2 * l.height + 1
 
 abbrev pub invariant-table_check-loop-i : goal.invariant-table_check-loop-i
 invariant-table_check-loop-i l =
-    (l.i ≤ 1024) × (l.base.0 + 1024 ≤ length l.pool) × (length l.owners ≡ length l.initial.owners)
+    (l.i ≤ 1024) × (l.base.0 + 1024 ≤ length l.pool)
     × (through (λ k. entry_tally l.shape l.pool l.height (words l.pool k)) (1024 - l.i) (l.base.0 + l.i)
     (l.first + l.i) l.owners ≡ table_tally l.shape l.pool l.height l.base.0 l.block l.initial.owners)
 

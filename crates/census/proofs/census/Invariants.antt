@@ -1,14 +1,8 @@
 -- `census::census` meets its contract. The loop's invariant: the roots passed are fine, and have left the owners so
 -- far.
-use Prim.Native.Nat.{◌-◌, ◌≤◌}
 use mathlib.Core.Path.{◌≡◌}
-use lib.ListN.{length}
-use Rattle.census.specs.Places.{max_places}
 use Rattle.census.specs.Tally.{owned, roots_tally}
 use Rattle.census.proofs.census.Given as goal
 
 abbrev pub invariant-loop-d : goal.invariant-loop-d
-invariant-loop-d l = (l.d ≤ l.domains) × (length l.owners ≡ max_places) × (roots_tally l.shape l.pool l.d ≡ owned l.owners)
-
-abbrev pub decreases-loop-d : goal.decreases-loop-d
-decreases-loop-d l = l.domains - l.d
+invariant-loop-d l = roots_tally l.shape l.pool l.d ≡ owned l.owners

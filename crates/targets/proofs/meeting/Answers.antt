@@ -1,9 +1,10 @@
 -- `targets::meeting` meets its contract.
 use Prim.Native.Nat.{ℕ, ◌+◌, ◌-◌, ◌<◌, ◌≤◌}
+use mathlib.Core.Logic.{⊎_elim}
 use native.Mathlib.Omega.{arith}
 use Rattle.targets.specs.declared.Paint.{Paint}
 use Rattle.targets.specs.Steps.{Half}
-use Rattle.targets.proofs.PaintLaws.{inside_is, inside_low, inside_high, inside_none}
+use Rattle.targets.proofs.PaintLaws.{inside_is, inside_low, inside_high, inside_not}
 use Rattle.targets.proofs.meeting.Goals as goal
 
 below_edge : (p : Paint) (s n : ℕ) → s < p.lo → p.lo < p.hi → p.lo < s + n → Half p s n
@@ -26,20 +27,13 @@ above_edge p s n a b d = record {
   miss_is = inside_high p (s + (p.hi - s)) (omega arith);
 }
 
-pub returns-then-hi-lo : goal.returns-then-hi-lo
-returns-then-hi-lo c = λ j h. inside_none _ _ c.if-hi-lo.true
+pub returns-then-end-paint : goal.returns-then-end-paint
+returns-then-end-paint c = λ j h. inside_not _ _ (λ a b. omega arith)
 
-pub returns-then-hi-s : goal.returns-then-hi-s
-returns-then-hi-s c = λ j h. inside_high _ _ (omega arith)
+pub returns-then-paint-end : goal.returns-then-paint-end
+returns-then-paint-end c =
+    let (some, before, after) = c.if-end-paint.false in
+    ⊎_elim (λ l. below_edge _ _ _ l some after) (λ (l, m). above_edge _ _ _ l before m) c.if-paint-end.either
 
-pub returns-then-end-lo : goal.returns-then-end-lo
-returns-then-end-lo c = λ j h. inside_low _ _ (omega arith)
-
-pub returns-then-s-lo : goal.returns-then-s-lo
-returns-then-s-lo c = below_edge _ _ _ (omega arith) (omega arith) (omega arith)
-
-pub returns-then-hi-end : goal.returns-then-hi-end
-returns-then-hi-end c = above_edge _ _ _ (omega arith) (omega arith) (omega arith)
-
-pub returns : goal.returns
-returns c = λ j h. inside_is _ _ (omega arith) (omega arith)
+pub returns-else-paint-end : goal.returns-else-paint-end
+returns-else-paint-end c = λ j h. inside_is _ _ (omega arith) (omega arith)

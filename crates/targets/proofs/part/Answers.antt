@@ -1,15 +1,15 @@
 -- `targets::part` meets its contract.
 use Prim.Native.Nat.{suc, ◌+◌, ◌*◌, ◌≤◌}
-use mathlib.Core.Path.{◌≡◌, sym, ap, ◌∙◌}
-use mathlib.Core.Bool.{true, true≢false}
+use mathlib.Core.Path.{◌≡◌, ap, ◌∙◌}
+use mathlib.Core.Bool.{true}
 use native.Mathlib.Omega.{arith}
 use borrow.Author.Tests.{lt-ltb}
 use lib.ListN.{length}
 use Rattle.theory.specs.Pool.{words}
 use Rattle.table.specs.Map.{leads}
-use Rattle.targets.proofs.HeightLaws.{few_blocks, most_blocks, Entries, entries}
+use Rattle.targets.proofs.HeightLaws.{Entries, entries}
 use Rattle.targets.proofs.GivenLaws.{painted_given_small}
-use Rattle.targets.proofs.HaveLaws.{part_one, part_two}
+use Rattle.targets.proofs.HaveLaws.{part_found}
 use Rattle.targets.proofs.part.Goals as goal
 use Rattle.targets.proofs.part.Goals.{After-part_entries-count, After-pool_index-from, After-word_after-word}
 
@@ -39,37 +39,6 @@ inside k = omega (arith, k.requires.readable.table (lead k), (sub k).inside)
 pub returns-then-e-ge-BIT_31 : goal.returns-then-e-ge-BIT_31
 returns-then-e-ge-BIT_31 c = c.rights_part.ensures _
 
-pub overflow_mul-count : goal.overflow_mul-count
-overflow_mul-count c = omega (arith, (sub (goal.at.overflow_mul-count c).After-part_entries-count).end)
-
-pub overflow_cast-count : goal.overflow_cast-count
-overflow_cast-count c = omega (arith, (sub (goal.at.overflow_cast-count c).After-part_entries-count).end)
-
-pub word_after-word-requires : goal.word_after-word-requires
-word_after-word-requires c = let e = ap (λ w. w.0) c.pool_word-table.ensures in omega (arith, (sub (goal.at.word_after-word-requires c).After-part_entries-count).end)
-
-pub overflow_mul-number : goal.overflow_mul-number
-overflow_mul-number c = omega (arith, few_blocks c.args.below _ c.requires.below_bound.1)
-
-pub overflow_add-number : goal.overflow_add-number
-overflow_add-number c = omega (arith, few_blocks c.args.below _ c.requires.below_bound.1)
-
-pub overflow_mul-number-2 : goal.overflow_mul-number-2
-overflow_mul-number-2 c = omega (arith, (sub (goal.at.overflow_mul-number-2 c).After-part_entries-count).few, most_blocks c.args.below)
-
-pub offset_bounds-pool-from : goal.offset_bounds-pool-from
-offset_bounds-pool-from c = let z = begin (goal.at.offset_bounds-pool-from c).After-pool_index-from in omega (arith, (sub (goal.at.offset_bounds-pool-from c).After-part_entries-count).end)
-
-pub bounds-pool-from : goal.bounds-pool-from
-bounds-pool-from c = let z = begin (goal.at.bounds-pool-from c).After-pool_index-from in
-    omega (arith, inside (goal.at.bounds-pool-from c).After-part_entries-count, (sub (goal.at.bounds-pool-from c).After-part_entries-count).some)
-
-pub first_right-right-requires : goal.first_right-right-requires
-first_right-right-requires c = let x = sub (goal.at.first_right-right-requires c).After-part_entries-count in record {
-  readable = rw (begin (goal.at.first_right-right-requires c).After-pool_index-from) (c.requires.readable.entries (lead (goal.at.first_right-right-requires c).After-part_entries-count) _ (omega (arith, x.some, x.inside)));
-  height_bound = (c.requires.below_bound.0, omega (arith, x.some, x.few));
-}
-
 pub entries_have-all-requires : goal.entries_have-all-requires
 entries_have-all-requires c = let a = c.args in
     let x = sub (goal.at.entries_have-all-requires c).After-part_entries-count in
@@ -85,15 +54,10 @@ entries_have-all-requires c = let a = c.args in
       );
     }
 
-pub returns-then-not-all : goal.returns-then-not-all
-returns-then-not-all c = let h = c.entries_have-all in
-    let a = c.args in
-    part_two a.paint (words a.pool.now) a.below a.e a.n a.i _ _ (sub (goal.at.returns-then-not-all c).After-part_entries-count) (lead (goal.at.returns-then-not-all c).After-part_entries-count)
-    (rw (begin (goal.at.returns-then-not-all c).After-pool_index-from) at c.first_right-right.ensures)
-    (λ g. true≢false (sym (h.ensures.passes (rw (word (goal.at.returns-then-not-all c).After-word_after-word) g)) ∙ c.if-not-all.true))
-
 pub returns : goal.returns
-returns c = let h = c.entries_have-all in
-    let a = c.args in
-    part_one a.paint (words a.pool.now) a.below a.e a.n a.i _ _ (sub (goal.at.returns c).After-part_entries-count) (lead (goal.at.returns c).After-part_entries-count)
-    (rw (word (goal.at.returns c).After-word_after-word) at (h.ensures.holds (c.if-not-all.false)))
+returns c = let a = c.args in
+    let at = goal.at.returns c in
+    rw c.then_some.ensures (part_found a.paint (words a.pool.now) a.below a.e a.n a.i _ _
+    (sub at.After-part_entries-count) (lead at.After-part_entries-count) c.entries_have-all.result
+    (rw (begin at.After-pool_index-from) at c.first_right-right.ensures)
+    (rw (word at.After-word_after-word) at c.entries_have-all.ensures))

@@ -10,7 +10,7 @@ use Rattle.targets.specs.Steps.{Before, right_after}
 use Rattle.targets.proofs.PackLaws.{low_grows}
 use Rattle.targets.proofs.PaintLaws.{before_order, after_small, after_partly}
 use Rattle.targets.proofs.repack.Goals as goal
-use Rattle.targets.proofs.repack.Goals.{After-sixteen_of-same}
+use Rattle.targets.proofs.repack.Goals.{After-from-old}
 
 -- A divisor: the shift loses no bit, so it is not 0.
 unit : (s x k : ℕ) → Before s x k → 1 * 2 ^ (2 * k) % 18446744073709551616 ≡ 2 ^ (2 * k)
@@ -20,22 +20,23 @@ some : (s x k : ℕ) → Before s x k → 0 < 1 * 2 ^ (2 * k) % 1844674407370955
 some s x k b = rw (unit s x k b) (pow_pos (2 * k))
 
 -- What is added is no more than the words that it is taken from.
-fits : (c : After-sixteen_of-same) → let w = c.args.w in
+fits : (c : After-from-old) → let w = c.from-old.result in
     (w % (1 * 2 ^ (2 * c.words_before-a.result) % 18446744073709551616) ≤ w)
-    × (c.sixteen_of-same.result % (1 * 2 ^ (2 * c.words_before-b.result) % 18446744073709551616)
-    ≤ c.sixteen_of-same.result)
-fits c = (mod-le c.args.w _, mod-le c.sixteen_of-same.result _)
+    × (c.from-same.result % (1 * 2 ^ (2 * c.words_before-b.result) % 18446744073709551616)
+    ≤ c.from-same.result)
+fits c = (mod-le c.from-old.result _, mod-le c.from-same.result _)
 
 -- What is put together.
-whole : (c : After-sixteen_of-same) → let s = c.args in
+whole : (c : After-from-old) → let s = c.args in
     let low = 1 * 2 ^ (2 * c.words_before-a.result) % 18446744073709551616 in
     let high = 1 * 2 ^ (2 * c.words_before-b.result) % 18446744073709551616 in
-    let same = c.sixteen_of-same.result in
-    s.w % low + (same % high - same % low) + (s.w - s.w % high) ≡ pack 0 16 (right_after s.paint s.w s.s)
+    let same = c.from-same.result in
+    let old = c.from-old.result in
+    old % low + (same % high - same % low) + (old - old % high) ≡ pack 0 16 (right_after s.paint s.w s.s)
 whole c =
     let a = c.words_before-a in
     let b = c.words_before-b in
-    rw (unit _ _ _ a.ensures, unit _ _ _ b.ensures, c.sixteen_of-same.ensures)
+    rw (c.from-old.ensures, c.from-same.ensures, unit _ _ _ a.ensures, unit _ _ _ b.ensures, c.sixteen_of.ensures)
     (after_partly c.args.paint c.args.s _ _ c.requires.lo_le_hi a.ensures b.ensures c.args.w (omega arith)
     c.requires.s_bound.1)
 
@@ -52,25 +53,25 @@ pub overflow_sub-result : goal.overflow_sub-result
 overflow_sub-result c = let a = c.words_before-a in
     let b = c.words_before-b in
     rw (unit _ _ _ a.ensures, unit _ _ _ b.ensures)
-    (low_grows c.sixteen_of-same.result a.result b.result
+    (low_grows c.from-same.result a.result b.result
     (before_order c.args.paint c.args.s _ _ c.requires.lo_le_hi a.ensures b.ensures))
 
 pub overflow_add-result : goal.overflow_add-result
-overflow_add-result c = let z = fits (goal.at.overflow_add-result c).After-sixteen_of-same in omega arith
+overflow_add-result c = let z = fits (goal.at.overflow_add-result c).After-from-old in omega arith
 
 pub nonzero_rem-result-4 : goal.nonzero_rem-result-4
 nonzero_rem-result-4 c = some _ _ _ c.words_before-b.ensures
 
 pub overflow_sub-result-2 : goal.overflow_sub-result-2
-overflow_sub-result-2 c = mod-le c.args.w _
+overflow_sub-result-2 c = mod-le c.from-old.result _
 
 pub overflow_add-result-2 : goal.overflow_add-result-2
-overflow_add-result-2 c = let z = fits (goal.at.overflow_add-result-2 c).After-sixteen_of-same in omega arith
+overflow_add-result-2 c = let z = fits (goal.at.overflow_add-result-2 c).After-from-old in omega arith
 
 pub overflow_cast-result : goal.overflow_cast-result
 overflow_cast-result c = let r = pack_range 0 16 (right_after c.args.paint c.args.w c.args.s) (λ j l.
     after_small c.args.paint c.args.w c.args.s j c.requires.s_bound.1) in
-    omega (arith, whole (goal.at.overflow_cast-result c).After-sixteen_of-same)
+    omega (arith, whole (goal.at.overflow_cast-result c).After-from-old)
 
 pub returns : goal.returns
-returns c = whole (goal.at.returns c).After-sixteen_of-same
+returns c = whole (goal.at.returns c).After-from-old

@@ -1,42 +1,53 @@
--- `targets::rights_have` meets its contract. The loop's invariant: the sub-blocks passed have the right throughout.
-use Prim.Native.Nat.{suc}
-use native.Mathlib.Omega.{arith}
-use borrow.Author.Count.{below_more}
+-- `targets::rights_have` meets its contract.
+use Prim.Native.Nat.{ℕ, suc}
+use mathlib.Core.Path.{◌≡◌, refl, ◌∙◌}
+use mathlib.Core.Bool.{false, false≢true}
+use lib.Dec.{eqb}
+use borrow.Author.Tests.{tests, eq-eqb}
+use Rattle.std.specs.Option.{option_eq}
+use Rattle.std.proofs.Common.{Some, None, Option, rules}
+use Rattle.std.proofs.lemmas.Iterator.{cases_from_all, YieldsList-from_range}
+use Rattle.targets.specs.declared.Paint.{Paint}
+use Rattle.targets.specs.Targets.{painted, given}
+use Rattle.targets.specs.Steps.{PartIs}
 use Rattle.table.specs.Wants.{words_in}
 use Rattle.table.proofs.BlockLaws.{first_word}
-use Rattle.targets.specs.Targets.{painted, given}
+use Rattle.targets.proofs.ChainLaws.{all_decides}
 use Rattle.targets.proofs.PartLaws.{part_word, plain_part, parts_plain}
-use Rattle.targets.proofs.HaveLaws.{decides_yes, decides_no, plain_one}
+use Rattle.targets.proofs.HaveLaws.{decides_as, plain_one}
 use Rattle.targets.proofs.rights_have.Goals as goal
 
-pub loop-i-init : goal.loop-i-init
-loop-i-init c = (omega arith, λ P k l. absurd (omega arith))
+-- Sub-block `i` has not the right `u` throughout.
+record Lacks (P : ℕ → ℕ) (p : Paint) (h e n i u : ℕ) : Type 0 where
+  pub lacks : PartIs P p h e n i (Some u) → ⊥
 
-pub returns-in_default : goal.returns-in_default
-returns-in_default c = λ P.
-    let a = c.args in
-    decides_no (λ f. (rw c.in_default.is at (c.rights_part-one.ensures P)) _
-    (plain_part (painted a.paint (given P (suc a.below) a.e)) (suc a.below) a.n a.right f c.loop-i.i
-    (omega arith)))
+-- What a sub-block's one right tells of the right `u`: it has that one throughout ..
+module _ (P : ℕ → ℕ) (p : Paint) (h e n i u : ℕ) (r : Option ℕ) (f : (P : ℕ → ℕ) → PartIs P p h e n i r) where
+  part_has : r ≡ Some u → PartIs P p h e n i (Some u)
+  part_has q = rw q at (f P)
 
-pub returns-then-u-right : goal.returns-then-u-right
-returns-then-u-right c = λ P.
-    let a = c.args in
-    let h = suc a.below in
-    let R = painted a.paint (given P h a.e) in
-    decides_no (λ f. c.if-u-right.true (plain_one R (part_word h a.n c.loop-i.i) (words_in h) _ _ (first_word h)
-    (rw c.in-Right.is at (c.rights_part-one.ensures P))
-    (plain_part R h a.n a.right f c.loop-i.i (omega arith))))
+  -- .. or not.
+  part_lacks : false ≡ option_eq eqb r (Some u) → Lacks P p h e n i u
+  part_lacks q = record { lacks = λ g. go g r (f P) q }
+    where
+      R : ℕ → ℕ
+      R = painted p (given P h e)
 
-pub loop-i-preserved : goal.loop-i-preserved
-loop-i-preserved c = let l = c.loop-i in (
-  omega arith,
-  λ P. below_more _ _ (l.invariant.1 P) (rw (c.in-Right.is, c.if-u-right.false)
-      at (c.rights_part-one.ensures P)),
-)
+      go : PartIs P p h e n i (Some u) → (s : Option ℕ) → PartIs P p h e n i s → false ≡ option_eq eqb s (Some u) → ⊥
+      go g (Some v) k z = ne_same (plain_one R (part_word h n i) (words_in h) v u (first_word h) k g) z
+        where
+          ne_same : v ≡ u → false ≡ eqb v u → ⊥
+          ne_same same z = false≢true (z ∙ eq-eqb v u same)
+      go g None k z = k u g
 
 pub returns : goal.returns
 returns c = λ P.
     let a = c.args in
-    decides_yes (parts_plain (painted a.paint (given P (suc a.below) a.e)) (suc a.below) a.n a.right
-    (λ i b. c.loop-i.invariant.1 P i (omega arith)))
+    let h = suc a.below in
+    let R = painted a.paint (given P h a.e) in
+    let Yes = λ (i : ℕ). PartIs P a.paint h a.e a.n i (Some a.right) in
+    let No = λ (i : ℕ). Lacks P a.paint h a.e a.n i a.right in
+    decides_as _ (all_decides 8 _ Yes No (λ k x. x.lacks)
+    (cases_from_all _ _ _ Yes No c.all.ensures.ran (YieldsList-from_range 0 8 8 refl refl)
+    (λ x q k. search (rules, tests, part_has)) (λ x q k. search (rules, tests, part_lacks))))
+    (parts_plain R h a.n a.right) (plain_part R h a.n a.right)

@@ -1,7 +1,7 @@
 -- `words::round_region` meets its contract. Assumes nothing.
 use mathlib.Core.Path.{sym, ap, ◌∙◌}
 use native.Mathlib.Omega.{arith}
-use Rattle.words.specs.declared.Rounded.TheVariants.{Covers}
+use Rattle.std.specs.Prelude.{Ok}
 use Rattle.words.specs.Region.{rounded}
 use Rattle.words.proofs.RegionLaws.{region_equal, region_empty, region_beyond, region_covers}
 use Rattle.words.proofs.round_region.Goals as goal
@@ -19,5 +19,5 @@ pub returns : goal.returns
 returns c = let a = c.args in
     let some = c.if-length-eq0.false in
     let e = c.words_from.ensures in
-    ap Covers (region_equal _ (rounded a.start.0 a.length) (omega arith) (omega (arith, e)))
+    ap Ok (region_equal _ (rounded a.start.0 a.length) (omega arith) (omega (arith, e)))
     ∙ sym (region_covers a.start.0 a.length (omega (arith, some)) (omega (arith, e)))

@@ -1,6 +1,9 @@
 -- `targets::wanted::table_wanted` meets its contract.
-use Prim.Native.Nat.{◌<◌}
-use mathlib.Core.Path.{◌≡◌, ap, ◌∙◌}
+use Prim.Native.Nat.{ℕ, ◌<◌}
+use mathlib.Core.Bool.{Bool, true, false, not}
+use Rattle.std.proofs.Common.{Option}
+use Rattle.std.specs.Option.{is_some, is_none}
+use mathlib.Core.Path.{◌≡◌, sym, ap, ◌∙◌}
 use mathlib.Core.Logic.{⊎_elim}
 use native.Mathlib.Omega.{arith}
 use Rattle.census.specs.Places.{place_word}
@@ -9,6 +12,11 @@ use Rattle.census.proofs.CensusLaws.{place_low}
 use Rattle.targets.proofs.WantedLaws.{place_readable, place_below, place_wants}
 use Rattle.targets.proofs.wanted.table_wanted.Goals as goal
 use Rattle.targets.proofs.wanted.table_wanted.Goals.{After-block_in_domain-number, After-entry_of-e}
+
+-- What the test of the target tells.
+tested : (t : Option ℕ) (r : Bool) → is_some t ≡ not r → r ≡ is_none t
+tested t true e = sym (ap not e)
+tested t false e = sym (ap not e)
 
 -- The entry that leads to the place.
 entry : (c : After-entry_of-e) → let a = c.args in
@@ -30,18 +38,18 @@ entry_of-e-requires c = let r = c.requires.fits.range in
 pub overflow_add-height : goal.overflow_add-height
 overflow_add-height c = omega (arith, low (goal.at.overflow_add-height c).After-block_in_domain-number)
 
-pub entry_target-t-requires : goal.entry_target-t-requires
-entry_target-t-requires c = let h = c.place_height-height in
-    let e = entry (goal.at.entry_target-t-requires c).After-entry_of-e in
+pub entry_target-target-requires : goal.entry_target-target-requires
+entry_target-target-requires c = let h = c.place_height-height in
+    let e = entry (goal.at.entry_target-target-requires c).After-entry_of-e in
     let m = c.block_in_domain-number.ensures in
     let x = c.requires.n_lt_max_places.1 in record {
       readable = place_readable _ _ c.requires.fits c.requires.sound_pool _ _ _ _ _ x h.ensures e m;
-      height_bound = (omega (arith, low (goal.at.entry_target-t-requires c).After-block_in_domain-number), place_below _ _ c.requires.fits c.requires.sound_pool _ _ _ _ _ x h.ensures e m, omega arith);
+      height_bound = (omega (arith, low (goal.at.entry_target-target-requires c).After-block_in_domain-number), place_below _ _ c.requires.fits c.requires.sound_pool _ _ _ _ _ x h.ensures e m, omega arith);
     }
 
 pub returns : goal.returns
 returns c = let h = c.place_height-height in
-    let t = c.entry_target-t in
+    let t = c.entry_target-target in
     place_wants _ _ c.requires.fits c.requires.sound_pool _ _ _ _ _ c.requires.n_lt_max_places.1 h.ensures (entry (goal.at.returns c).After-entry_of-e)
     c.block_in_domain-number.ensures
-    _ t.result c.is_mixed.result (omega arith) t.ensures c.is_mixed.ensures
+    _ t.result c.is_none.result (omega arith) t.ensures (tested _ _ c.is_none.ensures)

@@ -16,23 +16,14 @@ pub overflow_sub-first : goal.overflow_sub-first
 overflow_sub-first c = let t = c.turns_in-turns.result in
     le_trans (leading_le 32 (t % (1 * 2 ^ (2 * c.args.i) % 4294967296))) (omega arith)
 
-pub overflow_add-last : goal.overflow_add-last
-overflow_add-last c = omega (arith, trailing_le 32 (c.turns_in-turns.result / 2 ^ (2 * c.args.i)))
+pub overflow_add-i : goal.overflow_add-i
+overflow_add-i c = omega (arith, trailing_le 32 (c.turns_in-turns.result / 2 ^ (2 * c.args.i)))
 
-pub returns-then-last-parts : goal.returns-then-last-parts
-returns-then-last-parts c = let (a, b) = c.requires in
+pub returns : goal.returns
+returns c = let (a, b) = c.requires in
     rw (divisor c.args.i c.args.parts a b) (
-      c.right_at-right.ensures,
+      c.right_at.ensures,
       stretch_found c.args.w c.turns_in-turns.result c.args.parts c.args.i
           c.turns_in-turns.ensures a b
-          (c.args.parts - 1) (omega arith) (omega arith) (omega (arith, c.if-last-parts.true)) (λ h. absurd (omega arith)),
-    )
-
-pub returns-else-last-parts : goal.returns-else-last-parts
-returns-else-last-parts c = let (a, b) = c.requires in
-    rw (divisor c.args.i c.args.parts a b) (
-      c.right_at-right.ensures,
-      stretch_found c.args.w c.turns_in-turns.result c.args.parts c.args.i
-          c.turns_in-turns.ensures a b
-          _ (omega arith) (omega (arith, c.if-last-parts.false)) (omega arith) (λ h. refl),
+          c.min-last.result (omega arith) (omega arith) (omega arith) (λ h. omega arith),
     )
