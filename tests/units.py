@@ -64,7 +64,6 @@ BARE = {
     ("lookaside", "put_slot", "at"): "a word of a lent state",
     ("gates", "gate_at", "at"): "a word of a lent state",
     ("gates", "put_gate", "at"): "a word of a lent state",
-    ("gates", "move_gate", "at"): "a word of a lent state",
     ("gates", "frame_at", "at"): "a word of a lent state",
     ("gates", "put_frame", "at"): "a word of a lent state",
 }
@@ -186,9 +185,9 @@ def sources():
 # One wrong line in a copy of the real text: file, what stands there, what is put there, how the refusal begins.
 WRONG = [
     ("census", "let word = base.after(i as usize);", "let word = PoolWord(i as usize);", "made by hand"),
-    ("lookaside/slots", "ByteAddr::from(a - past)", "ByteAddr(a - past)", "made by hand"),
-    ("lookaside/slots", "ByteAddr::from(a - past)", "(a - past).into()", "made by hand"),
-    ("gates/steps", "let back = u32::from(b);", "let back = b.0;", "taken apart"),
+    ("lookaside/slots", "ByteAddr::from(a - a % block_bytes(level))", "ByteAddr(a - a % block_bytes(level))", "made by hand"),
+    ("lookaside/slots", "ByteAddr::from(a - a % block_bytes(level))", "(a - a % block_bytes(level)).into()", "made by hand"),
+    ("gates/steps", "if caller.back != target {", "if caller.back.0 != target.0 {", "taken apart"),
     ("listing", "let w = pool[entry.index()];", "let w = pool[entry.0];", "taken apart"),
     ("table", "let word = pool[at.index()];", "let word = pool[before as usize];", "load: pool[before as usize]"),
     ("table", "pool[..first_middle.index()].fill(", "pool[..shape.domains as usize].fill(", "fresh: pool[..shape.domains as usize]"),

@@ -4,72 +4,44 @@ use Prim.Native.Nat.{ℕ, zero, suc, ◌/◌, ◌%◌, ◌≤◌, ◌<◌}
 use mathlib.Core.Path.{◌≡◌, refl, sym, ap, ◌∙◌}
 use mathlib.Core.Logic.{⊎_elim}
 use mathlib.Core.Bool.{Bool, true, false, cond, ◌&&◌, ◌||◌, not, false≢true}
-use mathlib.Core.List.{List, [], ◌∷◌, map}
+use mathlib.Core.List.{List, [], ◌∷◌}
 use native.Mathlib.Omega.{arith}
-use native.Mathlib.Decide.{ℕ_discrete}
-use lib.ListN.{length, set, replicate}
 use lib.Dec.{eqb}
+use Rattle.std.specs.Prelude.{Option, Some, None, Result, Ok, Err}
+use Rattle.std.specs.List.{All}
+use Rattle.std.proofs.lemmas.List.Elements.{All-head, All-tail, All-replicate, All-set, All-weaker, All-map}
 use Rattle.words.specs.declared.Region.{Region}
 use Rattle.words.specs.Region.{covered}
 use Rattle.theory.specs.Settled.{Together}
+use Rattle.refusals.specs.declared.Refusal.{Refusal}
 use Rattle.table.specs.declared.Shape.{Shape}
 use Rattle.table.specs.declared.Deciding.{Deciding}
-use Rattle.table.specs.declared.Found.{Found}
-use Rattle.table.specs.declared.Found.TheVariants.{By, Refused as NotFound}
 use Rattle.table.specs.Shape.{size}
 use Rattle.table.specs.Map.{addresses, block, form_of}
 use Rattle.table.specs.Lookup.{lookup_of}
 use Rattle.table.proofs.LookupLaws.{right_block}
 use Rattle.lookaside.specs.declared.Slot.{Slot}
-use Rattle.lookaside.specs.declared.Buffer.{Buffer}
-use Rattle.lookaside.specs.declared.Hit.{Hit}
-use Rattle.lookaside.specs.declared.Hit.TheVariants.{At, Miss}
-use Rattle.lookaside.specs.declared.Flushing.{Flushing}
-use Rattle.lookaside.specs.declared.Flushing.TheVariants.{Whole, OfDomain, OfRegion}
-use Rattle.lookaside.specs.Slots.{height_of, block_bytes, matches, first_match, slot_right, slot_for, empty_slot}
+use Rattle.lookaside.specs.Slots.{Buffer, height_of, block_bytes, matches, first_match, slot_right, slot_for, empty_slot}
 use Rattle.lookaside.specs.Slots.{empty_buffer}
-use Rattle.lookaside.specs.Flushes.{flushes, flushed_slot, flushed_buffer}
-use Rattle.lookaside.specs.Check.{refusal_of, walked, answered, check_of}
+use Rattle.lookaside.specs.Flushes.{Flushing, Whole, OfDomain, OfRegion, flushes, flushed_slot, flushed_buffer}
+use Rattle.lookaside.specs.Check.{walked, answered, check_of}
 use Rattle.lookaside.specs.Agree.{Rights, Places, nowhere, within, clears, both, less, rights_of, SameBut}
-use Rattle.lookaside.specs.Agree.{SlotAgrees, Each, AgreesBut}
+use Rattle.lookaside.specs.Agree.{SlotAgrees, AgreesBut}
 use Rattle.lookaside.proofs.TestLaws.{both_true, less_false, round_count}
 use Rattle.lookaside.proofs.SlotLaws.{match_is}
 use Rattle.lookaside.proofs.BufferLaws.{first_matches}
-use Rattle.lookaside.proofs.CheckLaws.{check_refused, check_answered}
+use Rattle.lookaside.proofs.CheckLaws.{check_cases}
 use Rattle.lookaside.proofs.FlushLaws.{clears_flushes}
 
--- What holds of each slot of a list.
-module _ (A : Slot → Type 0) where
-  each_replicate : (n : ℕ) (s : Slot) → A s → Each A (replicate n s)
-  unfolding Each
-  each_replicate zero s h = tt
-  each_replicate (suc n) s h = (h, each_replicate n s h)
-
-  each_set : (l : List Slot) (i : ℕ) (s : Slot) → Each A l → A s → Each A (set l i s)
-  unfolding Each
-  each_set [] i s e h = e
-  each_set (x ∷ xs) zero s e h = (h, e.1)
-  each_set (x ∷ xs) (suc i) s e h = (e.0, each_set xs i s e.1 h)
-
-  each_found : (l : List Slot) (d a : ℕ) (s : Slot) → Each A l → first_match l d a ≡ At s → A s
-  unfolding Each first_match
-  each_found [] d a s e h = let z : ◌≡◌ {A = ℕ} 0 1 = cc in absurd (omega arith)
-  each_found (x ∷ xs) d a s e h = go (matches x d a) (each_found xs d a s e.1) h
-    where
-      go : (t : Bool) → (first_match xs d a ≡ At s → A s) → cond t (At x) (first_match xs d a) ≡ At s → A s
-      go true later h = let q : x ≡ s = cc in rw q at e.0
-      go false later h = later h
-
-each_map : (A B : Slot → Type 0) (f : Slot → Slot) → ((s : Slot) → A s → B (f s)) → (l : List Slot) → Each A l
-    → Each B (map f l)
-unfolding Each
-each_map A B f g [] e = tt
-each_map A B f g (x ∷ xs) e = (g x e.0, each_map A B f g xs e.1)
-
-each_imp : (A B : Slot → Type 0) → ((s : Slot) → A s → B s) → (l : List Slot) → Each A l → Each B l
-unfolding Each
-each_imp A B g [] e = tt
-each_imp A B g (x ∷ xs) e = (g x e.0, each_imp A B g xs e.1)
+-- What holds of every slot holds of the one that is found.
+all_found : (A : Slot → Type 0) (l : List Slot) (d a : ℕ) (s : Slot) → All A l → first_match l d a ≡ Some s → A s
+unfolding first_match
+all_found A [] d a s e h = cc
+all_found A (x ∷ xs) d a s e h = go (matches x d a) (all_found A xs d a s (All-tail A x xs e)) h
+  where
+    go : (t : Bool) → (first_match xs d a ≡ Some s → A s) → cond t (Some x) (first_match xs d a) ≡ Some s → A s
+    go true later h = let q : x ≡ s = cc in rw (← q) (All-head A x xs e)
+    go false later h = later h
 
 -- An emptied slot matches nothing, so an emptied buffer agrees with every table.
 
@@ -78,13 +50,13 @@ empty_unmatched d a m = false≢true (match_is empty_slot d a m).level
 
 pub emptied_agrees : (n : ℕ) (R : Rights) (x : Places) → AgreesBut n R x empty_buffer
 unfolding empty_buffer
-emptied_agrees n R x = each_replicate (SlotAgrees n R x) 64 empty_slot (λ d a _ _ _ m. absurd (empty_unmatched d a m))
+emptied_agrees n R x = All-replicate (SlotAgrees n R x) 64 empty_slot (λ d a _ _ _ m. absurd (empty_unmatched d a m))
 
 -- Another table: agreement is kept but for where the two differ.
 
 module _ (n : ℕ) (R T : Rights) (b : Buffer) where
   pub change_agrees : (x y : Places) → SameBut n y R T → AgreesBut n R x b → AgreesBut n T (both x y) b
-  change_agrees x y same = each_imp (SlotAgrees n R x) (SlotAgrees n T (both x y)) one b.slots
+  change_agrees x y same = All-weaker (SlotAgrees n R x) (SlotAgrees n T (both x y)) one b.slots
     where
       halves : (t u : Bool) → (t || u) ≡ false → (t ≡ false) × (u ≡ false)
       halves true u h = absurd (false≢true (sym h))
@@ -97,13 +69,13 @@ module _ (n : ℕ) (R T : Rights) (b : Buffer) where
 
   -- A tidying alters no right, so nothing more is stale.
   pub tidy_agrees : (x : Places) → SameBut n nowhere R T → AgreesBut n R x b → AgreesBut n T x b
-  tidy_agrees x same = each_imp (SlotAgrees n R x) (SlotAgrees n T x)
+  tidy_agrees x same = All-weaker (SlotAgrees n R x) (SlotAgrees n T x)
       (λ s g d a hd ha z m. g d a hd ha z m ∙ same d a hd ha refl) b.slots
 
 -- Agreement but at some places is agreement but at more.
 pub more_agrees : (n : ℕ) (R : Rights) (b : Buffer) (x y : Places) → ((d a : ℕ) → y d a ≡ false → x d a ≡ false)
     → AgreesBut n R x b → AgreesBut n R y b
-more_agrees n R b x y sub = each_imp (SlotAgrees n R x) (SlotAgrees n R y)
+more_agrees n R b x y sub = All-weaker (SlotAgrees n R x) (SlotAgrees n R y)
     (λ s g d a hd ha z. g d a hd ha (sub d a z)) b.slots
 
 -- Flushes: what they clear is stale no more.
@@ -122,8 +94,10 @@ flush_slot_agrees n R x f s g = go (flushes f s) refl
 pub flush_agrees : (n : ℕ) (R : Rights) (x : Places) (f : Flushing) (b : Buffer) → AgreesBut n R x b
     → AgreesBut n R (less x (clears f)) (flushed_buffer f b)
 unfolding flushed_buffer
-flush_agrees n R x f b = each_map (SlotAgrees n R x) (SlotAgrees n R (less x (clears f))) (flushed_slot f)
-    (flush_slot_agrees n R x f) b.slots
+flush_agrees n R x f b g =
+    let A : Slot → Type 0 = SlotAgrees n R (less x (clears f)) in
+    All-map A (flushed_slot f) b.slots
+    (All-weaker (SlotAgrees n R x) (λ s. A (flushed_slot f s)) (flush_slot_agrees n R x f) b.slots g)
 
 -- A fill: the entry that decided a lookup gives the table's right on its whole block.
 
@@ -143,7 +117,7 @@ pub block_together : (s : Shape) (h a c : ℕ) → a / block h ≡ c / block h �
 block_together s h a c e i lo hi =
     ap (λ q. q % size i) (block_count h i a lo ∙ ap (λ q. q / (block i / block h)) e ∙ sym (block_count h i c lo))
 
-filling_agrees : (p : List ℕ) (s : Shape) (d a : ℕ) (y : Deciding) (x : Places) → lookup_of p s d a ≡ By y
+filling_agrees : (p : List ℕ) (s : Shape) (d a : ℕ) (y : Deciding) (x : Places) → lookup_of p s d a ≡ Ok y
     → SlotAgrees s.domains (rights_of s p) x (slot_for d a y.entry y.loads)
 filling_agrees p s d a y x e f c hf hc z m =
     let n = y.loads in
@@ -153,30 +127,26 @@ filling_agrees p s d a y x e f c hf hc z m =
     sym (right_block p s d a y e c hc (block_together s (height_of n) a c q)) ∙ ap (λ v. rights_of s p v c)
     g.domain
 
-walked_agrees : (p : List ℕ) (s : Shape) (x : Places) (b : Buffer) (d kind a : ℕ) (f : Found) → lookup_of p s d a ≡ f
+walked_agrees : (p : List ℕ) (s : Shape) (x : Places) (b : Buffer) (d kind a : ℕ) (f : Result Deciding Refusal) → lookup_of p s d a ≡ f
     → AgreesBut s.domains (rights_of s p) x b → AgreesBut s.domains (rights_of s p) x (walked f b d kind a).buffer
-walked_agrees p s x b d kind a (By y) e g =
-    each_set (SlotAgrees s.domains (rights_of s p) x) b.slots b.next
-    (slot_for d a y.entry y.loads) g (filling_agrees p s d a y x e)
-walked_agrees p s x b d kind a (NotFound n) e g = g
+walked_agrees p s x b d kind a (Ok y) e g =
+    All-set (SlotAgrees s.domains (rights_of s p) x) b.slots b.next
+    (slot_for d a y.entry y.loads) (filling_agrees p s d a y x e) g
+walked_agrees p s x b d kind a (Err r) e g = g
 
-answered_agrees : (p : List ℕ) (s : Shape) (x : Places) (b : Buffer) (d kind a : ℕ) (h : Hit)
+answered_agrees : (p : List ℕ) (s : Shape) (x : Places) (b : Buffer) (d kind a : ℕ) (h : Option Slot)
     → AgreesBut s.domains (rights_of s p) x b → AgreesBut s.domains (rights_of s p) x
     (answered h p s b d kind a).buffer
-answered_agrees p s x b d kind a (At t) g = g
-answered_agrees p s x b d kind a Miss g = walked_agrees p s x b d kind a (lookup_of p s d a) refl g
+answered_agrees p s x b d kind a (Some t) g = g
+answered_agrees p s x b d kind a None g = walked_agrees p s x b d kind a (lookup_of p s d a) refl g
 
 -- A check, refused or not, leaves a buffer that agrees as it did.
 pub check_agrees : (p : List ℕ) (s : Shape) (x : Places) (b : Buffer) (d kind size a : ℕ)
     → AgreesBut s.domains (rights_of s p) x b → AgreesBut s.domains (rights_of s p) x
     (check_of p s b d kind size a).buffer
-check_agrees p s x b d kind size a g = elim (ℕ_discrete n 0) [
-  | yes e ↦ rw (check_answered p s b d kind size a e) (answered_agrees p s x b d kind a (first_match b.slots d a) g)
-  | no e ↦ rw (check_refused p s b d kind size a n refl e) g
-]
-  where
-    n : ℕ
-    n = refusal_of s (length p) b.next d kind size a
+check_agrees p s x b d kind size a g = check_cases p s b d kind size a
+    (λ c. AgreesBut s.domains (rights_of s p) x c.buffer) (λ _ _. g)
+    (λ _. answered_agrees p s x b d kind a (first_match b.slots d a) g)
 
 -- Flushes after a change.
 
@@ -214,7 +184,7 @@ flush_keeps n R x f b g =
 
 -- The right that a slot answers is the table's.
 pub hit_right : (n : ℕ) (R : Rights) (x : Places) (b : Buffer) (d a : ℕ) (t : Slot) → AgreesBut n R x b
-    → first_match b.slots d a ≡ At t
+    → first_match b.slots d a ≡ Some t
     → d < n → a < addresses → x d a ≡ false → slot_right t a ≡ R d a
 hit_right n R x b d a t g h hd ha z =
-    each_found (SlotAgrees n R x) b.slots d a t g h d a hd ha z (first_matches b.slots d a t h)
+    all_found (SlotAgrees n R x) b.slots d a t g h d a hd ha z (first_matches b.slots d a t h)

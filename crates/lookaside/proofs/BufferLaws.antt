@@ -1,42 +1,24 @@
 -- Laws of the buffer's two loops: the search for the lowest match, and the flush of each slot. Assumes nothing.
-use Prim.Native.Nat.{ℕ, zero, suc, ◌+◌, ◌≤◌, ◌<◌}
+use Prim.Native.Nat.{ℕ, zero, suc, ◌+◌, ◌≤◌}
 use mathlib.Core.Path.{◌≡◌, refl, sym, ap, ◌∙◌}
 use mathlib.Core.Bool.{Bool, true, false, cond}
 use mathlib.Core.List.{List, [], ◌∷◌, map}
 use native.Mathlib.Nat.{not-suc-le-zero, le_of_suc-le-suc}
 use native.Mathlib.Numerals.{add-one}
 use native.Mathlib.Omega.{arith}
-use lib.ListN.{length, get_or, drop, set, drop_of_length-le}
-use lib.Seq.{drop-cons}
+use lib.ListN.{length, get_or, set}
 use Rattle.lookaside.specs.declared.Slot.{Slot}
-use Rattle.lookaside.specs.declared.Buffer.{Buffer}
-use Rattle.lookaside.specs.declared.Hit.TheVariants.{At, Miss}
-use Rattle.lookaside.specs.Slots.{matches, first_match, empty_slot, empty_buffer}
-
--- The search in what is left of the list: at a slot that matches, at one that does not, and past the end.
-module _ (l : List Slot) (d a i : ℕ) where
-  pub first_here : i < length l → matches (get_or l i empty_slot) d a ≡ true → first_match (drop i l) d a
-      ≡ At (get_or l i empty_slot)
-  unfolding first_match
-  first_here h m = rw (drop-cons l i empty_slot h, m)
-
-  pub first_later : i < length l → matches (get_or l i empty_slot) d a ≡ false → first_match (drop i l) d a
-      ≡ first_match (drop (i + 1) l) d a
-  unfolding first_match
-  first_later h m = rw (drop-cons l i empty_slot h, m, add-one)
-
-  pub first_none : length l ≤ i → first_match (drop i l) d a ≡ Miss
-  unfolding first_match
-  first_none h = rw (drop_of_length-le l h)
+use Rattle.std.specs.Prelude.{Some}
+use Rattle.lookaside.specs.Slots.{Buffer, matches, first_match, empty_buffer}
 
 -- The slot that the search finds matches.
-pub first_matches : (l : List Slot) (d a : ℕ) (s : Slot) → first_match l d a ≡ At s → matches s d a ≡ true
+pub first_matches : (l : List Slot) (d a : ℕ) (s : Slot) → first_match l d a ≡ Some s → matches s d a ≡ true
 unfolding first_match
 first_matches [] d a s e = let z : ◌≡◌ {A = ℕ} 0 1 = cc in absurd (omega arith)
 first_matches (x ∷ xs) d a s e = go (matches x d a) refl (first_matches xs d a s) e
   where
-    go : (t : Bool) → matches x d a ≡ t → (first_match xs d a ≡ At s → matches s d a ≡ true)
-        → cond t (At x) (first_match xs d a) ≡ At s
+    go : (t : Bool) → matches x d a ≡ t → (first_match xs d a ≡ Some s → matches s d a ≡ true)
+        → cond t (Some x) (first_match xs d a) ≡ Some s
         → matches s d a ≡ true
     go true m later h = let q : x ≡ s = cc in rw (← q) m
     go false m later h = later h

@@ -1,6 +1,6 @@
 -- Laws of checks: the refusals one by one, what a check then answers, and that there is one answer. Assumes nothing.
-use Prim.Native.Nat.{ℕ, suc, ◌%◌, ◌≤◌, ◌<◌}
-use mathlib.Core.Path.{◌≡◌, refl, sym, ap, ◌∙◌}
+use Prim.Native.Nat.{ℕ, ◌%◌, ◌≤◌, ◌<◌}
+use mathlib.Core.Path.{◌≡◌, refl, sym, ◌∙◌}
 use mathlib.Core.Logic.{◌≢◌}
 use mathlib.Core.Bool.{Bool, true, false, cond, ◌&&◌, ◌||◌, false≢true}
 use mathlib.Core.List.{List}
@@ -9,42 +9,21 @@ use native.Mathlib.Decide.{ℕ_discrete}
 use lib.ListN.{length}
 use lib.Dec.{eqb, ltb}
 use borrow.Author.Tests.{eq-eqb, ne_eqb, lt-ltb, le-ltb, eqb-true, ltb-true}
+use Rattle.refusals.specs.declared.Refusal.{Refusal}
+use Rattle.refusals.specs.declared.Refusal.TheVariants.{NoShape, NoDomain, NoAccess, NotAligned, BadState}
 use Rattle.table.specs.declared.Shape.{Shape}
-use Rattle.table.specs.declared.Found.{Found}
-use Rattle.table.specs.declared.Found.TheVariants.{By, Refused as NotFound}
+use Rattle.table.specs.declared.Deciding.{Deciding}
 use Rattle.table.specs.Shape.{fits_of}
 use Rattle.table.specs.Lookup.{lookup_of}
 use Rattle.table.specs.Access.{load, store, fetch}
-use Rattle.lookaside.specs.declared.Buffer.{Buffer}
-use Rattle.lookaside.specs.declared.Checked.{Checked}
-use Rattle.lookaside.specs.declared.Ruling.{Ruling}
-use Rattle.lookaside.specs.declared.Fill.TheVariants.{Keep, Put}
+use Rattle.std.specs.Prelude.{None}
+use Rattle.std.specs.Prelude.{Option, Some, None, Result, Ok, Err}
 use Rattle.lookaside.specs.declared.Slot.{Slot}
-use Rattle.lookaside.specs.declared.Verdict.TheVariants.{Refused}
-use Rattle.lookaside.specs.declared.Hit.{Hit}
-use Rattle.lookaside.specs.declared.Hit.TheVariants.{At, Miss}
-use Rattle.lookaside.specs.Slots.{first_match}
-use Rattle.lookaside.specs.Check.{is_access, demand, refusal_of, refusing, walked, answered, check_of}
-use Rattle.lookaside.specs.Check.{walk_decided, hit_decided, decide_of, filled_by}
+use Rattle.lookaside.specs.Slots.{Buffer, first_match}
+use Rattle.lookaside.specs.Check.{Checked, is_access, demand, refusal_of, refusing, walked, answered}
+use Rattle.lookaside.specs.Check.{check_of}
 
 -- Accesses.
-
-pub access_fetch : (kind size : ℕ) → kind ≡ 2 → is_access kind size ≡ eqb size 4
-access_fetch kind size e = rw e
-
-pub access_other : (kind size : ℕ) → 2 < kind → is_access kind size ≡ false
-access_other kind size h = simp (
-  ne_eqb kind 0 (λ e. omega arith),
-  ne_eqb kind 1 (λ e. omega arith),
-  ne_eqb kind 2
-      (λ e. omega arith),
-)
-
-pub access_data : (kind size : ℕ) → kind < 2 → is_access kind size ≡ (eqb size 1 || eqb size 2 || eqb size 4)
-access_data kind size h = elim (ℕ_discrete kind 0) [
-  | yes e ↦ rw e
-  | no n ↦ let e : kind ≡ 1 = omega arith in rw e
-]
 
 pub access_some : (kind size : ℕ) → is_access kind size ≡ true → 0 < size
 access_some kind size e = elim (ℕ_discrete size 0) [
@@ -59,31 +38,31 @@ access_some kind size e = elim (ℕ_discrete size 0) [
 
 -- The refusals, in their order.
 module _ (s : Shape) (long next d kind size a : ℕ) where
-  pub refused_shape : fits_of s long ≡ false → refusal_of s long next d kind size a ≡ 1
+  pub refused_shape : fits_of s long ≡ false → refusal_of s long next d kind size a ≡ Err NoShape
   unfolding refusal_of
   refused_shape f = rw f
 
   module _ (f : fits_of s long ≡ true) where
-    pub refused_pointer : 64 ≤ next → refusal_of s long next d kind size a ≡ 18
+    pub refused_pointer : 64 ≤ next → refusal_of s long next d kind size a ≡ Err BadState
     unfolding refusal_of
     refused_pointer n = rw (f, le-ltb next 64 n)
 
     module _ (n : next < 64) where
-      pub refused_domain : s.domains ≤ d → refusal_of s long next d kind size a ≡ 2
+      pub refused_domain : s.domains ≤ d → refusal_of s long next d kind size a ≡ Err NoDomain
       unfolding refusal_of
       refused_domain h = rw (f, lt-ltb next 64 n, le-ltb d s.domains h)
 
       module _ (h : d < s.domains) where
-        pub refused_access : is_access kind size ≡ false → refusal_of s long next d kind size a ≡ 9
+        pub refused_access : is_access kind size ≡ false → refusal_of s long next d kind size a ≡ Err NoAccess
         unfolding refusal_of
         refused_access k = rw (f, lt-ltb next 64 n, lt-ltb d s.domains h, k)
 
         module _ (k : is_access kind size ≡ true) where
-          pub refused_address : a % size ≢ 0 → refusal_of s long next d kind size a ≡ 10
+          pub refused_address : a % size ≢ 0 → refusal_of s long next d kind size a ≡ Err NotAligned
           unfolding refusal_of
           refused_address m = rw (f, lt-ltb next 64 n, lt-ltb d s.domains h, k, ne_eqb (a % size) 0 m)
 
-          pub not_refused : a % size ≡ 0 → refusal_of s long next d kind size a ≡ 0
+          pub not_refused : a % size ≡ 0 → refusal_of s long next d kind size a ≡ Ok tt
           unfolding refusal_of
           not_refused m = rw (f, lt-ltb next 64 n, lt-ltb d s.domains h, k, eq-eqb (a % size) 0 m)
 
@@ -95,19 +74,19 @@ module _ (s : Shape) (long next d kind size a : ℕ) where
     pub access : is_access kind size ≡ true
     pub address : a % size ≡ 0
 
-  pub allowed : refusal_of s long next d kind size a ≡ 0 → Allowed
+  pub allowed : refusal_of s long next d kind size a ≡ Ok tt → Allowed
   unfolding refusal_of
   allowed e =
-      let (f, e1) = met (fits_of s long) 0 _ e in
-      let (n, e2) = met (ltb next 64) 17 _ e1 in
-      let (h, e3) = met (ltb d s.domains) 1 _ e2 in
-      let (k, e4) = met (is_access kind size) 8 _ e3 in
-      let (m, _) = met (eqb (a % size) 0) 9 0 e4 in
+      let (f, e1) = met (fits_of s long) _ _ e in
+      let (n, e2) = met (ltb next 64) _ _ e1 in
+      let (h, e3) = met (ltb d s.domains) _ _ e2 in
+      let (k, e4) = met (is_access kind size) _ _ e3 in
+      let (m, _) = met (eqb (a % size) 0) _ _ e4 in
       record { fits = f; pointer = ltb-true _ _ n; domain = ltb-true _ _ h; access = k; address = eqb-true _ _ m }
     where
-      met : (t : Bool) (n rest : ℕ) → demand t (suc n) rest ≡ 0 → (t ≡ true) × (rest ≡ 0)
-      met true n rest q = (refl, q)
-      met false n rest q = absurd (omega arith)
+      met : (t : Bool) (r : Refusal) (rest : Result (Unit {0}) Refusal) → demand t r rest ≡ Ok tt → (t ≡ true) × (rest ≡ Ok tt)
+      met true r rest q = (refl, q)
+      met false r rest q = cc
 
 -- Of the buffer it only counts that the pointer is a slot's.
 pub refusal_pointer : (s : Shape) (long d kind size a n m : ℕ) → n < 64 → m < 64 → refusal_of s long n d kind size a
@@ -117,74 +96,39 @@ refusal_pointer s long d kind size a n m h k = rw (lt-ltb n 64 h, lt-ltb m 64 k)
 
 -- What a check answers, where it is refused before it asks the buffer and where it is not.
 module _ (p : List ℕ) (s : Shape) (b : Buffer) (d kind size a : ℕ) where
-  pub check_refused : (n : ℕ) → refusal_of s (length p) b.next d kind size a ≡ n → n ≢ 0
-      → check_of p s b d kind size a ≡ refusing n b
+  pub check_refused : (r : Refusal) → refusal_of s (length p) b.next d kind size a ≡ Err r
+      → check_of p s b d kind size a ≡ refusing r b
   unfolding check_of
-  check_refused n e h = rw (e, ne_eqb n 0 h)
+  check_refused r e = rw e
 
-  pub check_answered : refusal_of s (length p) b.next d kind size a ≡ 0
+  pub check_answered : refusal_of s (length p) b.next d kind size a ≡ Ok tt
       → check_of p s b d kind size a ≡ answered (first_match b.slots d a) p s b d kind a
   unfolding check_of
   check_answered e = rw e
 
+  -- What holds of it in both cases.
+  pub check_cases : (P : Checked → Type 0)
+      → ((r : Refusal) → refusal_of s (length p) b.next d kind size a ≡ Err r → P (refusing r b))
+      → (refusal_of s (length p) b.next d kind size a ≡ Ok tt → P (answered (first_match b.slots d a) p s b d kind a))
+      → P (check_of p s b d kind size a)
+  check_cases P refuses answers = go (refusal_of s (length p) b.next d kind size a) refl
+    where
+      go : (r : Result (Unit {0}) Refusal) → refusal_of s (length p) b.next d kind size a ≡ r → P (check_of p s b d kind size a)
+      go (Err r) e = rw (check_refused r e) (refuses r e)
+      go (Ok _) e = rw (check_answered e) (answers e)
+
   -- A pointer that is a slot's stays one.
   pub check_pointer : b.next < 64 → (check_of p s b d kind size a).buffer.next < 64
-  check_pointer h = elim (ℕ_discrete (refusal_of s (length p) b.next d kind size a) 0) [
-    | yes e ↦ rw (check_answered e) (answers (first_match b.slots d a))
-    | no e ↦ rw (check_refused _ refl e) h
-  ]
+  check_pointer h = check_cases (λ c. c.buffer.next < 64) (λ _ _. h) (λ _. answers (first_match b.slots d a))
     where
-      walks : (f : Found) → (walked f b d kind a).buffer.next < 64
-      walks (By x) = omega arith
-      walks (NotFound n) = h
+      walks : (f : Result Deciding Refusal) → (walked f b d kind a).buffer.next < 64
+      walks (Ok x) = omega arith
+      walks (Err e) = h
 
-      answers : (t : Hit) → (answered t p s b d kind a).buffer.next < 64
-      answers (At t) = h
-      answers Miss = walks (lookup_of p s d a)
+      answers : (t : Option Slot) → (answered t p s b d kind a).buffer.next < 64
+      answers (Some t) = h
+      answers None = walks (lookup_of p s d a)
 
   -- There is one answer.
   pub one_check : (q r : Checked) → q ≡ check_of p s b d kind size a → r ≡ check_of p s b d kind size a → q ≡ r
   one_check q r x y = x ∙ sym y
-
--- ---- In two parts.
-
-module _ (p : List ℕ) (s : Shape) (next : ℕ) (h : Hit) (d kind size a : ℕ) where
-  pub decide_refused : (n : ℕ) → refusal_of s (length p) next d kind size a ≡ n → n ≢ 0
-      → decide_of p s next h d kind size a ≡ record { verdict = Refused n; fill = Keep }
-  unfolding decide_of
-  decide_refused n e z = rw (e, ne_eqb n 0 z)
-
-  pub decide_answered : refusal_of s (length p) next d kind size a ≡ 0 → decide_of p s next h d kind size a
-      ≡ hit_decided h p s d kind a
-  unfolding decide_of
-  decide_answered e = rw e
-
-  -- Only where the pointer is a slot's is a slot put there.
-  pub decide_put : (t : Slot) → (decide_of p s next h d kind size a).fill ≡ Put t → next < 64
-  decide_put t e = elim (ℕ_discrete (refusal_of s (length p) next d kind size a) 0) [
-    | yes z ↦ (allowed s (length p) next d kind size a z).pointer
-    | no z ↦ absurd (let y = ap (λ x. x.fill) (sym (decide_refused _ refl z)) ∙ e in let w : ◌≡◌ {A = ℕ} 0 1 = cc in
-        omega arith)
-  ]
-
--- A check is what it decides, done to its buffer.
-module _ (p : List ℕ) (s : Shape) (b : Buffer) (d kind size a : ℕ) where
-  abbrev joined : Ruling → Checked
-  joined x = record { verdict = x.verdict; buffer = filled_by b x.fill }
-
-  walks_joined : (f : Found) → walked f b d kind a ≡ joined (walk_decided f d kind a)
-  walks_joined (By x) = refl
-  walks_joined (NotFound n) = refl
-
-  hits_joined : (h : Hit) → answered h p s b d kind a ≡ joined (hit_decided h p s d kind a)
-  hits_joined (At t) = refl
-  hits_joined Miss = walks_joined (lookup_of p s d a)
-
-  pub check_decided : check_of p s b d kind size a
-      ≡ joined (decide_of p s b.next (first_match b.slots d a) d kind size a)
-  check_decided = elim (ℕ_discrete (refusal_of s (length p) b.next d kind size a) 0) [
-    | yes e ↦ check_answered p s b d kind size a e ∙ hits_joined (first_match b.slots d a)
-        ∙ ap joined (sym (decide_answered p s b.next (first_match b.slots d a) d kind size a e))
-    | no e ↦ check_refused p s b d kind size a _ refl e
-        ∙ ap joined (sym (decide_refused p s b.next (first_match b.slots d a) d kind size a _ refl e))
-  ]

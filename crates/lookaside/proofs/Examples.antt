@@ -4,19 +4,18 @@ use mathlib.Core.Bool.{false}
 use mathlib.Core.List.{[], ◌∷◌}
 use Prim.Native.Nat.{ℕ}
 use lib.ListN.{get_or}
+use Rattle.refusals.specs.declared.Refusal.TheVariants.{NoDomain, EmptyRegion, PastTheEnd, NoAccess, NotAligned, BadState}
 use Rattle.words.specs.Region.{region_of}
 use Rattle.table.specs.declared.Shape.{Shape}
 use Rattle.table.specs.Access.{load, store, fetch}
 use Rattle.table.specs.Fresh.{fresh_pool}
 use Rattle.theory.specs.Walk.{walk}
 use Rattle.lookaside.specs.declared.Slot.{Slot}
-use Rattle.lookaside.specs.declared.Buffer.{Buffer}
-use Rattle.lookaside.specs.declared.Checked.{Checked}
-use Rattle.lookaside.specs.declared.Verdict.TheVariants.{Pass, Deny, Refused}
-use Rattle.lookaside.specs.declared.Flushing.TheVariants.{Whole, OfDomain}
-use Rattle.lookaside.specs.Slots.{holds, holds_for, in_block, matches, first_match, empty_slot, empty_buffer}
-use Rattle.lookaside.specs.Flushes.{meets, flushes, flushed_slot, flushed_buffer, refused, pointed, flushed_region}
-use Rattle.lookaside.specs.Check.{refusal_of, check_of}
+use Rattle.std.specs.Prelude.{Ok, Err}
+use Rattle.lookaside.specs.declared.Verdict.TheVariants.{Pass, Deny}
+use Rattle.lookaside.specs.Slots.{Buffer, holds, holds_for, in_block, matches, first_match, empty_slot, empty_buffer}
+use Rattle.lookaside.specs.Flushes.{Whole, OfDomain, meets, flushes, flushed_slot, flushed_buffer, refused, pointed, flushed_region}
+use Rattle.lookaside.specs.Check.{Checked, refusal_of, check_of}
 
 one_root : Shape
 one_root = record { domains = 1; middles = 0; leaves = 0 }
@@ -38,20 +37,20 @@ asked : Buffer → ℕ → ℕ → ℕ → ℕ → Checked
 asked b = check_of (fresh_pool one_root) one_root b
 
 -- The first slot answers, with no load: a load passes on read, a store does not.
-hit_pass : (asked two_slots 0 load 4 0x400004).verdict ≡ Pass 0
+hit_pass : (asked two_slots 0 load 4 0x400004).verdict ≡ Ok (Pass 0)
 unfolding asked one_root two_slots root_slot leaf_slot check_of refusal_of first_match matches holds_for holds in_block
 hit_pass = refl
 
-hit_deny : (asked two_slots 0 store 4 0x400004).verdict ≡ Deny 0
+hit_deny : (asked two_slots 0 store 4 0x400004).verdict ≡ Ok (Deny 0)
 unfolding asked one_root two_slots root_slot leaf_slot check_of refusal_of first_match matches holds_for holds in_block
 hit_deny = refl
 
 -- The second one answers for its 64 bytes, and no slot does after them: one load, and none is the right.
-hit_second : (asked two_slots 0 store 1 0x103F).verdict ≡ Pass 0
+hit_second : (asked two_slots 0 store 1 0x103F).verdict ≡ Ok (Pass 0)
 unfolding asked one_root two_slots root_slot leaf_slot check_of refusal_of first_match matches holds_for holds in_block
 hit_second = refl
 
-miss : (asked two_slots 0 store 1 0x1040).verdict ≡ Deny 1
+miss : (asked two_slots 0 store 1 0x1040).verdict ≡ Ok (Deny 1)
 unfolding asked one_root two_slots root_slot leaf_slot check_of refusal_of first_match matches holds_for holds in_block walk
 miss = refl
 
@@ -63,29 +62,29 @@ unfolding asked one_root empty_buffer check_of refusal_of first_match matches ho
 fills = (refl, refl)
 
 -- Refusals, and their order: no size 3, no fetch of 2 bytes, a size before an address, a pointer before a domain.
-refusals : ((asked two_slots 0 load 3 0x400004).verdict ≡ Refused 9)
-    × ((asked two_slots 0 fetch 2 0x400004).verdict ≡ Refused 9)
-    × ((asked two_slots 0 3 4 0x400004).verdict ≡ Refused 9) × ((asked two_slots 0 store 2 0x400003).verdict ≡ Refused 10)
-    × ((asked two_slots 0 load 3 0x400001).verdict ≡ Refused 9) × ((asked two_slots 1 load 3 0).verdict ≡ Refused 2)
-    × ((asked (record { slots = []; next = 64 }) 1 load 4 0).verdict ≡ Refused 18)
+refusals : ((asked two_slots 0 load 3 0x400004).verdict ≡ Err NoAccess)
+    × ((asked two_slots 0 fetch 2 0x400004).verdict ≡ Err NoAccess)
+    × ((asked two_slots 0 3 4 0x400004).verdict ≡ Err NoAccess) × ((asked two_slots 0 store 2 0x400003).verdict ≡ Err NotAligned)
+    × ((asked two_slots 0 load 3 0x400001).verdict ≡ Err NoAccess) × ((asked two_slots 1 load 3 0).verdict ≡ Err NoDomain)
+    × ((asked (record { slots = []; next = 64 }) 1 load 4 0).verdict ≡ Err BadState)
 unfolding asked one_root two_slots root_slot leaf_slot check_of refusal_of
 refusals = (refl, refl, refl, refl, refl, refl, refl)
 
 -- A region flush in the middle of 4 MB empties the root slot and no other, and leaves the pointer.
 flush_middle : flushed_region two_slots 0 0x600000 4
-    ≡ record { refusal = 0; buffer = record { slots = empty_slot ∷ leaf_slot ∷ []; next = 2 } }
+    ≡ record { answer = Ok tt; buffer = record { slots = empty_slot ∷ leaf_slot ∷ []; next = 2 } }
 unfolding two_slots root_slot leaf_slot pointed region_of flushed_buffer flushed_slot flushes meets holds_for holds
 flush_middle = refl
 
 -- In another domain it empties none.
-flush_elsewhere : flushed_region two_slots 7 0x600000 4 ≡ record { refusal = 0; buffer = two_slots }
+flush_elsewhere : flushed_region two_slots 7 0x600000 4 ≡ record { answer = Ok tt; buffer = two_slots }
 unfolding two_slots root_slot leaf_slot pointed region_of flushed_buffer flushed_slot flushes meets holds_for holds
 flush_elsewhere = refl
 
 -- Its refusals, in order.
-flush_refusals : (flushed_region two_slots 0 0xFFFFFFFC 0 ≡ refused 4 two_slots)
-    × (flushed_region two_slots 0 0xFFFFFFFC 5 ≡ refused 5 two_slots)
-    × (flushed_region (record { slots = []; next = 64 }) 0 0xFFFFFFFC 0 ≡ refused 18 (record { slots = []; next = 64 }))
+flush_refusals : (flushed_region two_slots 0 0xFFFFFFFC 0 ≡ refused EmptyRegion two_slots)
+    × (flushed_region two_slots 0 0xFFFFFFFC 5 ≡ refused PastTheEnd two_slots)
+    × (flushed_region (record { slots = []; next = 64 }) 0 0xFFFFFFFC 0 ≡ refused BadState (record { slots = []; next = 64 }))
 unfolding two_slots root_slot leaf_slot pointed region_of
 flush_refusals = (refl, refl, refl)
 

@@ -5,16 +5,14 @@ use mathlib.Core.Bool.{true}
 use native.Mathlib.Omega.{arith}
 use native.Mathlib.Decide.{dec_le}
 use borrow.Author.Tests.{lt-ltb, le-ltb, le-leb, ltb-true, leb-true, eqb-true}
+use Rattle.std.specs.Prelude.{Ok, Err}
+use Rattle.refusals.specs.declared.Refusal.{Refusal}
+use Rattle.refusals.specs.declared.Refusal.TheVariants.{BadState}
 use Rattle.words.specs.declared.Region.{Region}
-use Rattle.words.specs.declared.Rounded.TheVariants.{Covers, Refused}
 use Rattle.words.specs.Region.{region_of, covered}
 use Rattle.lookaside.specs.declared.Slot.{Slot}
-use Rattle.lookaside.specs.declared.Buffer.{Buffer}
-use Rattle.lookaside.specs.declared.Flushed.{Flushed}
-use Rattle.lookaside.specs.declared.Flushing.{Flushing}
-use Rattle.lookaside.specs.declared.Flushing.TheVariants.{Whole, OfDomain, OfRegion}
-use Rattle.lookaside.specs.Slots.{height_of, block_bytes, holds_for, in_block, matches}
-use Rattle.lookaside.specs.Flushes.{meets, flushes, done, refused, pointed, flushed_whole, flushed_domain}
+use Rattle.lookaside.specs.Slots.{Buffer, height_of, block_bytes, holds_for, in_block, matches}
+use Rattle.lookaside.specs.Flushes.{Flushing, Whole, OfDomain, OfRegion, Flushed, meets, flushes, done, refused, pointed, flushed_whole, flushed_domain}
 use Rattle.lookaside.specs.Flushes.{flushed_region}
 use Rattle.lookaside.specs.Agree.{clears}
 use Rattle.lookaside.proofs.TestLaws.{both_true}
@@ -22,7 +20,7 @@ use Rattle.lookaside.proofs.SlotLaws.{block_some, match_place}
 
 -- The refusal of the pointer, and what follows where it is a slot's.
 module _ (b : Buffer) (r : Flushed) where
-  pub pointed_refused : 64 ≤ b.next → pointed b r ≡ refused 18 b
+  pub pointed_refused : 64 ≤ b.next → pointed b r ≡ refused BadState b
   unfolding pointed
   pointed_refused h = rw (le-ltb b.next 64 h)
 
@@ -32,11 +30,11 @@ module _ (b : Buffer) (r : Flushed) where
 
 -- A region that is covered, and one that is not.
 module _ (b : Buffer) (d start length : ℕ) (h : b.next < 64) where
-  pub region_done : (r : Region) → region_of start length ≡ Covers r → flushed_region b d start length
+  pub region_done : (r : Region) → region_of start length ≡ Ok r → flushed_region b d start length
       ≡ done (OfRegion d r) b
   region_done r e = pointed_goes b _ h ∙ rw e
 
-  pub region_refused : (n : ℕ) → region_of start length ≡ Refused n → flushed_region b d start length ≡ refused n b
+  pub region_refused : (n : Refusal) → region_of start length ≡ Err n → flushed_region b d start length ≡ refused n b
   region_refused n e = pointed_goes b _ h ∙ rw e
 
 -- There is one answer.

@@ -1,24 +1,27 @@
 -- A buffer in words: words of the right length say one buffer whose words they are, the words of a buffer say it
 -- again, and a slot or the pointer stored in the words is stored in the buffer. Assumes nothing.
-use Prim.Native.Nat.{ℕ, suc, ◌+◌, ◌*◌, ◌%◌, ◌≤◌, ◌<◌}
+use Prim.Native.Nat.{ℕ, zero, suc, ◌+◌, ◌*◌, ◌%◌, ◌≤◌, ◌<◌}
 use mathlib.Core.Path.{◌≡◌, refl, sym, ap, ◌∙◌}
-use mathlib.Core.Bool.{true, false}
+use mathlib.Core.Bool.{Bool, true, false, cond}
+use lib.Dec.{ltb}
 use mathlib.Core.List.{List, [], ◌∷◌, ◌++◌, map}
+use native.Mathlib.Nat.{zero-add}
 use native.Mathlib.Numerals.{add-one}
 use native.Mathlib.Omega.{arith}
-use lib.ListN.{length, get_or, take, drop, set, replicate, length-set, length-append, length-map, drop_of_length-le}
+use lib.ListN.{length, get_or, take, drop, set, replicate, length-set, drop_of_length-le}
 use lib.Seq.{sets, set-get_or, drop-cons, get_or_at, get_or-append_seam, get_or-append-add}
-use Rattle.rows.specs.Rows.{words_of}
+use Rattle.std.specs.List.{range_with_len}
+use Rattle.std.proofs.lemmas.List.FromFn.{map-range_with_len_more}
+use Rattle.refusals.specs.declared.Refusal.TheVariants.{BadState}
+use Rattle.rows.specs.Rows.{rows_of, words_of}
 use Rattle.rows.proofs.Layouts.{Layout}
 use Rattle.rows.proofs.RowLaws.{add_two, add_three, length_said, length_words, row_again, words_set, words_set_after}
 use Rattle.rows.proofs.RowLaws.{words_said, rows_words}
 use Rattle.lookaside.specs.declared.Slot.{Slot}
-use Rattle.lookaside.specs.declared.Buffer.{Buffer}
-use Rattle.lookaside.specs.declared.Flushed.{Flushed}
-use Rattle.lookaside.specs.declared.Flushing.{Flushing}
-use Rattle.lookaside.specs.declared.Flushing.TheVariants.{Whole}
-use Rattle.lookaside.specs.Slots.{empty_slot, empty_buffer, filled}
-use Rattle.lookaside.specs.Flushes.{flushes, flushed_slot, flushed_buffer, done, refused}
+use Rattle.std.specs.Prelude.{Ok}
+use Rattle.lookaside.specs.Slots.{Buffer, empty_slot, empty_buffer, filled}
+use Rattle.lookaside.specs.Flushes.{Flushing, flushes, flushed_slot, flushed_buffer, done, refused, pointed}
+use Rattle.lookaside.specs.Check.{demand}
 use Rattle.lookaside.specs.Layout.{IsBuffer, slot_at, slot_words, buffer_of, buffer_words, FlushedAs}
 use Rattle.lookaside.proofs.BufferLaws.{map_to, length_map_to, map_to_turn}
 
@@ -57,6 +60,16 @@ slot_layout = record {
 
 pub slots_said : (ws : List ℕ) → length (buffer_of ws).slots ≡ 64
 slots_said ws = length_said slot_layout 64 ws
+
+-- The slots one by one.
+rows_by_one : {A : Type 0} (n : ℕ) (f : ℕ → A) → rows_of n f ≡ map f (range_with_len 0 n)
+unfolding rows_of
+rows_by_one zero f = refl
+rows_by_one {A = A} (suc n) f = ap (λ (l : List A). l ++ f n ∷ []) (rows_by_one n f)
+    ∙ sym (map-range_with_len_more f 0 n n (zero-add n)) ∙ ap (λ k. map f (range_with_len 0 k)) (add-one n)
+
+pub slots_by_one : (ws : List ℕ) → (buffer_of ws).slots ≡ map (λ i. slot_at ws (4 * i)) (range_with_len 0 64)
+slots_by_one ws = rows_by_one 64 (λ i. slot_at ws (4 * i))
 
 pub buffer_words_lem : (ws : List ℕ) → IsBuffer ws → buffer_words (buffer_of ws) ≡ ws
 buffer_words_lem ws h =
@@ -104,13 +117,6 @@ fill_words ws s h l =
 abbrev pub flushed_to : Flushing → ℕ → List Slot → ℕ → List ℕ
 flushed_to f i l n = buffer_words (record { slots = map_to (flushed_slot f) i l; next = n })
 
-pub flushed_long : (f : Flushing) (i : ℕ) (l : List Slot) (n : ℕ) → length l ≡ 64 → length (flushed_to f i l n) ≡ 257
-flushed_long f i l n h =
-    let x = map_to (flushed_slot f) i l in
-    let k = length_map_to (flushed_slot f) i l in
-    let m = length_words slot_layout x in
-    length-append (words_of slot_words x) (n ∷ []) ∙ omega arith
-
 -- One turn of the flush: a slot that is emptied, and one that stays.
 module _ (f : Flushing) (l : List Slot) (n i : ℕ) (h : i < length l) (ws : List ℕ) (e : ws ≡ flushed_to f i l n) where
   abbrev now : List Slot
@@ -139,27 +145,17 @@ module _ (f : Flushing) (l : List Slot) (n i : ℕ) (h : i < length l) (ws : Lis
       (sym (set-get_or now i empty_slot)
       ∙ map_to_turn (flushed_slot f) i l now empty_slot (get_or now i empty_slot) refl (rw t))
 
--- The flush of all and the first pointer are the words of an emptied buffer.
-all_empty : (l : List Slot) → map (flushed_slot Whole) l ≡ replicate (length l) empty_slot
-unfolding flushed_slot flushes
-all_empty [] = refl
-all_empty (s ∷ l) = ap (λ (r : List Slot). empty_slot ∷ r) (all_empty l)
+-- The words of an emptied buffer are all 0.
+pub emptied_words : replicate 257 0 ≡ buffer_words empty_buffer
+unfolding empty_buffer words_of
+emptied_words = refl
 
-pub emptied_words : (ws : List ℕ) → set (buffer_words (flushed_buffer Whole (buffer_of ws))) 256 0
-    ≡ buffer_words empty_buffer
-unfolding flushed_buffer empty_buffer
-emptied_words ws =
-    let l = (buffer_of ws).slots in
-    let n = slots_said ws in
-    let e = all_empty l ∙ ap (λ (k : ℕ). replicate k empty_slot) n in
-    pointer_stored (map (flushed_slot Whole) l) (get_or ws 256 0) 0 (length-map l (flushed_slot Whole) ∙ n)
-    ∙ ap (λ (x : List Slot). buffer_words (record { slots = x; next = 0 })) e
-
--- What a flush leaves in the words `ws`, where it is refused and where it is done.
-pub flush_refused_as : (ws : List ℕ) → IsBuffer ws → (r : Flushed) (n : ℕ) → r ≡ refused n (buffer_of ws)
-    → FlushedAs r n ws
-flush_refused_as ws h r n e = rw e (refl, sym (buffer_words_lem ws h))
-
-pub flush_done_as : (b : Buffer) (ws : List ℕ) (r : Flushed) (f : Flushing) → r ≡ done f b
-    → ws ≡ buffer_words (flushed_buffer f b) → FlushedAs r 0 ws
-flush_done_as b ws r f e q = rw e (refl, q)
+-- What a flush that is done leaves in the words.
+pub flush_done_as : (b : Buffer) (ws : List ℕ) (f : Flushing) → demand (ltb b.next 64) BadState (Ok tt) ≡ Ok tt
+    → ws ≡ buffer_words (flushed_buffer f b) → FlushedAs (pointed b (done f b)) (Ok tt) ws
+unfolding pointed
+flush_done_as b ws f e q = go (ltb b.next 64) e
+  where
+    go : (t : Bool) → demand t BadState (Ok tt) ≡ Ok tt → FlushedAs (cond t (done f b) (refused BadState b)) (Ok tt) ws
+    go true e = (refl, q)
+    go false e = cc

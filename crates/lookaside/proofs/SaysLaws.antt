@@ -1,56 +1,63 @@
 -- A series of calls on the words of a buffer is a series on the buffer: the words that a call leaves say the buffer
 -- that the definition leaves. Assumes nothing.
 use Prim.Native.Nat.{ℕ}
-use mathlib.Core.Path.{◌≡◌, refl, ◌∙◌, ap}
+use mathlib.Core.Path.{◌≡◌, refl, ◌∙◌}
 use mathlib.Core.Bool.{Bool, true, false, cond}
 use mathlib.Core.List.{List}
 use lib.Dec.{ltb}
 use lib.ListN.{length, length-set, length-map}
-use Rattle.words.specs.declared.Rounded.{Rounded}
-use Rattle.words.specs.declared.Rounded.TheVariants.{Covers, Refused as NoRegion}
+use Rattle.refusals.specs.declared.Refusal.{Refusal}
+use Rattle.words.specs.declared.Region.{Region}
 use Rattle.words.specs.Region.{region_of}
 use Rattle.table.specs.declared.Shape.{Shape}
-use Rattle.lookaside.specs.declared.Buffer.{Buffer}
-use Rattle.lookaside.specs.declared.Flushed.{Flushed}
-use Rattle.lookaside.specs.declared.Flushing.{Flushing}
-use Rattle.lookaside.specs.declared.Fill.{Fill}
-use Rattle.lookaside.specs.declared.Fill.TheVariants.{Keep, Put}
-use Rattle.lookaside.specs.Slots.{first_match}
-use Rattle.lookaside.specs.Check.{check_of, filled_by, decide_of}
-use Rattle.lookaside.specs.Flushes.{flushed_slot, flushed_buffer, done, refused, pointed, flushed_rounded}
+use Rattle.refusals.specs.declared.Refusal.TheVariants.{BadState}
+use Rattle.std.specs.Prelude.{Option, Some, None, Result, Ok, Err}
+use Rattle.table.specs.declared.Deciding.{Deciding}
+use Rattle.table.specs.Lookup.{lookup_of}
+use Rattle.lookaside.specs.declared.Slot.{Slot}
+use Rattle.lookaside.specs.Slots.{Buffer, first_match}
+use Rattle.lookaside.specs.Check.{walked, answered, check_of}
+use Rattle.lookaside.specs.Flushes.{Flushing, Flushed, flushed_slot, flushed_buffer, done, refused, pointed, flushed_rounded}
 use Rattle.lookaside.specs.Flushes.{flushed_whole, flushed_domain, flushed_region}
 use Rattle.lookaside.specs.Layout.{buffer_of, buffer_words}
-use Rattle.lookaside.proofs.CheckLaws.{check_decided}
+use Rattle.lookaside.proofs.CheckLaws.{check_cases}
 use Rattle.lookaside.proofs.LayoutLaws.{slots_said, buffer_again}
 
 -- A check keeps the number of slots.
-after_slots : (b : Buffer) (x : Fill) → length (filled_by b x).slots ≡ length b.slots
-after_slots b Keep = refl
-after_slots b (Put s) = length-set b.slots b.next s
+check_slots : (p : List ℕ) (s : Shape) (b : Buffer) (d kind size a : ℕ)
+    → length (check_of p s b d kind size a).buffer.slots ≡ length b.slots
+check_slots p s b d kind size a = check_cases p s b d kind size a (λ c. length c.buffer.slots ≡ length b.slots)
+    (λ _ _. refl) (λ _. answers (first_match b.slots d a))
+  where
+    walks : (f : Result Deciding Refusal) → length (walked f b d kind a).buffer.slots ≡ length b.slots
+    walks (Ok x) = length-set b.slots b.next _
+    walks (Err e) = refl
+
+    answers : (t : Option Slot) → length (answered t p s b d kind a).buffer.slots ≡ length b.slots
+    answers (Some t) = refl
+    answers None = walks (lookup_of p s d a)
 
 pub check_says : (p : List ℕ) (s : Shape) (ws : List ℕ) (d kind size a : ℕ)
     → let b = (check_of p s (buffer_of ws) d kind size a).buffer in buffer_of (buffer_words b) ≡ b
-check_says p s ws d kind size a =
-    buffer_again (check_of p s (buffer_of ws) d kind size a).buffer
-    (ap (λ c. length c.buffer.slots) (check_decided p s (buffer_of ws) d kind size a) ∙ after_slots (buffer_of ws)
-    (decide_of p s (buffer_of ws).next (first_match (buffer_of ws).slots d a) d kind size a).fill ∙ slots_said ws)
+check_says p s ws d kind size a = buffer_again (check_of p s (buffer_of ws) d kind size a).buffer
+    (check_slots p s (buffer_of ws) d kind size a ∙ slots_said ws)
 
 -- A flush is refused and keeps the buffer, or empties some slots of it.
 pub data Flushes (b : Buffer) : Flushed → Type 0 where
-  refuses : (n : ℕ) → Flushes b (refused n b)
+  refuses : (r : Refusal) → Flushes b (refused r b)
   empties : (f : Flushing) → Flushes b (done f b)
 
 pointed_flushes : (b : Buffer) {r : Flushed} → Flushes b r → Flushes b (pointed b r)
 unfolding pointed
 pointed_flushes b {r} x = go (ltb b.next 64)
   where
-    go : (t : Bool) → Flushes b (cond t r (refused 18 b))
+    go : (t : Bool) → Flushes b (cond t r (refused BadState b))
     go true = x
-    go false = refuses 18
+    go false = refuses BadState
 
-rounded_flushes : (b : Buffer) (d : ℕ) (r : Rounded) → Flushes b (flushed_rounded r b d)
-rounded_flushes b d (Covers g) = empties _
-rounded_flushes b d (NoRegion n) = refuses n
+rounded_flushes : (b : Buffer) (d : ℕ) (r : Result Region Refusal) → Flushes b (flushed_rounded r b d)
+rounded_flushes b d (Ok g) = empties _
+rounded_flushes b d (Err r) = refuses r
 
 pub all_flushes : (b : Buffer) → Flushes b (flushed_whole b)
 all_flushes b = pointed_flushes b (empties _)

@@ -1,5 +1,5 @@
 -- Laws of tests, and of rounding a number down to a multiple of another. Assumes nothing.
-use Prim.Native.Nat.{ℕ, ◌+◌, ◌-◌, ◌*◌, ◌/◌, ◌%◌, ◌≤◌, ◌<◌}
+use Prim.Native.Nat.{ℕ, ◌+◌, ◌*◌, ◌/◌, ◌%◌, ◌≤◌, ◌<◌}
 use mathlib.Core.Path.{◌≡◌, refl, sym, ap, ◌∙◌}
 use mathlib.Core.Logic.{◌⊎◌, inl, inr}
 use mathlib.Core.Bool.{Bool, true, false, ◌&&◌, not, false≢true}
@@ -25,11 +25,6 @@ pub less_false : (x y : Bool) → (x && not y) ≡ false → (x ≡ false) ⊎ (
 less_false true true h = inr refl
 less_false true false h = absurd (false≢true (sym h))
 less_false false y h = inl refl
-
--- Rounding down.
-
-pub round_down : (a n : ℕ) → a - a % n ≡ a / n * n
-round_down a n = omega (arith, div-add-mod' a n)
 
 -- Which multiple of `n` lies at most `n - 1` below `a`.
 pub round_count : (n q a : ℕ) → q * n ≤ a → a < q * n + n → a / n ≡ q

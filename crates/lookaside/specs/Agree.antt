@@ -1,16 +1,15 @@
 -- When a buffer agrees with a table, everywhere or but for what is stale: where a change may have altered rights and
 -- no flush has followed.
-use Rattle.std.specs.Prelude.{ℕ, ◌<◌, ◌≡◌, Bool, true, false, ◌&&◌, ◌||◌, not, List, [], ◌∷◌, eqb}
+use Rattle.std.specs.Prelude.{ℕ, ◌<◌, ◌≡◌, Bool, true, false, ◌&&◌, ◌||◌, not, List, eqb}
+use Rattle.std.specs.List.{All}
 use Rattle.words.specs.declared.Region.{Region}
 use Rattle.words.specs.Region.{covered}
 use Rattle.theory.specs.Pool.{words, right_of}
 use Rattle.table.specs.declared.Shape.{Shape}
 use Rattle.table.specs.Map.{addresses, form_of}
 use Rattle.lookaside.specs.declared.Slot.{Slot}
-use Rattle.lookaside.specs.declared.Buffer.{Buffer}
-use Rattle.lookaside.specs.declared.Flushing.{Flushing}
-use Rattle.lookaside.specs.declared.Flushing.TheVariants.{Whole, OfDomain, OfRegion}
-use Rattle.lookaside.specs.Slots.{matches, slot_right}
+use Rattle.lookaside.specs.Slots.{Buffer, matches, slot_right}
+use Rattle.lookaside.specs.Flushes.{Flushing, Whole, OfDomain, OfRegion}
 
 -- Rights: of a domain, at an address.
 abbrev pub Rights : Type 0
@@ -54,14 +53,9 @@ SameBut n x R T = (d a : ℕ) → d < n → a < addresses → x d a ≡ false �
 abbrev pub SlotAgrees : ℕ → Rights → Places → Slot → Type 0
 SlotAgrees n R x s = (d a : ℕ) → d < n → a < addresses → x d a ≡ false → matches s d a ≡ true → slot_right s a ≡ R d a
 
--- Every slot of a list does.
-unfoldable pub Each : (Slot → Type 0) → List Slot → Type 0
-Each A [] = Unit {0}
-Each A (s ∷ ss) = A s × Each A ss
-
--- The buffer agrees with the rights of `n` domains, but at the places `x`.
+-- The buffer agrees with the rights of `n` domains, but at the places `x`: every slot does.
 abbrev pub AgreesBut : ℕ → Rights → Places → Buffer → Type 0
-AgreesBut n R x b = Each (SlotAgrees n R x) b.slots
+AgreesBut n R x b = All (SlotAgrees n R x) b.slots
 
 -- The buffer agrees with the table in the pool `p`.
 abbrev pub Agrees : Shape → List ℕ → Buffer → Type 0

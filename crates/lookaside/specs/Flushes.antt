@@ -1,15 +1,22 @@
 -- Flushes: which slots they empty, and what they answer.
-use Rattle.std.specs.Prelude.{ℕ, ◌+◌, ◌*◌, Bool, true, cond, ◌&&◌, map, ltb}
+use Rattle.std.specs.Prelude.{ℕ, ◌+◌, ◌*◌, Bool, true, cond, ◌&&◌, map, ltb, ◌≡◌, Result, Ok, Err}
+use Rattle.refusals.specs.declared.Refusal.{Refusal}
+use Rattle.refusals.specs.declared.Refusal.TheVariants.{BadState}
 use Rattle.words.specs.declared.Region.{Region}
-use Rattle.words.specs.declared.Rounded.{Rounded}
-use Rattle.words.specs.declared.Rounded.TheVariants.{Covers, Refused}
 use Rattle.words.specs.Region.{region_of}
 use Rattle.lookaside.specs.declared.Slot.{Slot}
-use Rattle.lookaside.specs.declared.Buffer.{Buffer}
-use Rattle.lookaside.specs.declared.Flushed.{Flushed}
-use Rattle.lookaside.specs.declared.Flushing.{Flushing}
-use Rattle.lookaside.specs.declared.Flushing.TheVariants.{Whole, OfDomain, OfRegion}
-use Rattle.lookaside.specs.Slots.{block_bytes, holds_for, empty_slot}
+use Rattle.lookaside.specs.Slots.{Buffer, block_bytes, holds_for, empty_slot}
+
+-- What a flush empties: every slot, those of a domain, or those of a domain whose block meets a region.
+pub data Flushing : Type 0 where
+  Whole : Flushing
+  OfDomain : (d : ℕ) → Flushing
+  OfRegion : (d : ℕ) (r : Region) → Flushing
+
+-- A flush: what it answers, and the buffer that its words then say.
+pub record Flushed : Type 0 where
+  pub answer : Result (Unit {0}) Refusal
+  pub buffer : Buffer
 
 -- The slot's block meets the region: each begins before the other ends, in bytes.
 unfoldable pub meets : Slot → Region → Bool
@@ -21,6 +28,10 @@ flushes Whole s = true
 flushes (OfDomain d) s = holds_for s d
 flushes (OfRegion d r) s = holds_for s d && meets s r
 
+-- A test of slots says of each whether the flush empties it.
+abbrev pub Tells : (Slot → Bool → Type 0) → Flushing → Type 0
+Tells says f = (s : Slot) (b : Bool) → says s b → b ≡ flushes f s
+
 -- What the flush leaves of a slot.
 unfoldable pub flushed_slot : Flushing → Slot → Slot
 flushed_slot f s = cond (flushes f s) empty_slot s
@@ -31,15 +42,15 @@ flushed_buffer f b = record { slots = map (flushed_slot f) b.slots; next = b.nex
 
 -- A flush that is done.
 abbrev pub done : Flushing → Buffer → Flushed
-done f b = record { refusal = 0; buffer = flushed_buffer f b }
+done f b = record { answer = Ok tt; buffer = flushed_buffer f b }
 
 -- A flush that is refused gives back the buffer that came in.
-abbrev pub refused : ℕ → Buffer → Flushed
-refused n b = record { refusal = n; buffer = b }
+abbrev pub refused : Refusal → Buffer → Flushed
+refused e b = record { answer = Err e; buffer = b }
 
--- Every flush is first refused 18 for a pointer above 63.
+-- Every flush is first refused for a pointer above 63.
 unfoldable pub pointed : Buffer → Flushed → Flushed
-pointed b r = cond (ltb b.next 64) r (refused 18 b)
+pointed b r = cond (ltb b.next 64) r (refused BadState b)
 
 -- The flush of all.
 abbrev pub flushed_whole : Buffer → Flushed
@@ -49,10 +60,10 @@ flushed_whole b = pointed b (done Whole b)
 abbrev pub flushed_domain : Buffer → ℕ → Flushed
 flushed_domain b d = pointed b (done (OfDomain d) b)
 
--- The flush of a region as it was rounded, or its refusal 4 or 5.
-abbrev pub flushed_rounded : Rounded → Buffer → ℕ → Flushed
-flushed_rounded (Covers r) b d = done (OfRegion d r) b
-flushed_rounded (Refused n) b d = refused n b
+-- The flush of a region as it was rounded, or its refusal.
+abbrev pub flushed_rounded : Result Region Refusal → Buffer → ℕ → Flushed
+flushed_rounded (Ok r) b d = done (OfRegion d r) b
+flushed_rounded (Err e) b d = refused e b
 
 -- The flush of a region in one domain, which may be any number; the region is rounded and refused as a change's.
 abbrev pub flushed_region : Buffer → ℕ → ℕ → ℕ → Flushed

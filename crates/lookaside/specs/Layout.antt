@@ -1,12 +1,13 @@
 -- How a buffer lies in lent words: what words say, the words of a buffer, and what a call on words leaves. The first
 -- two are inverse to each other (proofs/LayoutLaws).
-use Rattle.std.specs.Prelude.{ℕ, ◌+◌, ◌*◌, ◌≡◌, List, [], ◌∷◌, ◌++◌, length, get_or}
+use Rattle.std.specs.Prelude.{ℕ, ◌+◌, ◌*◌, ◌≡◌, List, [], ◌∷◌, ◌++◌, length, get_or, Result}
+use Rattle.refusals.specs.declared.Refusal.{Refusal}
 use Rattle.rows.specs.Rows.{rows_of, words_of}
 use Rattle.lookaside.specs.declared.Slot.{Slot}
-use Rattle.lookaside.specs.declared.Buffer.{Buffer}
 use Rattle.lookaside.specs.declared.Verdict.{Verdict}
-use Rattle.lookaside.specs.declared.Checked.{Checked}
-use Rattle.lookaside.specs.declared.Flushed.{Flushed}
+use Rattle.lookaside.specs.Slots.{Buffer}
+use Rattle.lookaside.specs.Check.{Checked}
+use Rattle.lookaside.specs.Flushes.{Flushed}
 
 -- The words of a buffer: 64 slots of four, then next.
 abbrev pub buffer_long : ℕ
@@ -40,9 +41,9 @@ abbrev pub buffer_words : Buffer → List ℕ
 buffer_words b = words_of slot_words b.slots ++ b.next ∷ []
 
 -- A check that is to be `c` says `v` and leaves the words `ws`.
-abbrev pub CheckedAs : Checked → Verdict → List ℕ → Type 0
+abbrev pub CheckedAs : Checked → Result Verdict Refusal → List ℕ → Type 0
 CheckedAs c v ws = (v ≡ c.verdict) × (ws ≡ buffer_words c.buffer)
 
--- A flush that is to be `f` answers `n`, 0 or its refusal, and leaves the words `ws`.
-abbrev pub FlushedAs : Flushed → ℕ → List ℕ → Type 0
-FlushedAs f n ws = (n ≡ f.refusal) × (ws ≡ buffer_words f.buffer)
+-- A flush that is to be `f` answers `r` and leaves the words `ws`.
+abbrev pub FlushedAs : Flushed → Result (Unit {0}) Refusal → List ℕ → Type 0
+FlushedAs f r ws = (r ≡ f.answer) × (ws ≡ buffer_words f.buffer)

@@ -1,12 +1,16 @@
 -- The lookaside buffer: what a slot holds, when it matches, which slot answers and with which right, and what a fill
 -- leaves.
-use Rattle.std.specs.Prelude.{ℕ, ◌+◌, ◌-◌, ◌*◌, ◌/◌, ◌%◌, Bool, cond, ◌&&◌, ◌||◌, List, [], ◌∷◌, set, replicate, eqb, leb, ltb}
+use Rattle.std.specs.Prelude.{ℕ, ◌+◌, ◌-◌, ◌*◌, ◌/◌, ◌%◌, Bool, ◌&&◌, ◌||◌, List, set, replicate, eqb, leb, ltb}
+use Rattle.std.specs.Prelude.{Option}
+use Rattle.std.specs.List.{find}
 use Rattle.words.specs.Rights.{right_at, good_rights}
 use Rattle.table.specs.Map.{block, part, parts}
 use Rattle.lookaside.specs.declared.Slot.{Slot}
-use Rattle.lookaside.specs.declared.Buffer.{Buffer}
-use Rattle.lookaside.specs.declared.Hit.{Hit}
-use Rattle.lookaside.specs.declared.Hit.TheVariants.{At, Miss}
+
+-- What the words of a buffer say: the slots, and the one that the next fill takes.
+pub record Buffer : Type 0 where
+  pub slots : List Slot
+  pub next : ℕ
 
 -- The levels: 1 root, 2 middle, 3 leaf.
 abbrev pub is_level : ℕ → Bool
@@ -42,9 +46,8 @@ unfoldable pub matches : Slot → ℕ → ℕ → Bool
 matches s d a = holds_for s d && in_block s a && good_entry s.level s.entry
 
 -- The lowest slot that matches.
-unfoldable pub first_match : List Slot → ℕ → ℕ → Hit
-first_match [] d a = Miss
-first_match (s ∷ ss) d a = cond (matches s d a) (At s) (first_match ss d a)
+unfoldable pub first_match : List Slot → ℕ → ℕ → Option Slot
+first_match ss d a = find (λ s. matches s d a) ss
 
 -- The right that the slot's entry gives to the address: one of sixteen in a leaf entry, one of eight in any other.
 abbrev pub slot_right : Slot → ℕ → ℕ

@@ -2,18 +2,16 @@
 // the words that are lent for it.
 #![tactic(auto)]
 
-ghost use Rattle.std.specs.Prelude.{◌≡◌, ◌<◌, ◌%◌, true};
-ghost use Rattle.table.specs.Lookup.{lookup_of};
-ghost use Rattle.lookaside.specs.declared.Slot.{Slot};
-ghost use Rattle.lookaside.specs.declared.Hit.TheVariants.{At};
-ghost use Rattle.lookaside.specs.Slots.{matches, empty_buffer};
-ghost use Rattle.lookaside.specs.Flushes.{flushes, flushed_buffer, flushed_whole, flushed_domain};
+ghost use Rattle.std.specs.Prelude.{◌≡◌, ◌<◌, ◌%◌, ltb};
+ghost use Rattle.lookaside.specs.Slots.{empty_buffer};
+ghost use Rattle.lookaside.specs.Flushes.{Flushing, Tells, flushed_buffer, flushed_whole, flushed_domain};
 ghost use Rattle.lookaside.specs.Flushes.{flushed_region};
-ghost use Rattle.lookaside.specs.Check.{is_access, refusal_of, verdict_of, check_of, walk_decided, decide_of};
-ghost use Rattle.lookaside.specs.Layout.{IsBuffer, buffer_of, buffer_words, CheckedAs, FlushedAs};
+ghost use Rattle.lookaside.specs.Check.{is_access, demand, refusal_of, verdict_of, check_of};
+ghost use Rattle.lookaside.specs.Layout.{buffer_of, buffer_words, CheckedAs, FlushedAs};
 
-use table::{Shape, Walked};
-use words::{ByteAddr, Region, Rounded};
+use refusals::Refusal;
+use table::Shape;
+use words::ByteAddr;
 
 mod layout;
 mod slots;
@@ -36,81 +34,22 @@ pub struct Slot {
     pub entry: u32,
 }
 
-// What the words of a buffer say: the slots, and the one that the next fill takes.
-#[derive(Drop)]
-pub struct Buffer {
-    pub slots: [Slot; 64],
-    pub next: u32,
-}
-
-// What a check says: it passes or is denied, after as many loads; or it is refused, with its number.
+// What a check that is not refused says: it passes or is denied, after as many loads.
 #[derive(Clone, Copy)]
 pub enum Verdict {
     Pass(u32),
     Deny(u32),
-    Refused(u32),
-}
-
-// A check as contracts tell it: what it says, and the buffer that its words then say.
-#[derive(Drop)]
-pub struct Checked {
-    pub verdict: Verdict,
-    pub buffer: Buffer,
-}
-
-// A flush as contracts tell it: its refusal, 0 for none, and the buffer that its words then say.
-#[derive(Drop)]
-pub struct Flushed {
-    pub refusal: u32,
-    pub buffer: Buffer,
-}
-
-// The slot that answers, if one does.
-#[derive(Clone, Copy)]
-pub enum Hit {
-    At(Slot),
-    Miss,
-}
-
-// What is to be done to the buffer: nothing, or a slot put at its pointer, which moves on.
-#[derive(Clone, Copy)]
-pub enum Fill {
-    Keep,
-    Put(Slot),
-}
-
-// What a check decides: its verdict, and what is to be done to the buffer.
-#[derive(Clone, Copy)]
-pub struct Ruling {
-    pub verdict: Verdict,
-    pub fill: Fill,
-}
-
-// What a flush empties: every slot, those of a domain, or those of a domain whose block meets a region.
-#[derive(Clone, Copy)]
-pub enum Flushing {
-    Whole,
-    OfDomain(u32),
-    OfRegion(u32, Region),
 }
 
 // Whether there are accesses of this kind and size.
 fn is_access(kind: u32, size: u32) -> bool
     ensures { result ≡ is_access kind size }
 {
-    if kind == table::FETCH {
-        return size == 4;
+    match kind {
+        table::LOAD | table::STORE => matches!(size, 1 | 2 | 4),
+        table::FETCH => size == 4,
+        _ => false,
     }
-    if kind > table::FETCH {
-        return false;
-    }
-    if size == 1 {
-        return true;
-    }
-    if size == 2 {
-        return true;
-    }
-    size == 4
 }
 
 // How far an address lies past a multiple of a size. Nothing is divided for a size that there are accesses of.
@@ -118,20 +57,26 @@ fn past_size(a: u32, size: u32) -> u32
     requires { 0 < size }
     ensures { result ≡ a % size }
 {
-    if size == 4 {
-        return a % 4;
+    match size {
+        4 => a % 4,
+        2 => a % 2,
+        1 => 0,
+        _ => a % size,
     }
-    if size == 2 {
-        return a % 2;
-    }
-    if size == 1 {
-        return 0;
-    }
-    a % size
 }
 
-// The refusal of a check before it asks the buffer, 0 for none. The size is a divisor only once it is known to be a
-// size.
+// Whether the pointer is a slot's.
+fn pointed(next: u32) -> Result<(), Refusal>
+    ensures { result ≡ demand (ltb next 64) Refusal.BadState (Ok tt) }
+{
+    if next >= SLOTS {
+        return Err(Refusal::BadState);
+    }
+    Ok(())
+}
+
+// The refusal of a check before it asks the buffer. The size is a divisor only once it is known to be a size.
+#[tactic(auto, using(crate::proofs::CheckLaws::access_some), unfolding(crate::specs::Check::refusal_of))]
 fn refusal(
     shape: Shape,
     long: usize,
@@ -140,28 +85,23 @@ fn refusal(
     kind: u32,
     size: u32,
     address: ByteAddr,
-) -> u32
+) -> Result<(), Refusal>
     ensures { result ≡ refusal_of shape long next domain kind size address.0 }
 {
-    let domains = shape.domains;
     if !table::shape_fits(shape, long) {
-        return 1;
+        return Err(Refusal::NoShape);
     }
-    if next >= SLOTS {
-        return 18;
-    }
-    if domain >= domains {
-        return 2;
+    pointed(next)?;
+    if domain >= shape.domains {
+        return Err(Refusal::NoDomain);
     }
     if !is_access(kind, size) {
-        return 9;
+        return Err(Refusal::NoAccess);
     }
-    let a = words::addr_number(address);
-    let past = past_size(a, size);
-    if past != 0 {
-        return 10;
+    if past_size(u32::from(address), size) != 0 {
+        return Err(Refusal::NotAligned);
     }
-    0
+    Ok(())
 }
 
 // What an access makes of a right.
@@ -169,185 +109,100 @@ fn judge(kind: u32, right: u32, loads: u32) -> Verdict
     ensures { result ≡ verdict_of kind right loads }
 {
     if table::passes(kind, right) {
-        return Verdict::Pass(loads);
-    }
-    Verdict::Deny(loads)
-}
-
-// What a check that no slot answers decides: it asks the pool as a lookup does, and keeps the deciding entry, whether
-// it passes or not.
-fn decide_by_walk(pool: &[u32], shape: Shape, domain: u32, kind: u32, address: ByteAddr) -> Ruling
-    ensures { result ≡ walk_decided (lookup_of pool.now shape domain address.0) domain kind
-        address.0 }
-{
-    let walked = table::decide(pool, shape, domain, address);
-    match walked {
-        Walked::Refused(n) => Ruling {
-            verdict: Verdict::Refused(n),
-            fill: Fill::Keep,
-        },
-        Walked::By(by) => {
-            let right = by.right;
-            let entry = by.entry;
-            let loads = by.loads;
-            let block = slots::block_of(loads, address);
-            let slot = Slot {
-                domain,
-                level: loads,
-                block,
-                entry,
-            };
-            let verdict = judge(kind, right, loads);
-            Ruling {
-                verdict,
-                fill: Fill::Put(slot),
-            }
-        }
-    }
-}
-
-// What a check decides, by the lowest slot that matches and the pointer.
-fn decide(
-    pool: &[u32],
-    shape: Shape,
-    next: u32,
-    hit: Hit,
-    domain: u32,
-    kind: u32,
-    size: u32,
-    address: ByteAddr,
-) -> Ruling
-    requires { (t : Slot) → hit ≡ At t → matches t domain address.0 ≡ true }
-    ensures { result ≡ decide_of pool.now shape next hit domain kind size address.0 }
-{
-    let long = pool.len();
-    let refused = refusal(shape, long, next, domain, kind, size, address);
-    if refused != 0 {
-        return Ruling {
-            verdict: Verdict::Refused(refused),
-            fill: Fill::Keep,
-        };
-    }
-    match hit {
-        Hit::At(s) => {
-            let right = slots::slot_right(s, address);
-            let verdict = judge(kind, right, 0);
-            Ruling {
-                verdict,
-                fill: Fill::Keep,
-            }
-        }
-        Hit::Miss => decide_by_walk(pool, shape, domain, kind, address),
+        Verdict::Pass(loads)
+    } else {
+        Verdict::Deny(loads)
     }
 }
 
 // The check of an access of a domain: answered by the buffer with no load, or by the pool. A hit stores nothing in the
-// buffer's words, and a miss one slot and the pointer.
+// buffer's words. A miss asks the pool as a lookup does, and keeps the deciding entry, whether it passes or not: it
+// stores one slot and the pointer.
+#[tactic(auto, using(crate::proofs::LayoutLaws::buffer_words_lem), unfolding(crate::specs::Check::check_of))]
 pub fn check(
     pool: &[u32],
     shape: Shape,
-    buffer: &mut [u32],
+    buffer: &mut [u32; BUFFER_WORDS],
     domain: u32,
     kind: u32,
     size: u32,
     address: ByteAddr,
-) -> Verdict
-    requires { IsBuffer buffer.old }
+) -> Result<Verdict, Refusal>
     ensures { CheckedAs (check_of pool.now shape (buffer_of buffer.old) domain kind size
         address.0) result buffer.new }
 {
-    let next = buffer[NEXT];
-    let hit = layout::find(buffer, domain, address);
-    let decided = decide(pool, shape, next, hit, domain, kind, size, address);
-    let todo = decided.fill;
-    layout::fill_next(buffer, todo);
-    decided.verdict
-}
-
-// Whether a flush empties a slot.
-fn is_flushed(f: Flushing, s: Slot) -> bool
-    ensures { result ≡ flushes f s }
-{
-    match f {
-        Flushing::Whole => true,
-        Flushing::OfDomain(d) => slots::slot_of(s, d),
-        Flushing::OfRegion(d, region) => {
-            if !slots::slot_of(s, d) {
-                return false;
-            }
-            slots::block_meets(s, region)
-        }
+    refusal(shape, pool.len(), buffer[NEXT], domain, kind, size, address)?;
+    if let Some(slot) = layout::find(buffer, domain, address) {
+        return Ok(judge(kind, slots::slot_right(slot, address), 0));
     }
+    let by = table::decide(pool, shape, domain, address)?;
+    let slot = Slot {
+        domain,
+        level: by.loads,
+        block: slots::block_of(by.loads, address),
+        entry: by.entry,
+    };
+    layout::fill_next(buffer, slot);
+    Ok(judge(kind, by.right, by.loads))
 }
 
 // The one loop of all flushes: it stores into the slots that it empties; the pointer stays.
-fn flush(ws: &mut [u32], f: Flushing)
-    requires { IsBuffer ws.old }
-    ensures { ws.new ≡ buffer_words (flushed_buffer f (buffer_of ws.old)) }
+fn flush<F>(ws: &mut [u32; BUFFER_WORDS], empties: F)
+where
+    F: Fn(Slot) -> bool,
+    requires { F.IsAlwaysCallable empties }
+    ensures { (f : Flushing) → Tells (F.post empties) f → ws.new ≡ buffer_words (flushed_buffer f (buffer_of ws.old)) }
 {
-    let none = slots::empty_slot();
-    let mut i: usize = 0;
-    while i < 64 {
+    for i in 0..64 {
         let s = layout::slot_at(ws, 4 * i);
-        if is_flushed(f, s) {
-            layout::put_slot(ws, 4 * i, none);
+        if empties(s) {
+            layout::put_slot(ws, 4 * i, slots::empty_slot());
         }
-        i += 1;
     }
 }
 
 // The buffer after a reset, whatever its words were.
-pub fn emptied(buffer: &mut [u32])
-    requires { IsBuffer buffer.old }
+pub fn emptied(buffer: &mut [u32; BUFFER_WORDS])
     ensures { buffer.new ≡ buffer_words empty_buffer }
 {
-    let all = Flushing::Whole;
-    flush(buffer, all);
-    buffer[NEXT] = 0;
+    buffer.fill(0);
 }
 
 // Empties every slot.
-pub fn flush_all(buffer: &mut [u32]) -> u32
-    requires { IsBuffer buffer.old }
+#[tactic(auto, using(crate::proofs::LayoutLaws::buffer_words_lem), unfolding(crate::specs::Flushes::pointed))]
+pub fn flush_all(buffer: &mut [u32; BUFFER_WORDS]) -> Result<(), Refusal>
     ensures { FlushedAs (flushed_whole (buffer_of buffer.old)) result buffer.new }
 {
-    let next = buffer[NEXT];
-    if next >= SLOTS {
-        return 18;
-    }
-    flush(buffer, Flushing::Whole);
-    0
+    pointed(buffer[NEXT])?;
+    flush(buffer, |_| true);
+    Ok(())
 }
 
 // Empties the slots of a domain, which may be any number.
-pub fn flush_domain(buffer: &mut [u32], domain: u32) -> u32
-    requires { IsBuffer buffer.old }
+#[tactic(auto, using(crate::proofs::LayoutLaws::buffer_words_lem), unfolding(crate::specs::Flushes::pointed))]
+pub fn flush_domain(buffer: &mut [u32; BUFFER_WORDS], domain: u32) -> Result<(), Refusal>
     ensures { FlushedAs (flushed_domain (buffer_of buffer.old) domain) result buffer.new }
 {
-    let next = buffer[NEXT];
-    if next >= SLOTS {
-        return 18;
-    }
-    flush(buffer, Flushing::OfDomain(domain));
-    0
+    pointed(buffer[NEXT])?;
+    flush(buffer, |s| slots::slot_of(s, domain));
+    Ok(())
 }
 
 // Empties the slots of a domain whose block meets a region, which is rounded and refused as a change's.
-pub fn flush_region(buffer: &mut [u32], domain: u32, start: ByteAddr, length: u32) -> u32
-    requires { IsBuffer buffer.old }
+#[tactic(auto, using(crate::proofs::LayoutLaws::buffer_words_lem), unfolding(crate::specs::Flushes::pointed))]
+pub fn flush_region(
+    buffer: &mut [u32; BUFFER_WORDS],
+    domain: u32,
+    start: ByteAddr,
+    length: u32,
+) -> Result<(), Refusal>
     ensures { FlushedAs (flushed_region (buffer_of buffer.old) domain start.0 length) result
         buffer.new }
 {
-    let next = buffer[NEXT];
-    if next >= SLOTS {
-        return 18;
-    }
-    let asked = words::round_region(start, length);
-    match asked {
-        Rounded::Refused(n) => n,
-        Rounded::Covers(region) => {
-            flush(buffer, Flushing::OfRegion(domain, region));
-            0
-        }
-    }
+    pointed(buffer[NEXT])?;
+    let region = words::round_region(start, length)?;
+    flush(buffer, |s| {
+        slots::slot_of(s, domain) && slots::block_meets(s, region)
+    });
+    Ok(())
 }

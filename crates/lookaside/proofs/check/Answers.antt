@@ -1,32 +1,27 @@
 -- `lookaside::check` meets its contract. Assumes nothing.
-use mathlib.Core.Path.{refl, sym, ap, ◌∙◌}
-use lib.ListN.{get_or}
-use Rattle.lookaside.specs.Slots.{first_match}
+use mathlib.Core.Path.{sym, ◌∙◌}
+use Rattle.std.proofs.Common.{rules}
+use Rattle.table.specs.Lookup.{lookup_of}
+use Rattle.table.proofs.LookupLaws.{walks_refused}
+use Rattle.lookaside.specs.Check.{check_of}
 use Rattle.lookaside.specs.Layout.{buffer_of}
+use Rattle.lookaside.proofs.SlotLaws.{match_is}
 use Rattle.lookaside.proofs.BufferLaws.{first_matches}
-use Rattle.lookaside.proofs.CheckLaws.{decide_put, check_decided}
+use Rattle.lookaside.proofs.LayoutLaws.{buffer_words_lem}
+use Rattle.lookaside.proofs.CheckLaws.{allowed}
 use Rattle.lookaside.proofs.check.Goals as goal
 
-pub decide-decided-requires : goal.decide-decided-requires
-decide-decided-requires c = λ t e.
-    let a = c.args in
-    first_matches (buffer_of a.buffer.now).slots a.domain a.address.0 t (sym c.find-hit.ensures ∙ e)
+pub slot_right-requires : goal.slot_right-requires
+slot_right-requires c = let a = c.args in
+    (match_is _ a.domain a.address.0
+    (first_matches (buffer_of a.buffer.now).slots a.domain a.address.0 _ (sym c.find.ensures ∙ c.in-Some.is))).level
 
--- What was decided is decided of what the words say.
+pub returns-in_err-by : goal.returns-in_err-by
+unfolding check_of
+returns-in_err-by c = let a = c.args in
+    let refuses = walks_refused (lookup_of a.pool.now a.shape a.domain a.address.0) c.in_err-by.field-0.0 (sym c.in_err-by.was ∙ c.decide.ensures) in
+    let stays = buffer_words_lem a.buffer.now c.told-buffer in
+    search rules
+
 pub fill_next-requires : goal.fill_next-requires
-fill_next-requires c = let a = c.args in
-    let decided = rw c.find-hit.ensures at c.decide-decided.ensures in (
-      c.requires,
-      λ t e. decide_put a.pool.now a.shape (get_or a.buffer.now 256 0)
-          (first_match (buffer_of a.buffer.now).slots a.domain a.address.0) a.domain a.kind a.size
-          a.address.0 t (ap (λ x. x.fill) (sym decided) ∙ e),
-    )
-
-pub returns : goal.returns
-returns c = let a = c.args in
-    let decided = rw c.find-hit.ensures at c.decide-decided.ensures in
-    rw (
-      check_decided a.pool.now a.shape (buffer_of a.buffer.now) a.domain a.kind a.size
-          a.address.0,
-      ← decided,
-    ) (refl, c.fill_next.ensures)
+fill_next-requires c = (allowed _ _ _ _ _ _ _ (sym c.refusal.ensures ∙ c.in_ok-refusal.was)).pointer

@@ -1,57 +1,38 @@
--- `lookaside::layout::find` meets its contract. Assumes nothing.
-use Prim.Native.Nat.{ℕ, ◌*◌, ◌<◌}
-use mathlib.Core.Path.{◌≡◌, sym, ap, ◌∙◌}
-use mathlib.Core.List.{List}
-use mathlib.Core.Bool.{false}
-use native.Mathlib.Omega.{arith}
-use lib.ListN.{get_or}
-use Rattle.rows.proofs.RowLaws.{said_at}
-use Rattle.lookaside.specs.declared.Hit.TheVariants.{At}
-use Rattle.lookaside.specs.Slots.{empty_slot, matches}
-use Rattle.lookaside.specs.Layout.{slot_at, buffer_of}
-use Rattle.lookaside.proofs.SlotLaws.{near, near_by, far_slot}
-use Rattle.lookaside.proofs.BufferLaws.{first_here, first_later, first_none}
-use Rattle.lookaside.proofs.LayoutLaws.{slot_layout, slots_said}
+-- `lookaside::layout::find` meets its contract: it asks of a slot's block first. Assumes nothing.
+use Prim.Native.Nat.{◌*◌}
+use mathlib.Core.Path.{refl, sym, ap, ◌∙◌}
+use mathlib.Core.Bool.{◌&&◌, ◌||◌}
+use mathlib.Core.List.{List, map}
+use lib.Dec.{eqb}
+use borrow.Author.Tests.{tests}
+use Rattle.std.specs.List.{range_with_len}
+use Rattle.std.proofs.Common.{rules}
+use Rattle.std.proofs.lemmas.Iterator.{YieldsList-from_map, YieldsList-from_range}
+use Rattle.std.proofs.lemmas.Iterator.Consumers.{YieldsList-at}
+use Rattle.std.proofs.lemmas.Iterator.Adapters.{option_map_id}
+use Rattle.std.proofs.lemmas.Iterator.Search.{find_from_yields_List}
+use Rattle.lookaside.specs.declared.Slot.{Slot}
+use Rattle.lookaside.specs.Slots.{matches, first_match}
+use Rattle.lookaside.specs.Layout.{slot_at}
+use Rattle.lookaside.proofs.SlotLaws.{near_first}
+use Rattle.lookaside.proofs.LayoutLaws.{slots_by_one}
 use Rattle.lookaside.proofs.layout.find.Goals as goal
-use Rattle.lookaside.proofs.layout.find.Goals.{then-one_of+else-slot_matches, else-one_of}
-
--- The slot of that number in the words.
-is_slot : (ws : List ℕ) (i : ℕ) → i < 64 → get_or (buffer_of ws).slots i empty_slot ≡ slot_at ws (4 * i)
-is_slot ws i h = said_at slot_layout 64 ws i empty_slot h
-
-pub returns-then-slot_matches : goal.returns-then-slot_matches
-returns-then-slot_matches c = let a = c.args in
-    let e = is_slot a.ws.now c.loop-i.i c.loop-i-test.true ∙ sym c.slot_at-s.ensures in
-    let n = slots_said a.ws.now in
-    sym (c.loop-i.invariant.1 ∙ first_here (buffer_of a.ws.now).slots a.domain a.address.0 c.loop-i.i
-    (omega arith)
-    (ap (λ x. matches x a.domain a.address.0) e ∙ sym c.slot_matches.ensures ∙ c.if-slot_matches.true)
-    ∙ ap At e)
-
-pub loop-i-preserved : goal.loop-i-preserved
-loop-i-preserved c = let a = c.args in
-    let here = slot_at a.ws.now (4 * c.loop-i.i) in
-    let n = slots_said a.ws.now in
-    let x = ap (λ v. v.0) c.byte_addr-block.ensures in
-    let one = ap (λ v. v.0) c.block_of-root.ensures in
-    let two = ap (λ v. v.0) c.block_of-middle.ensures in
-    let three = ap (λ v. v.0) c.block_of-leaf.ensures in
-    let asked : near a.address.0 here.block.0 ≡ c.one_of.result =
-    sym (c.one_of.ensures ∙ near_by a.address.0 here.block.0 _ _ _ _ one two three x) in
-    let skip : matches here a.domain a.address.0 ≡ false =
-    elim c.if-one_of.branch [
-      | then-one_of+else-slot_matches w ↦ ap (λ x. matches x a.domain a.address.0) (sym w.slot_at-s.ensures)
-          ∙ sym w.slot_matches.ensures ∙ w.if-slot_matches.false
-      | else-one_of w ↦ far_slot here a.domain a.address.0 (asked ∙ w.if-one_of.false)
-    ] in (
-      omega arith,
-      c.loop-i.invariant.1 ∙ first_later (buffer_of a.ws.now).slots a.domain a.address.0 c.loop-i.i
-          (omega arith)
-          (ap (λ x. matches x a.domain a.address.0) (is_slot a.ws.now c.loop-i.i c.loop-i-test.true) ∙ skip),
-    )
 
 pub returns : goal.returns
-returns c = let a = c.args in
-    let n = slots_said a.ws.now in
-    sym (c.loop-i.invariant.1 ∙ first_none (buffer_of a.ws.now).slots a.domain a.address.0 c.loop-i.i
-    (omega arith))
+returns c =
+    let a = c.args in
+    let root = c.block_of-root.result.0 in
+    let middle = c.block_of-middle.result.0 in
+    let leaf = c.block_of-leaf.result.0 in
+    let one_by_one = map (λ i. slot_at a.ws.now (4 * i)) (range_with_len 0 64) in
+    sym (option_map_id c.find.result)
+    ∙ find_from_yields_List
+    (λ s. (eqb root s.block.0 || eqb middle s.block.0 || eqb leaf s.block.0) && matches s a.domain a.address.0) _ _ c.find.result
+    c.find.ensures.ran
+    (YieldsList-from_map _ (λ i. slot_at a.ws.now (4 * i))
+    (YieldsList-at c.map.ensures.source (YieldsList-from_range 0 64 64 refl refl)) c.map.ensures.closure
+    (λ x r q k. search rules))
+    (λ x b q k. search (rules, tests))
+    ∙ near_first one_by_one a.domain a.address.0 root middle leaf (ap (λ b. b.0) c.block_of-root.ensures)
+    (ap (λ b. b.0) c.block_of-middle.ensures) (ap (λ b. b.0) c.block_of-leaf.ensures)
+    ∙ ap (λ (l : List Slot). first_match l a.domain a.address.0) (sym (slots_by_one a.ws.now))
