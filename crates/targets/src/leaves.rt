@@ -12,8 +12,7 @@ fn even_entries(pool: &[u32], at: PoolWord) -> bool
     requires { at.0 + 8 ≤ length pool.now }
     ensures { EvenEntries pool.now at.0 → result ≡ true }
 {
-    let k = words::pool_index(at);
-    let same = words::sixteen_of(words::right_at(pool[k], 0));
+    let same = words::sixteen_of(words::right_at(pool[at.index()], 0));
     words::all_same(pool, at, 8, same)
 }
 
@@ -22,7 +21,7 @@ fn leaf_mixed(pool: &[u32], leaf: PoolWord) -> bool
     requires { (leaf.0 < 2147483648) × (leaf.0 + 64 ≤ length pool.now) }
     ensures { result ≡ true → LeafMixed (words pool.now) leaf.0 }
 {
-    (0..8).any(|i| !even_entries(pool, words::word_after(leaf, 8 * i)))
+    (0..8).any(|i| !even_entries(pool, leaf.after(8 * i)))
 }
 
 // Whether the entry leads to a leaf that is seen to have two rights in a sub-block, and nothing is painted. The
@@ -31,8 +30,5 @@ pub fn seen_mixed(pool: &[u32], paint: Paint, height: u32, e: u32) -> bool
     requires { Readable pool.now height e }
     ensures { result ≡ true → SeenMixed (words pool.now) paint height e }
 {
-    paint.hi <= paint.lo
-        && height == 1
-        && e < words::BIT_31
-        && leaf_mixed(pool, words::pool_word(e))
+    paint.hi <= paint.lo && height == 1 && e < words::BIT_31 && leaf_mixed(pool, PoolWord::from(e))
 }

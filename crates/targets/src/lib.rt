@@ -161,9 +161,8 @@ fn first_right(pool: &[u32], paint: Paint, height: u32, e: u32, n: u32) -> u32
     if height == 0 || e >= words::BIT_31 {
         return words::right_at(e, 0);
     }
-    let table = words::pool_word(e);
-    let k = words::pool_index(table);
-    words::right_at(pool[k], 0)
+    let table = PoolWord::from(e);
+    words::right_at(pool[table.index()], 0)
 }
 
 // Whether a block with any entry has the right on all its words after the painting. This and `entries_have` call each
@@ -188,7 +187,7 @@ fn has_all(pool: &[u32], paint: Paint, height: u32, e: u32, n: u32, right: u32) 
     if e >= words::BIT_31 {
         return rights_have(paint, height - 1, e, n, right);
     }
-    let table = words::pool_word(e);
+    let table = PoolWord::from(e);
     let size = table::size_of(height - 1);
     entries_have(pool, paint, height - 1, table, size, size * n, right)
 }
@@ -209,7 +208,7 @@ fn entries_have(
     requires height_bound { (height ≤ 2) × (paint.right < 4) × (right < 4) }
     ensures { Decides result (BlocksHave (words pool.now) paint height from.0 count number right) }
 {
-    let start = words::pool_index(from);
+    let start = from.index();
     for j in 0..count {
         let w = pool[start + j as usize];
         if !has_all(pool, paint, height, w, number + j, right) {
@@ -230,11 +229,10 @@ fn part(pool: &[u32], paint: Paint, below: u32, e: u32, n: u32, i: u32) -> Optio
         return rights_part(paint, below, e, n, i);
     }
     let count = table::part_entries(below);
-    let table = words::pool_word(e);
-    let word = words::word_after(table, (count * i) as usize);
-    let from = words::pool_index(word);
+    let table = PoolWord::from(e);
+    let word = table.after((count * i) as usize);
     let number = (8 * n + i) * count;
-    let right = first_right(pool, paint, below, pool[from], number);
+    let right = first_right(pool, paint, below, pool[word.index()], number);
     let all = entries_have(pool, paint, below, word, count, number, right);
     all.then_some(right)
 }

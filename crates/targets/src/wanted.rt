@@ -24,7 +24,7 @@ fn table_wanted(pool: &[u32], shape: Shape, n: usize, block: u32) -> bool
 {
     let height = census::place_height(n);
     let place = census::place_word(shape, n);
-    let e = words::entry_of(place);
+    let e = place.entry();
     let number = census::block_in_domain(height, block);
     let target = entry_target(pool, UNPAINTED, height + 1, e, number);
     target.is_none()

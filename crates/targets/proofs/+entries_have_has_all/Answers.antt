@@ -58,4 +58,4 @@ has_all-returns t c =
     subst (λ x. Decides c.entries_have.result (BlockHas P a.paint x a.e a.n a.right)) (sym up)
     (table_decides a.paint P (a.height - 1) a.e a.n a.right (omega (arith, c.requires.height_bound.0))
     (lt-ltb a.e 2147483648 c.if-e-ge-BIT_31.false) c.entries_have.result
-    (rw (c.pool_word-table.ensures, c.size_of-size.ensures) at c.entries_have.ensures))
+    (rw (c.from-table.ensures, c.size_of-size.ensures) at c.entries_have.ensures))

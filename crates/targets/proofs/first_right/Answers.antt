@@ -36,7 +36,7 @@ returns-then-height-eq0 c = let a = c.args in
 pub returns : goal.returns
 returns c = let a = c.args in
     let z = start (goal.at.returns c).After-block_words in
-    let at : c.pool_index-k.result ≡ a.e = c.pool_index-k.ensures ∙ ap (λ w. w.0) c.pool_word-table.ensures in
+    let at : c.index.result ≡ a.e = c.index.ensures ∙ ap (λ w. w.0) c.from-table.ensures in
     c.right_at-2.ensures ∙ ap (λ x. right_at (words a.pool.now x) 0) at
     ∙ sym (painted_out a.paint (given (words a.pool.now) a.height a.e) _ (inside_not a.paint _ (λ x y. omega arith))
     ∙ first_leaf (words a.pool.now) a.height a.e a.n (omega arith) (lt-ltb a.e 2147483648 c.if-e-ge-BIT_31.false))
