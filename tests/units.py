@@ -191,7 +191,7 @@ WRONG = [
     ("listing", "let w = pool[entry.index()];", "let w = pool[entry.0];", "taken apart"),
     ("table", "let word = pool[at.index()];", "let word = pool[before as usize];", "load: pool[before as usize]"),
     ("table", "pool[..first_middle.index()].fill(", "pool[..shape.domains as usize].fill(", "fresh: pool[..shape.domains as usize]"),
-    ("plan", "return pool[k];", "return pool[root as usize];", "old_entry: pool[root as usize]"),
+    ("plan", "pool[page.index()]", "pool[root as usize]", "old_entry: pool[root as usize]"),
     ("census", "let w = pool[word.index()];", "let w = pool[word.index() + 1];", "table_check: pool[word.index() + 1]"),
     ("targets", "let w = pool[start + j as usize];", "let w = pool[number + j as usize];",
      "entries_have: pool[number + j as usize]"),

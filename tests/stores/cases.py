@@ -7,14 +7,15 @@ BUFFER, STEPS = "crates/lookaside/src/lib.rt", "crates/gates/src/steps.rt"
 OWNERS, REGIONS = (f"crates/owners/src/{name}.rt" for name in ("lib", "calls"))
 MAIN, SERVING = (f"crates/rights_listing/src/{name}.rt" for name in ("main", "serving"))
 
-ASKED = "let request = plan_request("
-STORE = "    pool[i] = value;"
-SEARCH = "fn next_store(\n    tidies: bool,\n    pool: &[u32]"
-PLANNED = "let ready = plan::plan_change("
-NEXT = "let next = next_store(tidies, pool, shape, owners, plan, from);"
+ASKED = "    plan_request(\n        pool,"
+STORE = "    pool[at.index()] = value;"
+SEARCH = "fn next_store(&self, pool: &[u32], shape: Shape, from: Cursor)"
+GUIDE = "ByPlan { plan: &plan }"
+PLANNED = "if !plan::plan_change("
+NEXT = "guide.next_store(pool, shape, from)"
 PUT = "put(pool, shape, domain, paint, at, value);"
-CHANGED = "make_stores(pool, shape, &owners, &plan, false, allowance)"
-TIDIED = "make_stores(pool, shape, &owners, &plan, true, allowance)"
+CHANGED = "make_stores(pool, shape, domain, paint, &guide, allowance)"
+TIDIED = "make_stores(pool, shape, 0, UNPAINTED, &guide, allowance)"
 FRESH = "table::fresh(&mut pool, serving::shape());"
 LOAD = "let got = load(pool, at, loads);"
 WALK = "let walked = decide(pool, shape, domain, address);"
@@ -38,8 +39,8 @@ WRONG = [
     ("writes a word and writes it back before a change", "handed on",
      [before(CHANGE, ASKED, "let was = pool[0]; pool[0] = 7; pool[0] = was;")]),
     ("writes a word and writes it back in the one store", "one store",
-     [before(CHANGE, STORE, "let was = pool[i]; pool[i] = 7; pool[i] = was;")]),
-    ("adds to a word in the one store", "one store", [(CHANGE, STORE, "    pool[i] += value;")]),
+     [before(CHANGE, STORE, "let was = pool[0]; pool[0] = 7; pool[0] = was;")]),
+    ("adds to a word in the one store", "one store", [(CHANGE, STORE, STORE.replace("=", "+="))]),
     ("makes another change first, where the allowance is the greatest", "the allowance",
      [before(CHANGE, CHANGED, "if allowance == 0xFFFF_FFFF { " + CHANGED + "; }")]),
     ("makes another change first", "called once", [before(CHANGE, CHANGED, CHANGED + ";")]),
@@ -50,20 +51,24 @@ WRONG = [
     ("has a second loop of stores", "the loop",
      [before(CHANGE, "let mut from = START;", "while left == 1 { left -= 1; }")]),
     ("stores another value", "the loop", [(CHANGE, PUT, PUT.replace("value", "value + 1"))]),
-    ("asks for the next store by what is left", "the loop", [(CHANGE, NEXT, NEXT.replace("plan,", "plan, left,"))]),
+    ("asks for the next store by what is left", "the loop", [(CHANGE, NEXT, NEXT.replace("shape,", "shape, left,"))]),
     ("tells the search for the next store the allowance", "the allowance",
-     [(CHANGE, NEXT, NEXT.replace("plan,", "plan, allowance,")),
-      (CHANGE, "    from: Cursor,\n) -> Next", "    allowance: u32,\n    from: Cursor,\n) -> Next")]),
+     [(CHANGE, NEXT, NEXT.replace("shape,", "shape, allowance,")),
+      (CHANGE, SEARCH, SEARCH.replace("from", "allowance: u32, from"))]),
+    ("tells what the search goes by the allowance", "the allowance",
+     [(CHANGE, GUIDE, GUIDE.replace(" }", ", most: allowance }"))]),
+    ("lends the pool to what the search goes by", "handed on", [(CHANGE, GUIDE, GUIDE.replace(" }", ", pool }"))]),
     ("tells the one store what is left", "the allowance",
      [(CHANGE, PUT, PUT.replace("value", "value, left")),
       (CHANGE, "at: PoolWord, value: u32)", "at: PoolWord, value: u32, left: u32)")]),
     ("refuses by the allowance", "the allowance",
-     [before(CHANGE, ASKED, "if allowance == 7 { return Answer::Cut; }")]),
+     [before(CHANGE, ASKED, "if allowance == 7 { return Ok(Ending::Cut); }")]),
     ("knows the allowance by another name", "the allowance", [before(CHANGE, ASKED, "let n = allowance;")]),
     ("stores in the search for the next store", "held",
-     [(CHANGE, SEARCH, SEARCH.replace("&[u32]", "&mut [u32]")), before(CHANGE, "    if tidies {", "pool[0] = 0;")]),
+     [(AHEAD, SEARCH, SEARCH.replace("&[u32]", "&mut [u32]")),
+      before(AHEAD, "next_change(pool, shape, self.plan, from)", "pool[0] = 0;")]),
     ("stores in a search of another file", "one store",
-     [lent(AHEAD, "next_here"), before(AHEAD, "let turn = phase_of(", "pool[0] += 0;")]),
+     [lent(AHEAD, "next_here"), before(AHEAD, "let value = final_word(", "pool[0] += 0;")]),
     ("writes by way of a part of the pool", "held",
      [before(TIDYING, TIDIED, "let part = &mut pool[..]; part[0] = 7;")]),
     ("swaps words by a function of slices", "handed on", [before(CHANGE, ASKED, "pool.swap(0, 1); pool.swap(0, 1);")]),
@@ -80,7 +85,7 @@ WRONG = [
      [(PLAN, "pub fn plan_change(\n    pool: &[u32]", "pub fn plan_change(\n    pool: &mut [u32]")]),
     ("alters a plan that is made", "one store", [before(CHANGE, PLANNED, "plan[1] = 0;")]),
     ("lends a plan to be altered once more", "held",
-     [before(CHANGE, "    match request {", "plan::put_edge(&mut plan, 4, edge);")]),
+     [before(CHANGE, "    let guide = ByPlan", "plan::put_edge(&mut plan, 4, edge);")]),
     ("fills a part of the pool twice", "below",
      [before(TABLE, "fill(&mut pool[roots..], 0);", "fill(&mut pool[roots..], 7);")]),
     ("makes a pool fresh in a tidying", "nobody else", [before(TIDYING, TIDIED, "table::fresh(pool, shape);")]),
@@ -97,10 +102,12 @@ WRONG = [
 # What a harmless source does, and the edits that make it.
 HARMLESS = [
     ("calls what is left by another name", [(CHANGE, "left", "remaining")]),
+    ("calls the parts of the next store by other names",
+     [(CHANGE, "Store { at, value, on })", "Store { at: k, value: v, on: next })"),
+      (CHANGE, PUT, PUT.replace("at, value", "k, v")), (CHANGE, "from = on;", "from = next;")]),
     ("calls the pool of the one store by another name",
      [(CHANGE, "fn put(pool: ", "fn put(held: "), (CHANGE, STORE, STORE.replace("pool", "held"))]),
-    ("calls a request by another name",
-     [(CHANGE, ASKED, ASKED.replace("request", "asked", 1)), (CHANGE, "match request", "match asked")]),
+    ("calls an ending by another name", [(CHANGE, "let ending =", "let end ="), (CHANGE, "Ok(ending)", "Ok(end)")]),
     ("has a store in a comment", [before(CHANGE, ASKED, "// pool[0] = allowance; put(pool) loop\n   ")]),
     ("breaks its lines elsewhere", [(CHANGE, PUT, PUT.replace(", ", ",\n            "))]),
     ("calls the pointer of a buffer by another name", [(BUFFER, "next", "pointer")]),

@@ -155,14 +155,14 @@ READERS = {
 
 # The one loop, token by token, whatever its locals are called. What it asks and gives are names.
 NAMES = r"[\w ,]+"
+FIELD = r"{0}(?: : (?P<{0}>\w+))?"
+BOUND = r"(?({0})(?P={0})|{0})"
 LOOP = (
-    r"(?:let \w+ = plan :: \w+_in \( plan \) ; )*"
-    r"let mut (?P<left>\w+) = allowance ; let mut (?P<at>\w+) = START ; loop \{ "
-    r"let (?P<next>\w+) = next_store \( (?P<asked>" + NAMES + r") , (?P=at) \) ; "
-    r"let Next :: Store \( (?P<word>\w+) , (?P<value>\w+) , (?P<on>\w+) \) = (?P=next) else \{ "
-    r"(?:return Answer :: Done \( allowance - (?P=left) \) ;"
-    r"|let (?P<made>\w+) = allowance - (?P=left) ; return Answer :: Done \( (?P=made) \) ;) \} ; "
-    r"if (?P=left) == 0 \{ return Answer :: Cut ; \} "
-    r"put \( (?P<given>" + NAMES + r") , (?P=word) , (?P=value) \) ; "
-    r"(?P=left) -= 1 ; (?P=at) = (?P=on) ; \}"
+    r"let mut (?P<left>\w+) = allowance ; let mut (?P<from>\w+) = START ; "
+    r"while let Some \( Store \{ " + " , ".join(FIELD.format(field) for field in ("at", "value", "on")) + r" \} \) = "
+    r"guide \. next_store \( (?P<asked>" + NAMES + r") , (?P=from) \) \{ "
+    r"if (?P=left) == 0 \{ return Ending :: Cut ; \} "
+    r"put \( (?P<given>" + NAMES + r") , " + BOUND.format("at") + " , " + BOUND.format("value") + r" \) ; "
+    r"(?P=left) -= 1 ; (?P=from) = " + BOUND.format("on") + r" ; \} "
+    r"Ending :: Done \( allowance - (?P=left) \)"
 )

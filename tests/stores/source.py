@@ -66,10 +66,13 @@ class Function:
         at = tokens.index("(", i)
         k = closing(tokens, at)
         self.parameters = dict(named_type(part) for part in split(tokens[at + 1:k]))
-        while tokens[k] != "{":
-            k = closing(tokens, tokens.index("{", k)) if tokens[k] in ("requires", "ensures") else k
+        k += 1
+        while tokens[k] not in ("{", ";"):
+            k = closing(tokens, tokens.index("{", k)) if tokens[k] in ("ghost", "requires", "ensures") else k
+            k = closing(tokens, k) if tokens[k] in ("(", "[") else k
             k += 1
-        self.end = closing(tokens, k)
+        # A trait's function has no body.
+        self.end = closing(tokens, k) if tokens[k] == "{" else k
         self.body = tokens[k + 1:self.end]
 
     def lent(self):

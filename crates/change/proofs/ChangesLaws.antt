@@ -4,23 +4,23 @@ use Prim.Native.Nat.{ℕ}
 use mathlib.Core.Path.{◌≡◌, refl, sym, ap, ◌∙◌}
 use mathlib.Core.List.{List}
 use native.Mathlib.Omega.{arith}
+use Rattle.std.specs.Prelude.{Result, Ok, Err}
+use Rattle.refusals.specs.declared.Refusal.{Refusal}
 use Rattle.words.specs.Region.{region_of}
 use Rattle.words.specs.declared.Region.{Region}
-use Rattle.words.specs.declared.Rounded.TheVariants.{Covers, Refused as NoRegion}
 use Rattle.table.specs.declared.Shape.{Shape}
 use Rattle.places.proofs.Exists.{finished_fits}
 use Rattle.plan.specs.Aims.{Aim}
-use Rattle.change.specs.declared.Answer.{Answer}
-use Rattle.change.specs.declared.Answer.TheVariants.{Done, Refused}
+use Rattle.change.specs.declared.Ending.{Ending}
+use Rattle.change.specs.declared.Ending.TheVariants.{Done}
 use Rattle.change.specs.Cuts.{differing}
 use Rattle.change.specs.Answers.{ChangesRegion, Changes, no_shape, no_domain, no_right, no_region, in_order}
 use Rattle.change.specs.Answers.{unsound, unsettled, no_room, done, cut}
-use Rattle.change.proofs.AnswerLaws.{done_refused, cut_refused}
 use Rattle.change.proofs.DoneLaws.{one_done, done_not_cut}
 use Rattle.change.proofs.ReachedLaws.{one_cut}
 use Rattle.change.proofs.TidiesLaws.{Agree}
 
-one_from_6 : {p : List ℕ} {s : Shape} {A : Aim} {n : ℕ} {a b : Answer} {x y : List ℕ}
+one_from_6 : {p : List ℕ} {s : Shape} {A : Aim} {n : ℕ} {a b : Result Ending Refusal} {x y : List ℕ}
     → ChangesRegion p s A n a x
     → ChangesRegion p s A n b y → Agree a x b y
 one_from_6 (unsound f) (unsound g) = (refl, refl)
@@ -44,7 +44,7 @@ one_from_6 (done f q h) (unsound g) = absurd (g f.sound)
 one_from_6 (done f q h) (unsettled g k) = absurd (k f)
 one_from_6 {s = s} (done f q h) (no_room g k) = absurd
     (k (finished_fits s h.finished))
-one_from_6 {p = p} (done f q h) (done g x k) = let z = one_done h k in (ap (λ y. Done (differing p y)) z, z)
+one_from_6 {p = p} (done f q h) (done g x k) = let z = one_done h k in (ap (λ y. Ok (Done (differing p y))) z, z)
 one_from_6 (done f q h) (cut g x k) = absurd (done_not_cut h k)
 one_from_6 (cut f q h) (unsound g) = absurd (g f.sound)
 one_from_6 (cut f q h) (unsettled g k) = absurd (k f)
@@ -54,17 +54,17 @@ one_from_6 (cut f q h) (done g x k) = absurd (done_not_cut k h)
 one_from_6 (cut f q h) (cut g x k) = (refl, one_cut h k)
 
 -- A region is rounded in one way.
-pub same_region : (start len : ℕ) {g h : Region} → region_of start len ≡ Covers g → region_of start len ≡ Covers h → g ≡ h
+pub same_region : (start len : ℕ) {g h : Region} → region_of start len ≡ Ok g → region_of start len ≡ Ok h → g ≡ h
 same_region start len e f = cc
 
-same_refusal : (start len : ℕ) {k m : ℕ} → region_of start len ≡ NoRegion k → region_of start len ≡ NoRegion m → k ≡ m
+same_refusal : (start len : ℕ) {k m : Refusal} → region_of start len ≡ Err k → region_of start len ≡ Err m → k ≡ m
 same_refusal start len e f = cc
 
-pub not_both : (start len : ℕ) {g : Region} {k : ℕ} → region_of start len ≡ Covers g → region_of start len ≡ NoRegion k
+pub not_both : (start len : ℕ) {g : Region} {k : Refusal} → region_of start len ≡ Ok g → region_of start len ≡ Err k
     → ⊥
-not_both start len e f = let z : ◌≡◌ {A = ℕ} 0 1 = cc in omega arith
+not_both start len e f = cc
 
-pub one_change : {p : List ℕ} {s : Shape} {d start len r n : ℕ} {a b : Answer} {x y : List ℕ}
+pub one_change : {p : List ℕ} {s : Shape} {d start len r n : ℕ} {a b : Result Ending Refusal} {x y : List ℕ}
     → Changes p s d start len r n a x
     → Changes p s d start len r n b y → Agree a x b y
 one_change (no_shape f) (no_shape g) = (refl, refl)
@@ -86,7 +86,7 @@ one_change (no_region f h t k e) (no_shape g) = absurd (g f)
 one_change (no_region f h t k e) (no_domain g l) = absurd (omega arith)
 one_change (no_region f h t k e) (no_right g l m) = absurd (omega arith)
 one_change {start = start} {len = len} (no_region f h t k e) (no_region g l m j z) =
-    (ap Refused (same_refusal start len e z), refl)
+    (ap Err (same_refusal start len e z), refl)
 one_change {start = start} {len = len} (no_region f h t k e) (in_order g u v) = absurd
     (not_both start len u.region e)
 one_change (in_order g u v) (no_shape f) = absurd (f u.fits)
@@ -99,7 +99,7 @@ one_change {start = start} {len = len} (in_order g u v) (in_order h w z) =
     one_from_6 v (rw e at z)
 
 -- A change looks at start and length through their rounding alone.
-pub rounded_alike : {p : List ℕ} {s : Shape} {d start len start' len' r n : ℕ} {a : Answer} {q : List ℕ}
+pub rounded_alike : {p : List ℕ} {s : Shape} {d start len start' len' r n : ℕ} {a : Result Ending Refusal} {q : List ℕ}
     → region_of start len ≡ region_of start' len' → Changes p s d start len r n a q → Changes p s d start' len' r n a q
 rounded_alike e (no_shape f) = no_shape f
 rounded_alike e (no_domain f h) = no_domain f h
@@ -113,16 +113,16 @@ rounded_alike e (in_order g u v) = in_order g (record {
 }) v
 
 -- A change that is refused leaves the pool as it came.
-region_refused_kept : {p q : List ℕ} {s : Shape} {A : Aim} {n k : ℕ} {c : Answer} → ChangesRegion p s A n c q
-    → c ≡ Refused k → q ≡ p
+region_refused_kept : {p q : List ℕ} {s : Shape} {A : Aim} {n : ℕ} {k : Refusal} {c : Result Ending Refusal} → ChangesRegion p s A n c q
+    → c ≡ Err k → q ≡ p
 region_refused_kept (unsound x) e = refl
 region_refused_kept (unsettled x y) e = refl
 region_refused_kept (no_room x y) e = refl
-region_refused_kept (done x q y) e = absurd (done_refused e)
-region_refused_kept (cut x q y) e = absurd (cut_refused e)
+region_refused_kept (done x q y) e = cc
+region_refused_kept (cut x q y) e = cc
 
-pub change_refused_kept : {p q : List ℕ} {s : Shape} {d start len r n k : ℕ} {c : Answer}
-    → Changes p s d start len r n c q → c ≡ Refused k → q ≡ p
+pub change_refused_kept : {p q : List ℕ} {s : Shape} {d start len r n : ℕ} {k : Refusal} {c : Result Ending Refusal}
+    → Changes p s d start len r n c q → c ≡ Err k → q ≡ p
 change_refused_kept (no_shape x) e = refl
 change_refused_kept (no_domain x y) e = refl
 change_refused_kept (no_right x y z) e = refl

@@ -8,6 +8,8 @@ use mathlib.Core.List.{List}
 use native.Mathlib.Omega.{arith}
 use native.Mathlib.Decide.{ℕ_discrete, dec_lt}
 use lib.ListN.{length, set}
+use Rattle.std.specs.Prelude.{Result, Ok, Err}
+use Rattle.refusals.specs.declared.Refusal.{Refusal}
 use Rattle.theory.specs.Pool.{words, SoundPool}
 use Rattle.theory.specs.Settled.{Settled}
 use Rattle.theory.specs.Check.{refused, met, roots_check}
@@ -16,8 +18,7 @@ use Rattle.theory.proofs.CheckLaws.{roots_check_sound, roots_check_refused}
 use Rattle.theory.proofs.FinishedLaws.{one_finished, finished_words, settled_finished}
 use Rattle.theory.proofs.Logic.{by_cases}
 use Rattle.words.specs.Region.{region_of}
-use Rattle.words.specs.declared.Rounded.{Rounded}
-use Rattle.words.specs.declared.Rounded.TheVariants.{Covers, Refused as NoRegion}
+use Rattle.words.specs.declared.Region.{Region}
 use Rattle.table.specs.declared.Shape.{Shape}
 use Rattle.table.specs.Shape.{Fits, fits_of}
 use Rattle.table.specs.Map.{form_of}
@@ -26,7 +27,7 @@ use Rattle.table.proofs.FormLaws.{lawful, exact}
 use Rattle.table.proofs.WantLaws.{wanting}
 use Rattle.places.proofs.Exists.{fits_dec}
 use Rattle.plan.specs.Aims.{Aim, change_aim, no_aim, aimed_at, Goal}
-use Rattle.change.specs.declared.Answer.{Answer}
+use Rattle.change.specs.declared.Ending.{Ending}
 use Rattle.change.specs.Runs.{phases, At}
 use Rattle.change.specs.Answers.{IsDone, IsCut, ChangesRegion, Changes, Tidies}
 use Rattle.change.specs.Answers.{no_shape, no_domain, no_right, no_region, in_order, unsound, unsettled}
@@ -114,7 +115,7 @@ settled_or s p f sP =
     (same_or (words p) Q (length p))
 
 -- An outcome of a tidying.
-pub tidy_ends : (p : List ℕ) (s : Shape) (n : ℕ) → (a : Answer) × (q : List ℕ) × Tidies p s n a q
+pub tidy_ends : (p : List ℕ) (s : Shape) (n : ℕ) → (a : Result Ending Refusal) × (q : List ℕ) × Tidies p s n a q
 tidy_ends p s n = by_cases (fits_of s (length p))
     (λ e.
     let f = test_fits s (length p) e in
@@ -127,7 +128,7 @@ tidy_ends p s n = by_cases (fits_of s (length p))
 
 -- An outcome of a change, from refusal 6 on ..
 pub region_ends : (p : List ℕ) (s : Shape) (A : Aim) (n : ℕ) → Fits s (length p) → SetsRights s A p
-    → (a : Answer) × (q : List ℕ) × ChangesRegion p s A n a q
+    → (a : Result Ending Refusal) × (q : List ℕ) × ChangesRegion p s A n a q
 region_ends p s A n f r = ⊎_elim
     (λ sP. ⊎_elim
     (λ t. elim (fits_dec s (aimed_at s A (words p))) [
@@ -142,7 +143,7 @@ region_ends p s A n f r = ⊎_elim
     (sound_or s (words p))
 
 -- .. and of any change.
-pub change_ends : (p : List ℕ) (s : Shape) (d start len r n : ℕ) → (a : Answer) × (q : List ℕ)
+pub change_ends : (p : List ℕ) (s : Shape) (d start len r n : ℕ) → (a : Result Ending Refusal) × (q : List ℕ)
     × Changes p s d start len r n a q
 change_ends p s d start len r n = by_cases (fits_of s (length p))
     (λ e.
@@ -156,9 +157,9 @@ change_ends p s d start len r n = by_cases (fits_of s (length p))
     ])
     (λ e. (_, p, no_shape (λ f. true≢false (sym (fits_test s (length p) f) ∙ e))))
   where
-    from_4 : Fits s (length p) → d < s.domains → r ≤ 3 → (g : Rounded) → region_of start len ≡ g
-        → (a : Answer) × (q : List ℕ) × Changes p s d start len r n a q
-    from_4 f bd br (NoRegion k) e = (_, p, no_region f bd br k e)
-    from_4 f bd br (Covers g) e =
+    from_4 : Fits s (length p) → d < s.domains → r ≤ 3 → (g : Result Region Refusal) → region_of start len ≡ g
+        → (a : Result Ending Refusal) × (q : List ℕ) × Changes p s d start len r n a q
+    from_4 f bd br (Err k) e = (_, p, no_region f bd br k e)
+    from_4 f bd br (Ok g) e =
         let (a, q, c) = region_ends p s (change_aim d g r) n f (change_sets s d g r p (omega arith)) in
         (a, q, in_order g (record { fits = f; domain = bd; right = br; region = e }) c)

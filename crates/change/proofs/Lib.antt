@@ -21,4 +21,3 @@ pub mod ChangesLaws
 pub mod EndLaws
 pub mod StoreListLaws
 pub mod SteerLaws
-pub mod AnswerLaws

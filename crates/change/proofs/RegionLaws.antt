@@ -5,6 +5,8 @@ use mathlib.Core.Bool.{Bool, true, false}
 use mathlib.Core.List.{List}
 use native.Mathlib.Omega.{arith}
 use lib.ListN.{length}
+use Rattle.std.specs.Prelude.{Result, Ok, Err}
+use Rattle.refusals.specs.declared.Refusal.{Refusal}
 use Rattle.theory.specs.Pool.{words}
 use Rattle.theory.specs.Settled.{Settled}
 use Rattle.table.specs.declared.Shape.{Shape}
@@ -14,7 +16,6 @@ use Rattle.places.specs.Count.{Room}
 use Rattle.targets.specs.declared.Paint.{Paint}
 use Rattle.words.specs.Region.{region_of}
 use Rattle.words.specs.declared.Region.{Region}
-use Rattle.words.specs.declared.Rounded.TheVariants.{Covers}
 use Rattle.words.proofs.RegionLaws.{region_covering}
 use Rattle.plan.specs.declared.Plan.{Plan}
 use Rattle.plan.specs.Plan.{PlanFits}
@@ -24,11 +25,8 @@ use Rattle.plan.specs.Edges.{PlanReady, PlansChange}
 use Rattle.plan.proofs.PlannedLaws.{planned}
 use Rattle.targets.specs.Paints.{paint_of}
 use Rattle.plan.specs.Aims.{Aim, aim_of, change_aim, aimed_at}
-use Rattle.change.specs.declared.Answer.{Answer}
+use Rattle.change.specs.declared.Ending.{Ending}
 use Rattle.change.specs.declared.Work.TheVariants.{Change}
-use Rattle.change.specs.declared.Request.{Request}
-use Rattle.change.specs.declared.Request.TheVariants.{Refused, Planned as Known}
-use Rattle.change.specs.declared.Answer.TheVariants.{Refused as No}
 use Rattle.change.specs.Answers.{Asked, ChangesRegion, Changes, in_order, done, cut}
 use Rattle.change.specs.Requests.{RegionIs, RequestIs}
 use Rattle.change.specs.Runs.{Ready, Ends, all_made, cut_short}
@@ -64,39 +62,29 @@ module _ (p : List ℕ) (s : Shape) (d : ℕ) (paint : Paint) (r : Bool) (q : Pl
   planning_none e = rw e at z
 
 -- The request of a region that is in order.
-pub request_is : (p : List ℕ) (s : Shape) (d start len r : ℕ) {g : Region} (q : Plan) (t : Request)
+pub request_is : (p : List ℕ) (s : Shape) (d start len r : ℕ) {g : Region} (q : Plan) (t : Result (Unit {0}) Refusal)
     → Asked p s d start len r g → RegionIs p s (change_aim d g r) q t
     → RequestIs p s d start len r q t
-request_is p s d start len r {g} q (Refused k) a f = λ n. in_order g a (f n)
-request_is p s d start len r {g} q Known a (t, y) = (g, a, t, y)
+request_is p s d start len r {g} q (Err k) a f = λ n. in_order g a (f n)
+request_is p s d start len r {g} q (Ok _) a (t, y) = (g, a, t, y)
 
 -- What the end of the loop says of the change.
-pub region_answers : {s : Shape} {A : Aim} {p : List ℕ} {n : ℕ} {a : Answer} {y : List ℕ}
+pub region_answers : {s : Shape} {A : Aim} {p : List ℕ} {n : ℕ} {a : Ending} {y : List ℕ}
     → Settled (form_of s) (words p)
-    → Ends p s A n a y → ChangesRegion p s A n a y
+    → Ends p s A n a y → ChangesRegion p s A n (Ok a) y
 region_answers t (all_made q d) = done t q d
 region_answers t (cut_short x c) = cut t x c
 
--- A request that was refused, and one that was planned.
-module _ {p : List ℕ} {s : Shape} {d start len r : ℕ} where
-  pub request_refused : (q : Plan) {t : Request} {k : ℕ} → RequestIs p s d start len r q t → t ≡ Refused k → (n : ℕ)
-      → Changes p s d start len r n (No k) p
-  request_refused q f e = rw e at f
+-- A request that was planned.
+module _ {p : List ℕ} {s : Shape} {d start len r : ℕ} {q : Plan} (planned : RequestIs p s d start len r q (Ok tt)) where
+  pub request_ready : Ready s (aim_of q.domain q.paint) (Change q) p
+  request_ready = let (g, a, t, y) = planned in subst (λ (z : Aim). Ready s z (Change q) p) y.meant.aim y
 
-  pub request_planned : {q : Plan} {t : Request} → RequestIs p s d start len r q t → t ≡ Known
-      → RequestIs p s d start len r q Known
-  request_planned f e = rw e at f
-
-  pub request_ready : {q : Plan} → RequestIs p s d start len r q Known → Ready s
-      (aim_of q.domain q.paint) (Change q) p
-  request_ready {q} (g, a, t, y) = subst (λ (z : Aim). Ready s z (Change q) p) y.meant.aim y
-
-  pub request_answers : {q : Plan} {n : ℕ} {a : Answer} {y : List ℕ} → RequestIs p s d start len r q Known
-      → Ends p s (aim_of q.domain q.paint) n a y
-      → Changes p s d start len r n a y
-  request_answers (g, a, t, y) e = in_order g a (region_answers t (rw (← y.meant.aim) at e))
+  pub request_answers : {n : ℕ} {a : Ending} {y : List ℕ} → Ends p s (aim_of q.domain q.paint) n a y
+      → Changes p s d start len r n (Ok a) y
+  request_answers e = let (g, a, t, y) = planned in in_order g a (region_answers t (rw (← y.meant.aim) at e))
 
 -- A region that was rounded may be changed.
-pub covers_regular : (start len r : ℕ) (g : Region) → r ≤ 3 → region_of start len ≡ Covers g → Regular (paint_of g r)
+pub covers_regular : (start len r : ℕ) (g : Region) → r ≤ 3 → region_of start len ≡ Ok g → Regular (paint_of g r)
 covers_regular start len r g h e = let c = region_covering start len g e in
     record { some = c.some; below = c.below; right = omega arith }

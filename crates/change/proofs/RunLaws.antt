@@ -2,21 +2,20 @@
 use Prim.Native.Nat.{ℕ, ◌+◌, ◌-◌, ◌≤◌}
 use mathlib.Core.Path.{◌≡◌, sym, ◌∙◌}
 use mathlib.Core.Logic.{◌≢◌}
-use mathlib.Core.Bool.{Bool}
+use mathlib.Core.Bool.{Bool, true, false, false≢true}
 use mathlib.Core.List.{List}
 use native.Mathlib.Omega.{arith}
 use lib.ListN.{length, set, length-set}
+use Rattle.std.proofs.Common.{Option, Some, None, is_some}
 use Rattle.theory.specs.Pool.{words}
 use Rattle.table.specs.declared.Shape.{Shape}
 use Rattle.table.specs.Shape.{Fits}
 use Rattle.plan.specs.Aims.{Aim}
-use Rattle.change.specs.declared.Answer.TheVariants.{Done, Cut}
+use Rattle.change.specs.declared.Ending.TheVariants.{Done, Cut}
 use Rattle.change.specs.declared.Cursor.{Cursor}
-use Rattle.change.specs.declared.Next.{Next}
-use Rattle.change.specs.declared.Next.TheVariants.{Store, None}
+use Rattle.change.specs.declared.Store.{Store}
 use Rattle.change.specs.declared.Work.{Work}
 use Rattle.change.specs.declared.Work.TheVariants.{Change, Tidying}
-use Rattle.words.specs.declared.PoolWord.{PoolWord}
 use Rattle.change.specs.Cuts.{differing, Due}
 use Rattle.change.specs.Runs.{At, Meant, Run, Stands, Follows, Looks, Told, Stores, Wanted, NextIs, NextIn}
 use Rattle.change.specs.Runs.{start, Ready, Ends, all_made, cut_short}
@@ -58,34 +57,27 @@ told_now : (s : Shape) (o : List ℕ) (A : Aim) (w : Work) (old : List ℕ) (Q :
 told_now s o A (Change q) old Q kept n from x left f m h a t = tt
 told_now s o A Tidying old Q kept n from x left f m h a t = owners_now f t (rw (h, m) at a)
 
--- What was found, where it is a store, and where it is none.
-module _ {s : Shape} {w : Work} {x : List ℕ} {c i : ℕ} {r : Next} where
-  pub found_store : {k : PoolWord} {v : ℕ} {on : Cursor} → r ≡ Store k v on → NextIs s w x c i r
-      → Wanted s w x c i k.0 v on
-  found_store e f = rw e at f
-
-  pub found_none : r ≡ None → NextIs s w x c i r → NextIs s w x c i None
-  found_none e f = rw e at f
-
-  -- The same of what was found before word `to`.
-  pub in_store : (to : ℕ) {k : PoolWord} {v : ℕ} {on : Cursor} → r ≡ Store k v on → NextIn s w x c i to r
-      → Wanted s w x c i k.0 v on
-  in_store to e f = rw e at f
-
-  pub in_none : (to : ℕ) → r ≡ None → NextIn s w x c i to r → (u : Run s w) → Stands s w u c i x → Stands s w u c to x
-  in_none to e f = rw e at f
-
 -- Where every run comes to word `i` of phase `c`, its next store is the one from there on.
 module _ {s : Shape} {w : Work} {x : List ℕ} {b m c i : ℕ}
     (comes : (u : Run s w) → Stands s w u b m x → Stands s w u c i x) where
-  pub wanted_from : {k v : ℕ} {on : Cursor} → Wanted s w x c i k v on → Wanted s w x b m k v on
-  wanted_from f = record {
-    inside = f.inside;
-    word = f.word;
-    follows = f.follows;
-    stores = λ u a. f.stores u
-        (comes u a);
-  }
+  wanted_from : {k v : ℕ} {on : Cursor} → Wanted s w x c i k v on → Wanted s w x b m k v on
+  wanted_from f = record { inside = f.inside; word = f.word; follows = f.follows; stores = λ u a. f.stores u (comes u a) }
+
+  -- What is found before word `to` is the next store ..
+  pub found_next : (to : ℕ) (r : Option Store) → true ≡ is_some r → NextIn s w x c i to r → NextIs s w x b m r
+  found_next to (Some t) e f = wanted_from f
+  found_next to None e f = absurd (false≢true (sym e))
+
+  -- .. and that before any later word.
+  pub found_in : (to end : ℕ) (r : Option Store) → true ≡ is_some r → NextIn s w x c i to r → NextIn s w x b m end r
+  found_in to end (Some t) e f = wanted_from f
+  found_in to end None e f = absurd (false≢true (sym e))
+
+  -- Where nothing is found, every run comes to that word.
+  pub passes_on : (to : ℕ) (r : Option Store) → false ≡ is_some r → NextIn s w x c i to r → (u : Run s w)
+      → Stands s w u b m x → Stands s w u c to x
+  passes_on to (Some t) e f = absurd (false≢true e)
+  passes_on to None e f = λ u a. f u (comes u a)
 
 none_left : {s : Shape} {A : Aim} {old : List ℕ} {Q : ℕ → ℕ} {kept : ℕ
     → Bool} {n c k : ℕ} {x : List ℕ} {left : ℕ} → left ≡ 0

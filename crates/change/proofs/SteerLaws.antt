@@ -8,6 +8,8 @@ use native.Mathlib.Omega.{arith}
 use native.Mathlib.Decide.{dec_lt}
 use lib.ListN.{length, take}
 use lib.Seq.{take_all}
+use Rattle.std.specs.Prelude.{Result, Ok}
+use Rattle.refusals.specs.declared.Refusal.{Refusal}
 use Rattle.theory.specs.Pool.{words, SoundPool}
 use Rattle.theory.specs.Settled.{Settled}
 use Rattle.theory.proofs.FinishedLaws.{one_finished}
@@ -20,8 +22,8 @@ use Rattle.table.proofs.WantLaws.{wanting}
 use Rattle.places.specs.Count.{Room}
 use Rattle.places.proofs.Exists.{finished_fits}
 use Rattle.plan.specs.Aims.{Aim, change_aim, no_aim, aimed_at, Goal}
-use Rattle.change.specs.declared.Answer.{Answer}
-use Rattle.change.specs.declared.Answer.TheVariants.{Done, Cut}
+use Rattle.change.specs.declared.Ending.{Ending}
+use Rattle.change.specs.declared.Ending.TheVariants.{Done, Cut}
 use Rattle.change.specs.Cuts.{differing, CutAt}
 use Rattle.change.specs.Runs.{At}
 use Rattle.change.specs.Answers.{IsDone, IsCut, Asked, ChangesRegion, Changes, Tidies}
@@ -85,14 +87,14 @@ module _ (s : Shape) (A : Aim) (old : List ℕ) (Q : ℕ → ℕ) (kept : ℕ �
   ]
 
   -- Whatever comes of the allowance, the first stores of the list were made.
-  makes_done : {n : ℕ} {q : List ℕ} → IsDone s A old n q → Makes old list n (Done (differing old q)) q
+  makes_done : {n : ℕ} {q : List ℕ} → IsDone s A old n q → Makes old list n (Ok (Done (differing old q))) q
   makes_done {n} {q} f = elim (dec_lt n (length list)) [
     | yes i ↦ absurd (done_not_cut f (list_cut n i))
     | no i ↦ (let e = one_done f (list_done n (omega arith)) in
         (omega arith, ap (differing old) e ∙ list_made n (omega arith), e))
   ]
 
-  makes_cut : {n : ℕ} {x : List ℕ} → IsCut s A old n x → Makes old list n Cut x
+  makes_cut : {n : ℕ} {x : List ℕ} → IsCut s A old n x → Makes old list n (Ok Cut) x
   makes_cut {n} f = elim (dec_lt n (length list)) [
     | yes i ↦ (i, one_cut f (list_cut n i))
     | no i ↦ absurd (done_not_cut (list_done n (omega arith)) f)
@@ -104,10 +106,10 @@ module _ {s : Shape} {A : Aim} {p : List ℕ} {l : List OneStore} (a : StoresAre
   prefix_cut = rw a.list (prefix_goal s A p a.finished_pool a.kept a.goal)
 
   -- Done or cut, its first stores were made.
-  pub done_makes : {n : ℕ} {q : List ℕ} → IsDone s A p n q → Makes p l n (Done (differing p q)) q
+  pub done_makes : {n : ℕ} {q : List ℕ} → IsDone s A p n q → Makes p l n (Ok (Done (differing p q))) q
   done_makes = rw a.list (makes_done s A p a.finished_pool a.kept a.goal)
 
-  pub cut_makes : {n : ℕ} {x : List ℕ} → IsCut s A p n x → Makes p l n Cut x
+  pub cut_makes : {n : ℕ} {x : List ℕ} → IsCut s A p n x → Makes p l n (Ok Cut) x
   cut_makes = rw a.list (makes_cut s A p a.finished_pool a.kept a.goal)
 
 -- The stores of a change that has room.
@@ -121,7 +123,7 @@ room_stores s A p r f sP room =
 
 -- From refusal 6 on, the list of stores is empty where the request is refused ..
 module _ {p : List ℕ} {s : Shape} {A : Aim} {n : ℕ} where
-  unsound_makes : {a : Answer} {q : List ℕ} → (SoundPool (form_of s) (words p) → ⊥) → ChangesRegion p s A n a q
+  unsound_makes : {a : Result Ending Refusal} {q : List ℕ} → (SoundPool (form_of s) (words p) → ⊥) → ChangesRegion p s A n a q
       → Makes p [] n a q
   unsound_makes u (unsound g) = (refl, refl)
   unsound_makes u (unsettled g h) = absurd (u g)
@@ -129,7 +131,7 @@ module _ {p : List ℕ} {s : Shape} {A : Aim} {n : ℕ} where
   unsound_makes u (done g q h) = absurd (u g.sound)
   unsound_makes u (cut g q h) = absurd (u g.sound)
 
-  unsettled_makes : {a : Answer} {q : List ℕ} → (Settled (form_of s) (words p) → ⊥) → ChangesRegion p s A n a q
+  unsettled_makes : {a : Result Ending Refusal} {q : List ℕ} → (Settled (form_of s) (words p) → ⊥) → ChangesRegion p s A n a q
       → Makes p [] n a q
   unsettled_makes u (unsound g) = (refl, refl)
   unsettled_makes u (unsettled g h) = (refl, refl)
@@ -137,7 +139,7 @@ module _ {p : List ℕ} {s : Shape} {A : Aim} {n : ℕ} where
   unsettled_makes u (done g q h) = absurd (u g)
   unsettled_makes u (cut g q h) = absurd (u g)
 
-  full_makes : {a : Answer} {q : List ℕ} → (Room s (aimed_at s A (words p)) → ⊥)
+  full_makes : {a : Result Ending Refusal} {q : List ℕ} → (Room s (aimed_at s A (words p)) → ⊥)
       → ChangesRegion p s A n a q
       → Makes p [] n a q
   full_makes u (unsound g) = (refl, refl)
@@ -147,7 +149,7 @@ module _ {p : List ℕ} {s : Shape} {A : Aim} {n : ℕ} where
   full_makes u (cut g q h) = absurd (u (finished_fits s h.cut.finished))
 
   -- .. and else that of its change.
-  room_makes : {l : List OneStore} {a : Answer} {q : List ℕ} → Settled (form_of s) (words p) → StoresAre s A p l
+  room_makes : {l : List OneStore} {a : Result Ending Refusal} {q : List ℕ} → Settled (form_of s) (words p) → StoresAre s A p l
       → ChangesRegion p s A n a q
       → Makes p l n a q
   room_makes t x (unsound g) = absurd (g t.sound)
@@ -158,7 +160,7 @@ module _ {p : List ℕ} {s : Shape} {A : Aim} {n : ℕ} where
 
 -- From refusal 6 on a request has one list of stores for every allowance.
 abbrev RegionMakes : List ℕ → Shape → Aim → List OneStore → Type 0
-RegionMakes p s A l = (n : ℕ) (a : Answer) (q : List ℕ) → ChangesRegion p s A n a q → Makes p l n a q
+RegionMakes p s A l = (n : ℕ) (a : Result Ending Refusal) (q : List ℕ) → ChangesRegion p s A n a q → Makes p l n a q
 
 region_stores : (p : List ℕ) (s : Shape) (A : Aim) → Fits s (length p) → SetsRights s A p
     → (l : List OneStore) × RegionMakes p s A l
@@ -168,7 +170,7 @@ region_stores p s A f r = let (a, q, c) = region_ends p s A 0 f r in go c
         → (l : List OneStore) × RegionMakes p s A l
     with_room t room = let (l, x) = room_stores s A p r f t.sound room in (l, λ n a q c. room_makes t x c)
 
-    go : {a : Answer} {q : List ℕ} → ChangesRegion p s A 0 a q → (l : List OneStore) × RegionMakes p s A l
+    go : {a : Result Ending Refusal} {q : List ℕ} → ChangesRegion p s A 0 a q → (l : List OneStore) × RegionMakes p s A l
     go (unsound u) = ([], λ n a q c. unsound_makes u c)
     go (unsettled g u) = ([], λ n a q c. unsettled_makes u c)
     go (no_room g u) = ([], λ n a q c. full_makes u c)
@@ -177,7 +179,7 @@ region_stores p s A f r = let (a, q, c) = region_ends p s A 0 f r in go c
 
 module _ {p : List ℕ} {s : Shape} {d start len r n : ℕ} where
   -- A request that is not in order up to refusal 5 makes no store ..
-  early_makes : {a : Answer} {q : List ℕ} → ((g : Region) → Asked p s d start len r g → ⊥)
+  early_makes : {a : Result Ending Refusal} {q : List ℕ} → ((g : Region) → Asked p s d start len r g → ⊥)
       → Changes p s d start len r n a q → Makes p [] n a q
   early_makes u (no_shape f) = (refl, refl)
   early_makes u (no_domain f h) = (refl, refl)
@@ -187,7 +189,7 @@ module _ {p : List ℕ} {s : Shape} {d start len r n : ℕ} where
 
   -- .. and one that is makes those of its region.
   asked_makes : (l : List OneStore) (g : Region) → Asked p s d start len r g → RegionMakes p s (change_aim d g r) l
-      → {a : Answer} {q : List ℕ} → Changes p s d start len r n a q → Makes p l n a q
+      → {a : Result Ending Refusal} {q : List ℕ} → Changes p s d start len r n a q → Makes p l n a q
   asked_makes l g x m (no_shape f) = absurd (f x.fits)
   asked_makes l g x m (no_domain f h) = let k = x.domain in absurd (omega arith)
   asked_makes l g x m (no_right f h t) = let k = x.right in absurd (omega arith)
@@ -196,7 +198,7 @@ module _ {p : List ℕ} {s : Shape} {d start len r n : ℕ} where
 
 -- The allowance never steers: a change has one list of stores, and with any allowance the first of them are made.
 abbrev ChangeMakes : List ℕ → Shape → (d start len r : ℕ) → List OneStore → Type 0
-ChangeMakes p s d start len r l = (n : ℕ) (a : Answer) (q : List ℕ) → Changes p s d start len r n a q → Makes p l n a q
+ChangeMakes p s d start len r l = (n : ℕ) (a : Result Ending Refusal) (q : List ℕ) → Changes p s d start len r n a q → Makes p l n a q
 
 pub change_stores : (p : List ℕ) (s : Shape) (d start len r : ℕ) → (l : List OneStore) × ChangeMakes p s d start len r l
 change_stores p s d start len r = let (a, q, c) = change_ends p s d start len r 0 in go c
@@ -204,7 +206,7 @@ change_stores p s d start len r = let (a, q, c) = change_ends p s d start len r 
     none : ((g : Region) → Asked p s d start len r g → ⊥) → (l : List OneStore) × ChangeMakes p s d start len r l
     none u = ([], λ n a q c. early_makes u c)
 
-    go : {a : Answer} {q : List ℕ} → Changes p s d start len r 0 a q → (l : List OneStore)
+    go : {a : Result Ending Refusal} {q : List ℕ} → Changes p s d start len r 0 a q → (l : List OneStore)
         × ChangeMakes p s d start len r l
     go (no_shape f) = none (λ g x. f x.fits)
     go (no_domain f h) = none (λ g x. let k = x.domain in omega arith)
@@ -217,17 +219,17 @@ change_stores p s d start len r = let (a, q, c) = change_ends p s d start len r 
 
 -- The same of a tidying.
 abbrev TidyMakes : List ℕ → Shape → List OneStore → Type 0
-TidyMakes p s l = (n : ℕ) (a : Answer) (q : List ℕ) → Tidies p s n a q → Makes p l n a q
+TidyMakes p s l = (n : ℕ) (a : Result Ending Refusal) (q : List ℕ) → Tidies p s n a q → Makes p l n a q
 
 module _ {p : List ℕ} {s : Shape} {n : ℕ} where
-  refused_tidies : {a : Answer} {q : List ℕ} → (Fits s (length p) → SoundPool (form_of s) (words p) → ⊥)
+  refused_tidies : {a : Result Ending Refusal} {q : List ℕ} → (Fits s (length p) → SoundPool (form_of s) (words p) → ⊥)
       → Tidies p s n a q → Makes p [] n a q
   refused_tidies u (no_shape f) = (refl, refl)
   refused_tidies u (unsound f g) = (refl, refl)
   refused_tidies u (done f g q h) = absurd (u f g)
   refused_tidies u (cut f g q h) = absurd (u f g)
 
-  tidies_makes : {l : List OneStore} {a : Answer} {q : List ℕ} → Fits s (length p) → SoundPool (form_of s) (words p)
+  tidies_makes : {l : List OneStore} {a : Result Ending Refusal} {q : List ℕ} → Fits s (length p) → SoundPool (form_of s) (words p)
       → StoresAre s no_aim p l → Tidies p s n a q
       → Makes p l n a q
   tidies_makes f t x (no_shape g) = absurd (g f)
@@ -245,7 +247,7 @@ tidy_stores p s = let (a, q, c) = tidy_ends p s 0 in go c
         record { finished_pool = Q; kept = kept; goal = g; list = refl } in
         (stores_of s p Q kept, λ n a q c. tidies_makes f t x c)
 
-    go : {a : Answer} {q : List ℕ} → Tidies p s 0 a q → (l : List OneStore) × TidyMakes p s l
+    go : {a : Result Ending Refusal} {q : List ℕ} → Tidies p s 0 a q → (l : List OneStore) × TidyMakes p s l
     go (no_shape f) = ([], λ n a q c. refused_tidies (λ g t. f g) c)
     go (unsound f u) = ([], λ n a q c. refused_tidies (λ g t. u t) c)
     go (done f t q h) = sound_stores f t

@@ -9,6 +9,7 @@ use native.Mathlib.Decide.{dec_lt}
 use lib.ListN.{length, get_or}
 use lib.Dec.{eqb, ltb}
 use borrow.Author.Tests.{lt-ltb, le-ltb, eqb-true}
+use Rattle.std.specs.Prelude.{Option, None}
 use Rattle.theory.specs.Pool.{words, SoundPool, right_of}
 use Rattle.table.specs.declared.Shape.{Shape}
 use Rattle.table.specs.Shape.{Fits, first_middle, first_leaf}
@@ -17,8 +18,6 @@ use Rattle.theory.proofs.Logic.{and_both}
 use Rattle.census.proofs.PlaceLaws.{middle_number}
 use Rattle.census.specs.Tally.{AllPlain}
 use Rattle.census.specs.Census.{Owners}
-use Rattle.targets.specs.declared.Target.{Target}
-use Rattle.targets.specs.declared.Target.TheVariants.{Mixed}
 use Rattle.targets.specs.Targets.{painted, target_of, Gives, Readable}
 use Rattle.targets.proofs.PoolLaws.{root_gives, middle_gives, root_readable, middle_readable}
 use Rattle.targets.proofs.WantedLaws.{unpainted_target}
@@ -32,7 +31,7 @@ use Rattle.change.proofs.TidyingLaws.{tidy_now, tidy_old, between, behind, tidy_
 
 -- The target read from the pool `x` for the block of height `h`, of `size` bytes, that has the number `n` and the
 -- entry `w`.
-abbrev pub ReadTarget : List ℕ → ℕ → ℕ → ℕ → ℕ → Target → Type 0
+abbrev pub ReadTarget : List ℕ → ℕ → ℕ → ℕ → ℕ → Option ℕ → Type 0
 ReadTarget x h w n size t = (R : ℕ → ℕ) → Gives (words x) h w n R → t ≡ target_of (painted no_paint R) h (n * size)
 
 -- Eight rights do not lead.
@@ -52,7 +51,7 @@ module _ (s : Shape) (x : List ℕ) where
     pub root_reads : Fits s (length x) → SoundPool (form_of s) (words x) → Readable x 2 (words x k)
     root_reads f o = rw split at (root_readable s x f o (k / 1024) (k % 1024) (omega arith) (omega arith))
 
-    pub root_aim : (t : Target) → leads 2 (words x k) ≡ true → ReadTarget x 2 (words x k) (k % 1024) 4194304 t
+    pub root_aim : (t : Option ℕ) → leads 2 (words x k) ≡ true → ReadTarget x 2 (words x k) (k % 1024) 4194304 t
         → AimedAt s k x t
     root_aim t l f old goal kept n left a =
         let R = right_of (form_of s) (words x) (k / 1024) in
@@ -61,7 +60,7 @@ module _ (s : Shape) (x : List ℕ) where
         root_becomes s a.cut.sound (tidy_now a) k t b l
         (f R g ∙ unpainted_target no_paint R 2 (k % 1024) (omega arith))
 
-    pub root_passed : leads 2 (words x k) ≡ false → AimedAt s k x Mixed
+    pub root_passed : leads 2 (words x k) ≡ false → AimedAt s k x None
     root_passed l old goal kept n left a = root_stays s a.cut.sound
         (tidy_now a) k b l
 
@@ -80,7 +79,7 @@ module _ (s : Shape) (x : List ℕ) where
         (rw cut_in (low f)) bi) in
         rw w.leads at r
 
-    pub page_aim : (c : Target) → Fits s (length x) → leads 1 (words x (t + i)) ≡ true
+    pub page_aim : (c : Option ℕ) → Fits s (length x) → leads 1 (words x (t + i)) ≡ true
         → ReadTarget x 1 (words x (t + i)) (o % 1024 * 1024 + i) 4096 c
         → AimedAt s (t + i) x c
     page_aim c f l g old goal kept n left a =
@@ -94,7 +93,7 @@ module _ (s : Shape) (x : List ℕ) where
         (behind a o (let z = w.root in omega arith)) (low f) (rw w.leads l)
         (g R v ∙ unpainted_target no_paint R 1 (o % 1024 * 1024 + i) (omega arith)))
 
-    pub page_passed : leads 1 (words x (t + i)) ≡ false → AimedAt s (t + i) x Mixed
+    pub page_passed : leads 1 (words x (t + i)) ≡ false → AimedAt s (t + i) x None
     page_passed l old goal kept n left a =
         let (p, b, e) = w.place in
         page_stays s a.cut.sound (tidy_now a) (t + i) (omega arith)
@@ -115,7 +114,7 @@ module _ (s : Shape) (x : List ℕ) where
   table_owned o t y h = ⊎_elim (λ z. absurd (omega arith)) (λ w. w) y
 
   -- A word that does not lead stays.
-  pub table_passed : (o t i : ℕ) → Table s x o t → i < 1024 → 2147483648 ≤ words x (t + i) → AimedAt s (t + i) x Mixed
+  pub table_passed : (o t i : ℕ) → Table s x o t → i < 1024 → 2147483648 ≤ words x (t + i) → AimedAt s (t + i) x None
   table_passed o t i y bi h = ⊎_elim
       (λ z. root_passed (t + i) (omega arith) (le-ltb _ _ h))
       (λ w. page_passed o t w i bi (le-ltb _ _ h)) y
@@ -175,7 +174,6 @@ place_at s k h = elim (dec_lt k (first_middle s)) [
 -- The census tells the owners of the middle places,
 pub owners_begin : {s : Shape} {p o : List ℕ} → Fits s (length p) → Owners p s o → MiddleOwners s o p
 owners_begin {s} {p} {o} fits own = record {
-  long = own.long;
   only = λ i b j bj w.
       let range = fits.range in
       let l : leads 2 (words p j) ≡ true = rw w
@@ -194,7 +192,6 @@ pub owners_now : {s : Shape} {old o x : List ℕ} {goal : ℕ → ℕ} {kept : �
     → MiddleOwners s o old
     → TidyAt s old goal kept n k x left → MiddleOwners s o x
 owners_now {s} {old} {o} {x} {goal} fits own a = record {
-  long = own.long;
   only = λ i b j bj w. own.only i b j bj (⊎_elim
       (λ e. sym e ∙ w)
       (λ e.

@@ -8,6 +8,7 @@ use native.Mathlib.Omega.{arith}
 use native.Mathlib.Decide.{dec_lt}
 use lib.Dec.{ltb}
 use borrow.Author.Tests.{lt-ltb, le-ltb}
+use Rattle.std.specs.Prelude.{Option}
 use Rattle.theory.specs.Pool.{SoundPool, Visits, here, next, entry, right_of}
 use Rattle.theory.specs.Finished.{Finished}
 use Rattle.theory.specs.Stores.{Kept, top, down}
@@ -23,7 +24,6 @@ use Rattle.table.specs.Map.{addresses, index, leads, zone, form_of}
 use Rattle.table.specs.Wants.{wants_of, said_of}
 use Rattle.table.proofs.FormLaws.{lawful, exact, leads_place}
 use Rattle.table.proofs.WantLaws.{wants_divided, divided_wants, wants_says, says_said, wanting, pool_rights}
-use Rattle.targets.specs.declared.Target.{Target}
 use Rattle.targets.specs.Targets.{target_of}
 use Rattle.targets.proofs.TargetLaws.{wanted_mixed, unwanted_said}
 use Rattle.change.specs.Tidying.{Becomes}
@@ -62,7 +62,7 @@ module _ (s : Shape) {P Q : ℕ → ℕ} (sP : SoundPool (form_of s) P)
         (says_at (form_of s) (lawful s) Q f.settled.sound d a (suc h) j bd v l)))
 
     -- The target of a word that leads tells what it becomes.
-    pub target_becomes : (t : Target) → t ≡ target_of R (suc h) a → leads (suc h) (P j) ≡ true → Becomes t (P j) (Q j)
+    pub target_becomes : (t : Option ℕ) → t ≡ target_of R (suc h) a → leads (suc h) (P j) ≡ true → Becomes t (P j) (Q j)
     target_becomes t e l = by_cases (wants_of R (suc h) a)
         (λ w. rw (e ∙ wanted_mixed R (suc h) a w) (wanted_stays w))
         (λ w. rw (e ∙ unwanted_said R (suc h) a w) (
@@ -72,7 +72,7 @@ module _ (s : Shape) {P Q : ℕ → ℕ} (sP : SoundPool (form_of s) P)
         ))
 
   -- A root word, for its block.
-  pub root_becomes : (k : ℕ) (t : Target) → k < first_middle s → leads 2 (P k) ≡ true
+  pub root_becomes : (k : ℕ) (t : Option ℕ) → k < first_middle s → leads 2 (P k) ≡ true
       → t ≡ target_of (right_of (form_of s) P (k / 1024)) 2 (k % 1024 * 4194304) → Becomes t (P k) (Q k)
   root_becomes k t b l e =
       let a = k % 1024 * 4194304 in
@@ -81,7 +81,7 @@ module _ (s : Shape) {P Q : ℕ → ℕ} (sP : SoundPool (form_of s) P)
       target_becomes (k / 1024) a (omega arith) (omega arith) v t e l
 
   -- A word of the middle table to which the root word `o`, which stays, leads, for its page.
-  pub page_becomes : (o i : ℕ) (t : Target) → o < first_middle s → i < 1024 → P o ≡ Q o → leads 2 (P o) ≡ true
+  pub page_becomes : (o i : ℕ) (t : Option ℕ) → o < first_middle s → i < 1024 → P o ≡ Q o → leads 2 (P o) ≡ true
       → leads 1 (P (P o + i)) ≡ true
       → t ≡ target_of (right_of (form_of s) P (o / 1024)) 1 ((o % 1024 * 1024 + i) * 4096) → Becomes t (P (P o + i))
       (Q (P o + i))

@@ -9,6 +9,7 @@ use native.Mathlib.Omega.{arith}
 use native.Mathlib.Decide.{ℕ_discrete}
 use lib.Dec.{ltb}
 use borrow.Author.Tests.{lt-ltb, le-ltb, eq-eqb}
+use Rattle.std.specs.Prelude.{Option, Some, None}
 use Rattle.theory.specs.Pool.{words, right_of}
 use Rattle.theory.specs.Finished.{Finished}
 use Rattle.theory.specs.Phase.{midway}
@@ -17,8 +18,6 @@ use Rattle.table.specs.declared.Shape.{Shape}
 use Rattle.table.specs.Map.{form_of}
 use Rattle.table.proofs.FormLaws.{lawful, exact}
 use Rattle.table.proofs.WantLaws.{wanting}
-use Rattle.targets.specs.declared.Target.{Target}
-use Rattle.targets.specs.declared.Target.TheVariants.{Says, Mixed}
 use Rattle.plan.specs.Aims.{no_aim}
 use Rattle.change.specs.declared.Work.TheVariants.{Tidying}
 use Rattle.change.specs.Runs.{phases, Run, Stands, Stores}
@@ -91,7 +90,7 @@ module _ (s : Shape) (u : Run s Tidying) {x : List ℕ} where
   of_tidying a = rw u.meant a
 
   -- The word stays,
-  pub aim_passes : (k : ℕ) (t : Target) → t ≡ Mixed → AimedAt s k x t → Stands s Tidying u 1 k x
+  pub aim_passes : (k : ℕ) (t : Option ℕ) → t ≡ None → AimedAt s k x t → Stands s Tidying u 1 k x
       → Stands s Tidying u 1 (k + 1) x
   aim_passes k t e f b =
       let a = as_tidying b in
@@ -99,10 +98,10 @@ module _ (s : Shape) (u : Run s Tidying) {x : List ℕ} where
       of_tidying (tidy_to a (k + 1) (omega arith) (λ j lo hi. let z : j ≡ k = omega arith in rw z stays))
 
   -- or is stored.
-  pub aim_stores : (k v : ℕ) (t : Target) → t ≡ Says v → AimedAt s k x t → Stands s Tidying u 1 k x
+  pub aim_stores : (k v : ℕ) (t : Option ℕ) → t ≡ Some v → AimedAt s k x t → Stands s Tidying u 1 k x
       → Stores s Tidying u x 1 k v
   aim_stores k v t e f b =
       let a = as_tidying b in
-      let (g, w) : Becomes (Says v) (words x k) (u.goal k) = rw e
+      let (g, w) : Becomes (Some v) (words x k) (u.goal k) = rw e
       at (f u.old u.goal u.kept u.allowance u.left a) in
       record { at = b; phase = here_first a (λ z. w (sym z ∙ g)); value = sym g; differs = w }

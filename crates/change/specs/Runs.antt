@@ -1,20 +1,18 @@
 -- A change or a tidying that is running: where it stands, which store it makes next, and how it ends. For the inner
 -- functions.
-use Rattle.std.specs.Prelude.{ℕ, ◌+◌, ◌*◌, ◌≤◌, ◌<◌, ◌≡◌, ◌≢◌, Bool, true, false, List, length, get_or}
+use Rattle.std.specs.Prelude.{ℕ, ◌+◌, ◌*◌, ◌≤◌, ◌<◌, ◌≡◌, ◌≢◌, Bool, List, Option, Some, None, length, get_or}
 use Rattle.theory.specs.Pool.{words, SoundPool}
 use Rattle.theory.specs.Phase.{phase, midway}
 use Rattle.table.specs.declared.Shape.{Shape}
 use Rattle.table.specs.Shape.{Fits, first_middle}
 use Rattle.table.specs.Map.{form_of}
-use Rattle.census.specs.Places.{max_places}
-use Rattle.plan.specs.Plan.{PlanFits, plan_in}
+use Rattle.plan.specs.Plan.{PlanFits}
 use Rattle.plan.specs.Aims.{Aim, no_aim, Goal}
 use Rattle.plan.specs.Goals.{Planned}
-use Rattle.change.specs.declared.Answer.{Answer}
-use Rattle.change.specs.declared.Answer.TheVariants.{Done, Cut}
+use Rattle.change.specs.declared.Ending.{Ending}
+use Rattle.change.specs.declared.Ending.TheVariants.{Done, Cut}
 use Rattle.change.specs.declared.Cursor.{Cursor}
-use Rattle.change.specs.declared.Next.{Next}
-use Rattle.change.specs.declared.Next.TheVariants.{Store, None}
+use Rattle.change.specs.declared.Store.{Store}
 use Rattle.change.specs.declared.Work.{Work}
 use Rattle.change.specs.declared.Work.TheVariants.{Change, Tidying}
 use Rattle.change.specs.Cuts.{differing, CutAt}
@@ -33,11 +31,6 @@ pub record At (s : Shape) (A : Aim) (old : List ℕ) (Q : ℕ → ℕ) (kept : �
   pub done : ℕ
   pub sum : left + done ≡ n
   pub cut : CutAt s A old done x
-
--- The work that is made: a tidying, or the change whose plan the words say.
-abbrev pub work_in : Bool → List ℕ → Work
-work_in true l = Tidying
-work_in false l = Change (plan_in l)
 
 -- The work is that of the aim and the goal: a change by its plan, and a tidying aims at nothing.
 abbrev pub Meant : Shape → Aim → Work → List ℕ → (ℕ → ℕ) → (ℕ → Bool) → Type 0
@@ -76,7 +69,6 @@ OnlyFrom s x owner t = (j : ℕ) → j < first_middle s → words x j ≡ t → 
 
 -- No root word but its owner leads to a middle place.
 pub record MiddleOwners (s : Shape) (o x : List ℕ) : Type 0 where
-  pub long : length o ≡ max_places
   pub only : (p : ℕ) → p < s.middles → OnlyFrom s x (get_or o p 0) (first_middle s + 1024 * p)
 
 -- What a work is told of the owners of places: a tidying those of the middle places; a change has its plan.
@@ -101,14 +93,14 @@ pub record Wanted (s : Shape) (w : Work) (x : List ℕ) (c i k v : ℕ) (on : Cu
 
 -- The next store of the work from word `i` of phase `c` on; or there is none, and every run that stands there has
 -- finished.
-abbrev pub NextIs : Shape → Work → List ℕ → ℕ → ℕ → Next → Type 0
-NextIs s w x c i (Store k v on) = Wanted s w x c i k.0 v on
+abbrev pub NextIs : Shape → Work → List ℕ → ℕ → ℕ → Option Store → Type 0
+NextIs s w x c i (Some t) = Wanted s w x c i t.at.0 t.value t.on
 NextIs s w x c i None = (r : Run s w) → Stands s w r c i x → (j : ℕ) → words x j ≡ r.goal j
 
 -- The next store of the work from word `i` of phase `c` on; or there is none before word `to`, and every run that
 -- stands there comes to it.
-abbrev pub NextIn : Shape → Work → List ℕ → ℕ → ℕ → ℕ → Next → Type 0
-NextIn s w x c i to (Store k v on) = Wanted s w x c i k.0 v on
+abbrev pub NextIn : Shape → Work → List ℕ → ℕ → ℕ → ℕ → Option Store → Type 0
+NextIn s w x c i to (Some t) = Wanted s w x c i t.at.0 t.value t.on
 NextIn s w x c i to None = (r : Run s w) → Stands s w r c i x → Stands s w r c to x
 
 -- Where every run begins.
@@ -125,6 +117,6 @@ pub record Ready (s : Shape) (A : Aim) (w : Work) (x : List ℕ) : Type 0 where
   pub follows : Follows w start (length x)
 
 -- A change or a tidying of `p` with the allowance `n` is done, with the count, or cut.
-pub data Ends (p : List ℕ) (s : Shape) (A : Aim) (n : ℕ) : Answer → List ℕ → Type 0 where
+pub data Ends (p : List ℕ) (s : Shape) (A : Aim) (n : ℕ) : Ending → List ℕ → Type 0 where
   all_made : (q : List ℕ) → IsDone s A p n q → Ends p s A n (Done (differing p q)) q
   cut_short : (x : List ℕ) → IsCut s A p n x → Ends p s A n Cut x

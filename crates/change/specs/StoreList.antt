@@ -1,12 +1,13 @@
 -- The stores of a change or a tidying as a list: which words, in which order, and what each is to hold.
-use Rattle.std.specs.Prelude.{ℕ, zero, suc, ◌+◌, ◌≤◌, ◌<◌, ◌≡◌, Bool, not, cond, ◌&&◌, List, [], ◌∷◌, ◌++◌, eqb, length, set, take}
+use Rattle.std.specs.Prelude.{ℕ, zero, suc, ◌+◌, ◌≤◌, ◌<◌, ◌≡◌, Bool, not, cond, ◌&&◌, Result, Ok, Err, List, [], ◌∷◌, ◌++◌, eqb, length, set, take}
+use Rattle.refusals.specs.declared.Refusal.{Refusal}
 use Rattle.theory.specs.Pool.{words}
 use Rattle.theory.specs.Phase.{phase}
 use Rattle.table.specs.declared.Shape.{Shape}
 use Rattle.table.specs.Map.{form_of}
 use Rattle.plan.specs.Aims.{Aim, Goal}
-use Rattle.change.specs.declared.Answer.{Answer}
-use Rattle.change.specs.declared.Answer.TheVariants.{Done, Cut, Refused}
+use Rattle.change.specs.declared.Ending.{Ending}
+use Rattle.change.specs.declared.Ending.TheVariants.{Done, Cut}
 
 -- One store: a word of the pool, and what it is to hold.
 pub record OneStore : Type 0 where
@@ -46,7 +47,7 @@ pub record StoresAre (s : Shape) (A : Aim) (old : List ℕ) (l : List OneStore) 
 
 -- With the allowance `n`, the first `n` stores of the list were made, or all; done is all of them, with their number,
 -- and cut is fewer. A refusal has none.
-abbrev pub Makes : List ℕ → List OneStore → ℕ → Answer → List ℕ → Type 0
-Makes p l n (Refused k) q = (l ≡ []) × (q ≡ p)
-Makes p l n (Done k) q = (length l ≤ n) × (k ≡ length l) × (q ≡ stored p l)
-Makes p l n Cut q = (n < length l) × (q ≡ stored p (take n l))
+abbrev pub Makes : List ℕ → List OneStore → ℕ → Result Ending Refusal → List ℕ → Type 0
+Makes p l n (Err k) q = (l ≡ []) × (q ≡ p)
+Makes p l n (Ok (Done k)) q = (length l ≤ n) × (k ≡ length l) × (q ≡ stored p l)
+Makes p l n (Ok Cut) q = (n < length l) × (q ≡ stored p (take n l))

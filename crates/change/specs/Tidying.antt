@@ -1,11 +1,9 @@
 -- What a tidying does with a word, and whose a table is. It makes the stores of the first phase alone. For the inner
 -- functions.
-use Rattle.std.specs.Prelude.{ℕ, ◌*◌, ◌+◌, ◌≤◌, ◌<◌, ◌≡◌, ◌≢◌, ◌⊎◌, Bool, List}
+use Rattle.std.specs.Prelude.{ℕ, ◌*◌, ◌+◌, ◌≤◌, ◌<◌, ◌≡◌, ◌≢◌, ◌⊎◌, Bool, List, Option, Some, None}
 use Rattle.theory.specs.Pool.{words}
 use Rattle.table.specs.declared.Shape.{Shape}
 use Rattle.table.specs.Shape.{first_middle}
-use Rattle.targets.specs.declared.Target.{Target}
-use Rattle.targets.specs.declared.Target.TheVariants.{Says, Mixed}
 use Rattle.change.specs.Runs.{At}
 use Rattle.plan.specs.Aims.{no_aim}
 
@@ -14,12 +12,12 @@ abbrev pub TidyAt : Shape → List ℕ → (ℕ → ℕ) → (ℕ → Bool) → 
 TidyAt s old goal kept n k x left = At s no_aim old goal kept n 1 k x left
 
 -- By its target, a word that holds `w` and is to hold `g` changes to rights, or stays.
-abbrev pub Becomes : Target → ℕ → ℕ → Type 0
-Becomes (Says v) w g = (g ≡ v) × (w ≢ v)
-Becomes Mixed w g = g ≡ w
+abbrev pub Becomes : Option ℕ → ℕ → ℕ → Type 0
+Becomes (Some v) w g = (g ≡ v) × (w ≢ v)
+Becomes None w g = g ≡ w
 
 -- For every tidying that has come to word `k` of the pool `x`, the word is to become what the target says.
-abbrev pub AimedAt : Shape → ℕ → List ℕ → Target → Type 0
+abbrev pub AimedAt : Shape → ℕ → List ℕ → Option ℕ → Type 0
 AimedAt s k x t =
     (old : List ℕ) (goal : ℕ → ℕ) (kept : ℕ → Bool) (n left : ℕ) → TidyAt s old goal kept n k x left
     → Becomes t (words x k) (goal k)

@@ -1,12 +1,13 @@
 // Which store a change makes next. A plan changes words of few tables, and between them there is nothing to do.
-ghost use Rattle.std.specs.Prelude.{◌+◌, ◌<◌, ◌≤◌, length};
+ghost use Rattle.std.specs.Prelude.{◌+◌, ◌<◌, ◌≤◌, [], length};
 ghost use Rattle.places.specs.Count.{heights, blocks};
 ghost use Rattle.plan.specs.Plan.{PlanFits, plan_in};
+ghost use Rattle.change.specs.declared.Work.TheVariants.{Change};
 ghost use Rattle.change.specs.Runs.{Looks, NextIs, NextIn};
 ghost use Rattle.change.specs.Ahead.{Ahead, Outside, EntriesIdle, TableIdle, NotNew, HighIdle, LowIdle, NewIdle};
 ghost use Rattle.change.specs.Ahead.{Idle, EntriesBefore, NextRow, PlainWords};
 
-use crate::{Cursor, Next, Work, final_word, phase_of};
+use crate::{Cursor, Guide, Store, Work, final_word, phase_of};
 use plan::{Edge, PLAN_WORDS};
 use table::{ROOT, Shape, TABLE_WORDS};
 use words::PoolWord;
@@ -24,34 +25,21 @@ fn nearer(k: PoolWord, start: PoolWord, past: PoolWord, best: Span) -> Span
     requires { k.0 ≤ best.from.0 }
     ensures { Ahead k.0 best (Outside start.0 past.0) result }
 {
-    let here = words::pool_index(k);
-    let first = words::pool_index(start);
-    let end = words::pool_index(past);
-    let limit = words::pool_index(best.from);
-    if end <= here {
+    let here = k.index();
+    let first = start.index();
+    let end = past.index();
+    if end <= here || end <= first || best.from.index() <= first {
         return best;
     }
-    if end <= first {
-        return best;
-    }
-    if limit <= first {
-        return best;
-    }
-    if first <= here {
-        return Span { from: k, past };
-    }
-    Span { from: start, past }
+    let from = if first <= here { k } else { start };
+    Span { from, past }
 }
 
 // How many of the `size` entries from the one numbered `begin` on come before entry `n`.
 fn entries_before(size: u32, begin: u32, n: u32) -> u32
     ensures { EntriesBefore size begin n result }
 {
-    if n <= begin {
-        return 0;
-    }
-    let k = n - begin;
-    if k < size { k } else { size }
+    n.saturating_sub(begin).min(size)
 }
 
 // Of a table that stays, whose first entry has the number `begin` in the domain, the entries that the region meets.
@@ -68,17 +56,16 @@ fn near_entries(
     ensures { Ahead k.0 best (EntriesIdle (plan_in plan.now) height begin table.0) result }
 {
     let paint = plan::paint_in(plan);
-    let lo = paint.lo;
-    let hi = paint.hi;
     let size = table::size_of(height);
     let long = table::block_words(height);
-    let met = lo / long;
-    let last = (hi - 1) / long;
-    let first = entries_before(size, begin, met);
-    let past = entries_before(size, begin, last + 1);
-    let start = words::word_after(table, first as usize);
-    let end = words::word_after(table, past as usize);
-    nearer(k, start, end, best)
+    let first = entries_before(size, begin, paint.lo / long);
+    let past = entries_before(size, begin, (paint.hi - 1) / long + 1);
+    nearer(
+        k,
+        table.after(first as usize),
+        table.after(past as usize),
+        best,
+    )
 }
 
 // Of the table of an edge, if it stays.
@@ -87,19 +74,11 @@ fn near_table(plan: &[u32; PLAN_WORDS], height: u32, edge: Edge, k: PoolWord, be
     requires height_lt_heights { (height < heights) × (edge.number < blocks height) }
     ensures { Ahead k.0 best (TableIdle (plan_in plan.now) height edge) result }
 {
-    let number = edge.number;
-    let last = edge.last;
-    let old = edge.old;
-    if last >= words::BIT_31 {
+    if edge.last >= words::BIT_31 || edge.old >= words::BIT_31 {
         return best;
     }
-    if old >= words::BIT_31 {
-        return best;
-    }
-    let size = table::size_of(height);
-    let begin = size * number;
-    let begins = words::pool_word(last);
-    near_entries(plan, height, begin, begins, k, best)
+    let begin = table::size_of(height) * edge.number;
+    near_entries(plan, height, begin, PoolWord::from(edge.last), k, best)
 }
 
 // A new table of a height.
@@ -107,18 +86,12 @@ fn near_new(height: u32, edge: Edge, k: PoolWord, best: Span) -> Span
     requires { k.0 ≤ best.from.0 }
     ensures { Ahead k.0 best (NotNew height edge) result }
 {
-    let last = edge.last;
-    let old = edge.old;
-    if last >= words::BIT_31 {
+    if edge.last >= words::BIT_31 || edge.old < words::BIT_31 {
         return best;
     }
-    if old < words::BIT_31 {
-        return best;
-    }
-    let size = table::size_of(height);
-    let begins = words::pool_word(last);
-    let end = words::word_after(begins, size as usize);
-    nearer(k, begins, end, best)
+    let begin = PoolWord::from(edge.last);
+    let end = begin.after(table::size_of(height) as usize);
+    nearer(k, begin, end, best)
 }
 
 // The first row from `k` on, and before `best`, of the root and the middle tables that stay.
@@ -127,7 +100,7 @@ fn next_high(plan: &[u32; PLAN_WORDS], k: PoolWord, best: Span) -> Span
     ensures { Ahead k.0 best (HighIdle (plan_in plan.now)) result }
 {
     let blocks = plan::ends_in(plan, 1);
-    let root = words::pool_word(TABLE_WORDS * plan::domain_in(plan));
+    let root = PoolWord::from(TABLE_WORDS * plan::domain_in(plan));
     let one = near_entries(plan, ROOT, 0, root, k, best);
     let two = near_table(plan, 1, blocks.first, k, one);
     near_table(plan, 1, blocks.last, k, two)
@@ -162,14 +135,11 @@ fn next_in(plan: &[u32; PLAN_WORDS], c: u32, k: PoolWord, none: Span) -> Span
     requires { PlanFits (plan_in plan.now) × (k.0 ≤ none.from.0) }
     ensures { Ahead k.0 none (Idle (plan_in plan.now) c) result }
 {
-    if c == 2 {
-        return next_new(plan, k, none);
+    match c {
+        1 => next_high(plan, k, none),
+        2 => next_new(plan, k, none),
+        _ => next_low(plan, k, next_high(plan, k, none)),
     }
-    let high = next_high(plan, k, none);
-    if c == 1 {
-        return high;
-    }
-    next_low(plan, k, high)
 }
 
 // The row after the cursor's that has something to do; past the last word, which `end` follows, the next phase begins.
@@ -177,61 +147,49 @@ fn next_row(plan: &[u32; PLAN_WORDS], at: Cursor, end: PoolWord) -> Cursor
     requires { PlanFits (plan_in plan.now) × (at.past.0 ≤ end.0) × (end.0 < 4294967296) × (at.phase < 4) }
     ensures { NextRow (plan_in plan.now) at end.0 result }
 {
-    let phase = at.phase;
     let k = at.past;
-    let here = words::pool_index(k);
-    let n = words::pool_index(end);
-    if here == n {
+    if k == end {
         return Cursor {
-            phase: phase + 1,
+            phase: at.phase + 1,
             word: words::FIRST_WORD,
             past: words::FIRST_WORD,
         };
     }
-    let row = next_in(
-        plan,
-        phase,
-        k,
-        Span {
-            from: end,
-            past: end,
-        },
-    );
-    let word = row.from;
-    let past = row.past;
-    let stop = words::pool_index(past);
-    if stop < n {
-        return Cursor { phase, word, past };
-    }
-    Cursor {
-        phase,
-        word,
+    let none = Span {
+        from: end,
         past: end,
+    };
+    let row = next_in(plan, at.phase, k, none);
+    let past = if row.past.index() < end.index() {
+        row.past
+    } else {
+        end
+    };
+    Cursor {
+        phase: at.phase,
+        word: row.from,
+        past,
     }
 }
 
 // The store at the cursor's word, if the word changes in this phase.
-fn next_here(pool: &[u32], shape: Shape, plan: &[u32; PLAN_WORDS], at: Cursor) -> Next
+fn next_here(pool: &[u32], shape: Shape, plan: &[u32; PLAN_WORDS], at: Cursor) -> Option<Store>
     requires { Looks shape (Work.Change (plan_in plan.now)) at pool.now × (at.word.0 < at.past.0) }
     ensures { NextIn shape (Work.Change (plan_in plan.now)) pool.now at.phase
         at.word.0 (at.word.0 + 1) result }
 {
-    let phase = at.phase;
     let k = at.word;
-    let past = at.past;
-    let i = words::pool_index(k);
-    let x = pool[i];
+    let x = pool[k.index()];
     // The phase is asked last: it looks for new tables at all four edges, and most words stay as they are.
     let value = final_word(plan, k, x);
-    if value == x {
-        return Next::None;
+    if value == x || phase_of(shape, plan, k, x) != at.phase {
+        return None;
     }
-    let turn = phase_of(shape, plan, k, x);
-    if turn != phase {
-        return Next::None;
-    }
-    let word = words::word_after(k, 1);
-    Next::Store(k, value, Cursor { phase, word, past })
+    let on = Cursor {
+        word: k.after(1),
+        ..at
+    };
+    Some(Store { at: k, value, on })
 }
 
 // How many of the `count` words from `from` on have nothing to do in a phase, since they are eight rights: in the first
@@ -240,50 +198,66 @@ fn plain_words(pool: &[u32], phase: u32, from: PoolWord, count: usize) -> usize
     requires { from.0 + count ≤ length pool.now }
     ensures { PlainWords pool.now phase from.0 count result }
 {
-    if phase != 1 {
-        return 0;
+    if phase == 1 {
+        words::skip_rights(pool, from, count)
+    } else {
+        0
     }
-    words::skip_rights(pool, from, count)
 }
 
 // The next store in the cursor's row.
-fn next_in_row(pool: &[u32], shape: Shape, plan: &[u32; PLAN_WORDS], at: Cursor) -> Next
+fn next_in_row(pool: &[u32], shape: Shape, plan: &[u32; PLAN_WORDS], at: Cursor) -> Option<Store>
     requires { Looks shape (Work.Change (plan_in plan.now)) at pool.now }
     ensures { NextIn shape (Work.Change (plan_in plan.now)) pool.now at.phase
         at.word.0 at.past.0 result }
 {
-    let phase = at.phase;
-    let past = at.past;
-    let first = at.word;
-    let count = words::pool_index(past) - words::pool_index(first);
-    let plain = plain_words(pool, phase, first, count);
-    let mut left = count - plain;
-    let mut word = words::word_after(first, plain);
-    while 0 < left {
-        let next = next_here(pool, shape, plan, Cursor { phase, word, past });
-        let Next::None = next else {
+    let count = at.past.index() - at.word.index();
+    for i in plain_words(pool, at.phase, at.word, count)..count {
+        let word = at.word.after(i);
+        let next = next_here(pool, shape, plan, Cursor { word, ..at });
+        if next.is_some() {
             return next;
-        };
-        word = words::word_after(word, 1);
-        left -= 1;
+        }
     }
-    Next::None
+    None
 }
 
 // The next store of a change: row by row, and phase by phase.
-pub fn next_change(pool: &[u32], shape: Shape, plan: &[u32; PLAN_WORDS], from: Cursor) -> Next
+pub fn next_change(
+    pool: &[u32],
+    shape: Shape,
+    plan: &[u32; PLAN_WORDS],
+    from: Cursor,
+) -> Option<Store>
     requires { Looks shape (Work.Change (plan_in plan.now)) from pool.now }
     ensures { NextIs shape (Work.Change (plan_in plan.now)) pool.now from.phase
         from.word.0 result }
 {
-    let end = words::pool_word(pool.len() as u32);
+    let end = PoolWord::from(pool.len() as u32);
     let mut at = from;
+    // A `while`, since rows are of any length, and a phase may have few.
     while at.phase < 4 {
         let next = next_in_row(pool, shape, plan, at);
-        let Next::None = next else {
+        if next.is_some() {
             return next;
-        };
+        }
         at = next_row(plan, at, end);
     }
-    Next::None
+    None
+}
+
+// What a change goes by: its plan.
+#[derive(Clone, Copy)]
+pub struct ByPlan<'a> {
+    pub plan: &'a [u32; PLAN_WORDS],
+}
+
+impl Guide for ByPlan<'_> {
+    ghost work = { λ g. Change (plan_in g.plan.now) };
+
+    ghost owners = { λ g. [] };
+
+    fn next_store(&self, pool: &[u32], shape: Shape, from: Cursor) -> Option<Store> {
+        next_change(pool, shape, self.plan, from)
+    }
 }

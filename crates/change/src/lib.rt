@@ -1,40 +1,42 @@
 // Changes and tidyings: a plan in lent words, stores that each leave a safe pool, a cut wherever the allowance ends.
 #![tactic(auto)]
 
-ghost use Rattle.std.specs.Prelude.{◌≡◌, ℕ, ◌+◌, ◌-◌, ◌<◌, ◌≤◌, List, true, length, length as list_length, set};
+ghost use Rattle.std.specs.Prelude.{◌≡◌, ℕ, ◌+◌, ◌-◌, ◌<◌, ◌≤◌, List, true, length, set, unwrap_or};
 ghost use Rattle.table.specs.Shape.{Fits, InRange};
-ghost use Rattle.census.specs.Places.{max_places};
 ghost use Rattle.places.specs.Count.{heights, blocks};
 ghost use Rattle.targets.specs.Targets.{entry_blocks};
-ghost use Rattle.plan.specs.Plan.{InTable, of_table, of_new, entry_after, entry_before, table_after, after, new_at, new_word};
-ghost use Rattle.plan.specs.Plan.{phase_of, PlanFits, plan_in};
+ghost use Rattle.plan.specs.Plan.{InTable, of_table, of_new, entry_after, entry_before, table_after, ends_after, after};
+ghost use Rattle.plan.specs.Plan.{new_at, new_word, phase_of, PlanFits, plan_in};
 ghost use Rattle.plan.specs.Planning.{Regular};
 ghost use Rattle.plan.specs.Aims.{aim_of};
+ghost use Rattle.change.specs.declared.Work.{Work};
 ghost use Rattle.change.specs.Answers.{Changes};
 ghost use Rattle.change.specs.Cuts.{CutAt, Due};
 ghost use Rattle.change.specs.Requests.{RegionIs, RequestIs};
-ghost use Rattle.change.specs.Runs.{Looks, NextIs, Ready, Told, Ends, work_in};
+ghost use Rattle.change.specs.Runs.{Looks, NextIs, Ready, Told, Ends};
 
+use census::PLACES;
 use plan::{Edge, PLAN_WORDS, Plan};
+use refusals::Refusal;
 use table::{ROOT, Shape, TABLE_WORDS};
 use targets::Paint;
-use words::{ByteAddr, PoolWord, Rounded};
+use words::{ByteAddr, PoolWord};
 
 mod ahead; // ahead.rt: which store of a change comes next
 mod tidying; // tidying.rt: which store of a tidying does
 
+use ahead::ByPlan;
 pub use tidying::tidy;
 
-// Done with the number of stores; cut by the allowance; or refused with the paper's number.
+// How the stores of a change or a tidying end: all are made, so many; or the allowance cut them short.
 #[derive(Clone, Copy)]
-pub enum Answer {
+pub enum Ending {
     Done(u32),
     Cut,
-    Refused(u32),
 }
 
-// What is to be made, for the contracts, since the code is told a bool and lent the plan's words: a change, by its
-// plan; or a tidying, which is the change of the empty region.
+// What is to be made, for the contracts, since the code goes by words that are lent: a change, by its plan; or a
+// tidying, which is the change of the empty region.
 #[derive(Clone, Copy)]
 pub enum Work {
     Change(Plan),
@@ -56,18 +58,12 @@ const START: Cursor = Cursor {
     past: words::FIRST_WORD,
 };
 
-// The next store: where, what, and where the run goes on; or there is none.
+// The next store: where, what, and where the run goes on.
 #[derive(Clone, Copy)]
-pub enum Next {
-    Store(PoolWord, u32, Cursor),
-    None,
-}
-
-// A request that is refused with the paper's number, or planned: its plan is then in the words that were lent for it.
-#[derive(Clone, Copy)]
-pub enum Request {
-    Refused(u32),
-    Planned,
+pub struct Store {
+    pub at: PoolWord,
+    pub value: u32,
+    pub on: Cursor,
 }
 
 // Whether word `k` is one of the `n` words from `t` on.
@@ -75,12 +71,7 @@ fn in_table(t: PoolWord, n: usize, k: PoolWord) -> bool
     requires { t.0 + n < 4294967296 }
     ensures { result ≡ InTable t.0 n k.0 }
 {
-    let first = words::pool_index(t);
-    let i = words::pool_index(k);
-    if i < first {
-        return false;
-    }
-    i < first + n
+    (t.index()..t.index() + n).contains(&k.index())
 }
 
 // Which word of the table that begins at `t` word `k` is.
@@ -88,22 +79,15 @@ fn entry_number(t: PoolWord, k: PoolWord) -> u32
     requires { (t.0 ≤ k.0) × (k.0 < t.0 + 1024) }
     ensures { result ≡ k.0 - t.0 }
 {
-    let first = words::pool_index(t);
-    let i = words::pool_index(k);
-    (i - first) as u32
+    (k.index() - t.index()) as u32
 }
 
 // Whether word `k` is of the table of a height to which the edge's new entry leads.
 fn of_table(height: u32, edge: Edge, k: PoolWord) -> bool
     ensures { result ≡ of_table height edge k.0 }
 {
-    let last = edge.last;
-    if last >= words::BIT_31 {
-        return false;
-    }
-    let begin = words::pool_word(last);
-    let size = table::size_of(height);
-    in_table(begin, size as usize, k)
+    let begin = PoolWord::from(edge.last);
+    edge.last < words::BIT_31 && in_table(begin, table::size_of(height) as usize, k)
 }
 
 // The entry of a height that stood there before: the word of the table, or what the entry above, `old`, said.
@@ -111,9 +95,10 @@ fn entry_before(height: u32, old: u32, n: u32, x: u32) -> u32
     ensures { result ≡ entry_before height old n x }
 {
     if old < words::BIT_31 {
-        return x;
+        x
+    } else {
+        targets::virtual_entry(height, old, n)
     }
-    targets::virtual_entry(height, old, n)
 }
 
 // What the entry of a height is to hold that has the number `n` in the domain, where the word holds `x` and the entry
@@ -123,28 +108,21 @@ fn entry_after(plan: &[u32; PLAN_WORDS], height: u32, old: u32, n: u32, x: u32) 
     ensures { result ≡ entry_after (plan_in plan.now) height n (entry_before height old n x) }
 {
     let paint = plan::paint_in(plan);
+    let was = entry_before(height, old, n, x);
     if height == 0 {
-        let was = entry_before(height, old, n, x);
         return targets::paint_word(paint, was, n);
     }
     let ends = plan::ends_in(plan, height - 1);
-    let first = ends.first;
-    let last = ends.last;
-    let f = first.number;
-    let l = last.number;
-    if n == f {
-        return first.last;
+    if n == ends.first.number {
+        return ends.first.last;
     }
-    if n == l {
-        return last.last;
+    if n == ends.last.number {
+        return ends.last.last;
     }
-    if n < f {
-        return entry_before(height, old, n, x);
+    if n < ends.first.number || ends.last.number < n {
+        return was;
     }
-    if n < l {
-        return words::eight_of(paint.right);
-    }
-    entry_before(height, old, n, x)
+    words::eight_of(paint.right)
 }
 
 // What word `k` of the table of an edge is to hold.
@@ -153,61 +131,48 @@ fn table_after(plan: &[u32; PLAN_WORDS], height: u32, edge: Edge, k: PoolWord, x
     requires number_bound { (edge.number < blocks height) × (of_table height edge k.0 ≡ true) }
     ensures { result ≡ table_after (plan_in plan.now) height edge (k.0 - edge.last) x }
 {
-    let number = edge.number;
-    let old = edge.old;
-    let begin = words::pool_word(edge.last);
-    let j = entry_number(begin, k);
-    let size = table::size_of(height);
-    let n = size * number + j;
-    entry_after(plan, height, old, n, x)
+    let j = entry_number(PoolWord::from(edge.last), k);
+    let n = table::size_of(height) * edge.number + j;
+    entry_after(plan, height, edge.old, n, x)
+}
+
+// What word `k` is to hold if it is of the table of an edge of a height.
+fn ends_after(plan: &[u32; PLAN_WORDS], height: u32, k: PoolWord, x: u32) -> Option<u32>
+    requires { PlanFits (plan_in plan.now) × (height < heights) }
+    ensures { (y : ℕ) → unwrap_or result y ≡ ends_after (plan_in plan.now) height k.0 x y }
+{
+    let ends = plan::ends_in(plan, height);
+    if of_table(height, ends.first, k) {
+        return Some(table_after(plan, height, ends.first, k, x));
+    }
+    if of_table(height, ends.last, k) {
+        return Some(table_after(plan, height, ends.last, k, x));
+    }
+    None
 }
 
 // What word `k`, which holds `x`, is to hold. A word that the plan does not know stays as it is.
+#[tactic(auto, unfolding(plan::specs::Plan::after))]
 fn final_word(plan: &[u32; PLAN_WORDS], k: PoolWord, x: u32) -> u32
     requires { PlanFits (plan_in plan.now) }
     ensures { result ≡ after (plan_in plan.now) k.0 x }
 {
-    let root = words::pool_word(TABLE_WORDS * plan::domain_in(plan));
+    let root = PoolWord::from(TABLE_WORDS * plan::domain_in(plan));
     if in_table(root, TABLE_WORDS as usize, k) {
         // What stands above a root always leads to it.
         return entry_after(plan, ROOT, 0, entry_number(root, k), x);
     }
-    let blocks = plan::ends_in(plan, 1);
-    let block = blocks.first;
-    if of_table(1, block, k) {
-        return table_after(plan, 1, block, k, x);
+    match ends_after(plan, 1, k, x) {
+        Some(y) => y,
+        None => ends_after(plan, 0, k, x).unwrap_or(x),
     }
-    let block2 = blocks.last;
-    if of_table(1, block2, k) {
-        return table_after(plan, 1, block2, k, x);
-    }
-    let pages = plan::ends_in(plan, 0);
-    let page = pages.first;
-    if of_table(0, page, k) {
-        return table_after(plan, 0, page, k, x);
-    }
-    let page2 = pages.last;
-    if of_table(0, page2, k) {
-        return table_after(plan, 0, page2, k, x);
-    }
-    x
 }
 
 // Whether word `k` is of the table of an edge that had none.
 fn of_new_table(height: u32, edge: Edge, k: PoolWord) -> bool
     ensures { result ≡ of_new height edge k.0 }
 {
-    let old = edge.old;
-    let last = edge.last;
-    if last >= words::BIT_31 {
-        return false;
-    }
-    if old < words::BIT_31 {
-        return false;
-    }
-    let begin = words::pool_word(last);
-    let size = table::size_of(height);
-    in_table(begin, size as usize, k)
+    edge.old >= words::BIT_31 && of_table(height, edge, k)
 }
 
 // Whether word `k` is of a new table of a height.
@@ -215,21 +180,14 @@ fn new_at(plan: &[u32; PLAN_WORDS], height: u32, k: PoolWord) -> bool
     ensures { result ≡ new_at (plan_in plan.now) height k.0 }
 {
     let ends = plan::ends_in(plan, height);
-    let first = ends.first;
-    let last = ends.last;
-    if of_new_table(height, first, k) {
-        return true;
-    }
-    of_new_table(height, last, k)
+    of_new_table(height, ends.first, k) || of_new_table(height, ends.last, k)
 }
 
+#[tactic(auto, unfolding(plan::specs::Plan::new_word))]
 fn new_word(plan: &[u32; PLAN_WORDS], k: PoolWord) -> bool
     ensures { result ≡ new_word (plan_in plan.now) k.0 }
 {
-    if new_at(plan, 1, k) {
-        return true;
-    }
-    new_at(plan, 0, k)
+    new_at(plan, 1, k) || new_at(plan, 0, k)
 }
 
 // The phase in which word `k`, which holds `x`, is stored: words that lead are given up first, then new tables are
@@ -242,16 +200,8 @@ fn phase_of(shape: Shape, plan: &[u32; PLAN_WORDS], k: PoolWord, x: u32) -> u32
         return 2;
     }
     // Most words do not lead, and then it does not matter where the leaves begin.
-    if x >= words::BIT_31 {
-        return 3;
-    }
-    let leaves = table::first_place(shape, 0);
-    let from = words::pool_index(leaves);
-    let i = words::pool_index(k);
-    if i >= from {
-        return 3;
-    }
-    1
+    let leads = x < words::BIT_31 && k.index() < table::first_place(shape, 0).index();
+    if leads { 1 } else { 3 }
 }
 
 // The one store. All stores of a change and of a tidying are made here, and none but one that is due: the pool is
@@ -262,134 +212,107 @@ fn put(pool: &mut [u32], shape: Shape, domain: u32, paint: Paint, at: PoolWord, 
     ensures cut { (old : List ℕ) (n : ℕ) → CutAt shape (aim_of domain paint) old n pool.old
         → CutAt shape (aim_of domain paint) old (n + 1) pool.new }
 {
-    let i = words::pool_index(at);
-    pool[i] = value;
+    pool[at.index()] = value;
 }
 
-// Which store the work makes next, from the cursor on. A tidying goes by the owners of the places as they were.
-fn next_store(
-    tidies: bool,
-    pool: &[u32],
-    shape: Shape,
-    owners: &[u32],
-    plan: &[u32; PLAN_WORDS],
-    from: Cursor,
-) -> Next
-    requires looks { Looks shape (work_in tidies plan.now) from pool.now }
-    requires told { Told shape (work_in tidies plan.now) owners.now pool.now }
-    ensures { NextIs shape (work_in tidies plan.now) pool.now from.phase from.word.0
-        result }
-{
-    if tidies {
-        return tidying::next_tidying(pool, shape, owners, from);
-    }
-    ahead::next_change(pool, shape, plan, from)
+// What a work goes by: it says which store comes next, from the cursor on. A change goes by its plan, a tidying by the
+// owners of the places as they were.
+trait Guide {
+    ghost work: { Self → Work };
+
+    ghost owners: { Self → List ℕ };
+
+    fn next_store(&self, pool: &[u32], shape: Shape, from: Cursor) -> Option<Store>
+        requires looks { Looks shape (work self.now) from pool.now }
+        requires told { Told shape (work self.now) (owners self.now) pool.now }
+        ensures { NextIs shape (work self.now) pool.now from.phase from.word.0 result };
 }
 
 // The one loop: it asks which store comes next, and makes it, until there is none or none is left. Besides `put`, and
 // `change` and `tidy`, which call it once, nothing holds the pool to write in; and nothing else is told the
-// allowance.
-fn make_stores(
+// allowance. It is not inlined, since the search for the next store would then stand on the stack of the planning too.
+#[inline(never)]
+fn make_stores<G: Guide>(
     pool: &mut [u32],
     shape: Shape,
-    owners: &[u32],
-    plan: &[u32; PLAN_WORDS],
-    tidies: bool,
+    domain: u32,
+    paint: Paint,
+    guide: &G,
     allowance: u32,
-) -> Answer
-    requires ready { Ready shape (aim_of (plan_in plan.now).domain (plan_in plan.now).paint) (work_in tidies plan.now)
-        pool.old }
-    requires told { Told shape (work_in tidies plan.now) owners.now pool.old }
-    ensures { Ends pool.old shape
-        (aim_of (plan_in plan.now).domain (plan_in plan.now).paint) allowance result
-        pool.new }
+) -> Ending
+    requires ready { Ready shape (aim_of domain paint) (G.work guide.now) pool.old }
+    requires told { Told shape (G.work guide.now) (G.owners guide.now) pool.old }
+    ensures { Ends pool.old shape (aim_of domain paint) allowance result pool.new }
 {
-    let domain = plan::domain_in(plan);
-    let paint = plan::paint_in(plan);
     let mut left = allowance;
     let mut from = START;
-    loop {
-        let next = next_store(tidies, pool, shape, owners, plan, from);
-        let Next::Store(at, value, on) = next else {
-            let made = allowance - left;
-            return Answer::Done(made);
-        };
+    while let Some(Store { at, value, on }) = guide.next_store(pool, shape, from) {
         if left == 0 {
-            return Answer::Cut;
+            return Ending::Cut;
         }
         put(pool, shape, domain, paint, at, value);
         left -= 1;
         from = on;
     }
+    Ending::Done(allowance - left)
 }
 
-// A request that is in order up to refusal 5. All is decided before the first store.
+// A request that is in order up to refusal 5. All is decided before the first store: where it is not refused, its plan is
+// in the words that were lent for it.
 fn plan_region(
     pool: &[u32],
     shape: Shape,
-    owners: &mut [u32],
+    owners: &mut [u32; PLACES],
     domain: u32,
     paint: Paint,
     plan: &mut [u32; PLAN_WORDS],
-) -> Request
+) -> Result<(), Refusal>
     requires fits { Fits shape (length pool.now) }
-    requires owners_len { length owners.old ≡ max_places }
     requires domain_lt_domains { (domain < shape.domains) × Regular paint }
     ensures { RegionIs pool.now shape (aim_of domain paint) (plan_in plan.new) result }
 {
-    let sound = census::census(pool, shape, owners);
-    if !sound {
-        return Request::Refused(6);
+    if !census::census(pool, shape, owners) {
+        return Err(Refusal::NotSound);
     }
-    let settled = targets::settled(pool, shape, owners);
-    if !settled {
-        return Request::Refused(7);
+    if !targets::settled(pool, shape, owners) {
+        return Err(Refusal::NotSettled);
     }
-    let ready = plan::plan_change(pool, shape, owners, domain, paint, plan);
-    if !ready {
-        return Request::Refused(8);
+    if !plan::plan_change(pool, shape, owners, domain, paint, plan) {
+        return Err(Refusal::NoRoom);
     }
-    Request::Planned
+    Ok(())
 }
 
 // What is refused is refused here, in the paper's order.
 fn plan_request(
     pool: &[u32],
     shape: Shape,
-    owners: &mut [u32],
+    owners: &mut [u32; PLACES],
     domain: u32,
     start: ByteAddr,
     length: u32,
     right: u32,
     plan: &mut [u32; PLAN_WORDS],
-) -> Request
-    requires { list_length owners.old ≡ max_places }
+) -> Result<(), Refusal>
     ensures { RequestIs pool.now shape domain start.0 length right (plan_in plan.new)
         result }
 {
-    let n = pool.len();
-    if !table::shape_fits(shape, n) {
-        return Request::Refused(1);
+    if !table::shape_fits(shape, pool.len()) {
+        return Err(Refusal::NoShape);
     }
-    let domains = shape.domains;
-    if domain >= domains {
-        return Request::Refused(2);
+    if domain >= shape.domains {
+        return Err(Refusal::NoDomain);
     }
     if right > 3 {
-        return Request::Refused(3);
+        return Err(Refusal::NoRight);
     }
-    let rounded = words::round_region(start, length);
-    match rounded {
-        Rounded::Refused(k) => Request::Refused(k),
-        Rounded::Covers(g) => {
-            let paint = Paint {
-                lo: g.lo,
-                hi: g.hi,
-                right,
-            };
-            plan_region(pool, shape, owners, domain, paint, plan)
-        }
-    }
+    let region = words::round_region(start, length)?;
+    let paint = Paint {
+        lo: region.lo,
+        hi: region.hi,
+        right,
+    };
+    plan_region(pool, shape, owners, domain, paint, plan)
 }
 
 // Gives a domain a right on every word that a region covers. Whatever the pool holds and whatever the numbers are, it
@@ -403,12 +326,12 @@ pub fn change(
     length: u32,
     right: u32,
     allowance: u32,
-) -> Answer
+) -> Result<Ending, Refusal>
     ensures { Changes pool.old shape domain start.0 length right allowance result pool.new }
 {
-    let mut owners = [0u32; census::PLACES];
+    let mut owners = [0u32; PLACES];
     let mut plan = [0u32; PLAN_WORDS];
-    let request = plan_request(
+    plan_request(
         pool,
         shape,
         &mut owners,
@@ -417,9 +340,10 @@ pub fn change(
         length,
         right,
         &mut plan,
-    );
-    match request {
-        Request::Refused(k) => Answer::Refused(k),
-        Request::Planned => make_stores(pool, shape, &owners, &plan, false, allowance),
-    }
+    )?;
+    let domain = plan::domain_in(&plan);
+    let paint = plan::paint_in(&plan);
+    let guide = ByPlan { plan: &plan };
+    let ending = make_stores(pool, shape, domain, paint, &guide, allowance);
+    Ok(ending)
 }

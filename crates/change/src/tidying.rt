@@ -4,14 +4,16 @@ ghost use Rattle.std.specs.Prelude.{◌+◌, ◌<◌, ◌≤◌, length};
 ghost use Rattle.theory.specs.Pool.{words, SoundPool};
 ghost use Rattle.table.specs.Shape.{Fits};
 ghost use Rattle.table.specs.Map.{form_of};
+ghost use Rattle.change.specs.declared.Work.TheVariants.{Tidying};
 ghost use Rattle.change.specs.Answers.{Tidies};
 ghost use Rattle.change.specs.Runs.{Looks, MiddleOwners, NextIs, NextIn};
 ghost use Rattle.change.specs.Tidying.{AimedAt, Table, Place};
 
-use crate::{Answer, Cursor, Next, Work, make_stores};
-use plan::PLAN_WORDS;
-use table::{Shape, TABLE_WORDS};
-use targets::{Target, UNPAINTED};
+use crate::{Cursor, Ending, Guide, Store, Work, make_stores};
+use census::PLACES;
+use refusals::Refusal;
+use table::{ROOT, Shape, TABLE_WORDS};
+use targets::UNPAINTED;
 use words::PoolWord;
 
 // The words of a root or a middle table, as an index of the pool.
@@ -19,124 +21,138 @@ const TABLE_SIZE: usize = 1024;
 
 // What word `i` of the table at `base` is to become, where the root word `owner` leads to a middle table. A word that
 // does not lead stays: most are eight rights, and searching for their target would say so too.
-fn target_at(pool: &[u32], shape: Shape, owner: u32, base: PoolWord, i: u32) -> Target
+fn target_at(pool: &[u32], shape: Shape, owner: u32, base: PoolWord, i: u32) -> Option<u32>
     requires fits { Fits shape (length pool.now) × SoundPool (form_of shape) (words pool.now) }
     requires table { Table shape pool.now owner base.0 × (i < 1024) }
     ensures { AimedAt shape (base.0 + i) pool.now result }
 {
-    let word = words::word_after(base, i as usize);
-    let k = words::pool_index(word);
+    let k = base.after(i as usize).index();
     let w = pool[k];
     if w >= words::BIT_31 {
-        return Target::Mixed;
+        return None;
     }
-    let domains = shape.domains;
-    let first = words::pool_index(base);
-    if first < (TABLE_WORDS * domains) as usize {
-        return targets::block_target(pool, UNPAINTED, w, (k % TABLE_SIZE) as u32);
+    if base.index() < (TABLE_WORDS * shape.domains) as usize {
+        return targets::entry_target(pool, UNPAINTED, ROOT, w, (k % TABLE_SIZE) as u32);
     }
-    targets::page_target(pool, UNPAINTED, w, owner % TABLE_WORDS * TABLE_WORDS + i)
+    targets::entry_target(pool, UNPAINTED, 1, w, owner % TABLE_WORDS * TABLE_WORDS + i)
 }
 
 // The first word from `from` on of the table at `base` whose table is given up.
-fn next_given_up(pool: &[u32], shape: Shape, owner: u32, base: PoolWord, from: u32) -> Next
+fn next_given_up(pool: &[u32], shape: Shape, owner: u32, base: PoolWord, from: u32) -> Option<Store>
     requires fits { Fits shape (length pool.now) × SoundPool (form_of shape) (words pool.now) }
     requires table { Table shape pool.now owner base.0 × (from ≤ 1024) }
     ensures { NextIn shape Work.Tidying pool.now 1 (base.0 + from) (base.0 + 1024) result }
 {
     let mut i = from;
+    // A `while`, since words that are plain are passed over many at a time.
     while i < TABLE_WORDS {
-        let k = words::word_after(base, i as usize);
+        let k = base.after(i as usize);
         let n = census::plain_ahead(pool, k, i);
         if n == 0 {
-            let target = target_at(pool, shape, owner, base, i);
-            if let Target::Says(value) = target {
-                let after = words::word_after(k, 1);
+            if let Some(value) = target_at(pool, shape, owner, base, i) {
+                let next = k.after(1);
                 let on = Cursor {
                     phase: 1,
-                    word: after,
-                    past: after,
+                    word: next,
+                    past: next,
                 };
-                return Next::Store(k, value, on);
+                return Some(Store { at: k, value, on });
             }
-            i += 1;
-        } else {
-            i += n;
         }
+        i += n.max(1);
     }
-    Next::None
+    None
 }
 
 // The root, or the middle place, at `base`. No root word but its owner leads to a middle place. Tables that are not
 // wanted are given up by the time it is met: where the owner no longer leads here, or there is none, the place holds
 // what it held.
-fn next_in_place(pool: &[u32], shape: Shape, owners: &[u32], base: PoolWord, from: u32) -> Next
+fn next_in_place(
+    pool: &[u32],
+    shape: Shape,
+    owners: &[u32; PLACES],
+    base: PoolWord,
+    from: u32,
+) -> Option<Store>
     requires fits { Fits shape (length pool.now) × SoundPool (form_of shape) (words pool.now) }
     requires middle_owners { MiddleOwners shape owners.now pool.now }
     requires place { Place shape base.0 × (from ≤ 1024) }
     ensures { NextIn shape Work.Tidying pool.now 1 (base.0 + from) (base.0 + 1024) result }
 {
-    let domains = shape.domains;
-    let roots = TABLE_WORDS * domains;
-    let first = words::pool_index(base);
+    let roots = TABLE_WORDS * shape.domains;
+    let first = base.index();
     if first < roots as usize {
         return next_given_up(pool, shape, 0, base, from);
     }
-    let p = (first - roots as usize) / TABLE_SIZE;
-    let owner = owners[p];
-    if owner >= roots {
-        return Next::None;
+    let owner = owners[(first - roots as usize) / TABLE_SIZE];
+    let root = PoolWord::from(owner);
+    if owner < roots && pool[root.index()] as usize == first {
+        return next_given_up(pool, shape, owner, base, from);
     }
-    let root = words::pool_word(owner);
-    let k = words::pool_index(root);
-    let w = pool[k];
-    if w as usize != first {
-        return Next::None;
-    }
-    next_given_up(pool, shape, owner, base, from)
+    None
 }
 
 // The next store of a tidying: the roots in order of domain, then the middle places in order. Leaves hold no pointers.
-pub fn next_tidying(pool: &[u32], shape: Shape, owners: &[u32], from: Cursor) -> Next
+pub fn next_tidying(
+    pool: &[u32],
+    shape: Shape,
+    owners: &[u32; PLACES],
+    from: Cursor,
+) -> Option<Store>
     requires looks { Looks shape Work.Tidying from pool.now }
     requires middle_owners { MiddleOwners shape owners.now pool.now }
     ensures { NextIs shape Work.Tidying pool.now from.phase from.word.0 result }
 {
-    let domains = shape.domains;
-    let middles = shape.middles;
-    let end = (TABLE_WORDS * domains + TABLE_WORDS * middles) as usize;
-    let mut k = words::pool_index(from.word);
-    while k < end {
-        let i = k % TABLE_SIZE;
-        let base = words::pool_word((k - i) as u32);
-        let next = next_in_place(pool, shape, owners, base, i as u32);
-        let Next::None = next else {
+    let mut k = from.word.index();
+    for place in k / TABLE_SIZE..(shape.domains + shape.middles) as usize {
+        let base = TABLE_SIZE * place;
+        let next = next_in_place(
+            pool,
+            shape,
+            owners,
+            PoolWord::from(base as u32),
+            (k - base) as u32,
+        );
+        if next.is_some() {
             return next;
-        };
-        k = k - i + TABLE_SIZE;
+        }
+        k = base + TABLE_SIZE;
     }
-    Next::None
+    None
+}
+
+// What a tidying goes by: the owners of the places as they were.
+#[derive(Clone, Copy)]
+pub struct ByOwners<'a> {
+    pub owners: &'a [u32; PLACES],
+}
+
+impl Guide for ByOwners<'_> {
+    ghost work = { λ g. Tidying };
+
+    ghost owners = { λ g. g.owners.now };
+
+    fn next_store(&self, pool: &[u32], shape: Shape, from: Cursor) -> Option<Store> {
+        next_tidying(pool, shape, self.owners, from)
+    }
 }
 
 // Makes a sound pool settled, with the same rights after every store.
-pub fn tidy(pool: &mut [u32], shape: Shape, allowance: u32) -> Answer
+pub fn tidy(pool: &mut [u32], shape: Shape, allowance: u32) -> Result<Ending, Refusal>
     ensures { Tidies pool.old shape allowance result pool.new }
 {
-    let n = pool.len();
-    if !table::shape_fits(shape, n) {
-        return Answer::Refused(1);
+    if !table::shape_fits(shape, pool.len()) {
+        return Err(Refusal::NoShape);
     }
-    let mut owners = [0u32; census::PLACES];
-    let sound = census::census(pool, shape, &mut owners);
-    if !sound {
-        return Answer::Refused(6);
+    let mut owners = [0u32; PLACES];
+    if !census::census(pool, shape, &mut owners) {
+        return Err(Refusal::NotSound);
     }
     // Nearly every reset finds a settled pool, in which nothing is to be given up.
-    let settled = targets::settled(pool, shape, &owners);
-    if settled {
-        return Answer::Done(0);
+    if targets::settled(pool, shape, &owners) {
+        return Ok(Ending::Done(0));
     }
-    // A tidying has no plan. These words say the empty region, which is what it aims at.
-    let plan = [0u32; PLAN_WORDS];
-    make_stores(pool, shape, &owners, &plan, true, allowance)
+    let guide = ByOwners { owners: &owners };
+    let ending = make_stores(pool, shape, 0, UNPAINTED, &guide, allowance);
+    Ok(ending)
 }

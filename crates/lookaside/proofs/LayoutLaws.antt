@@ -20,7 +20,7 @@ use Rattle.rows.proofs.RowLaws.{words_said, rows_words}
 use Rattle.lookaside.specs.declared.Slot.{Slot}
 use Rattle.std.specs.Prelude.{Ok}
 use Rattle.lookaside.specs.Slots.{Buffer, empty_slot, empty_buffer, filled}
-use Rattle.lookaside.specs.Flushes.{Flushing, flushes, flushed_slot, flushed_buffer, done, refused, pointed}
+use Rattle.lookaside.specs.Flushes.{Flushing, Flushed, flushes, flushed_slot, flushed_buffer, done, refused, pointed}
 use Rattle.lookaside.specs.Check.{demand}
 use Rattle.lookaside.specs.Layout.{IsBuffer, slot_at, slot_words, buffer_of, buffer_words, FlushedAs}
 use Rattle.lookaside.proofs.BufferLaws.{map_to, length_map_to, map_to_turn}
@@ -151,10 +151,11 @@ unfolding empty_buffer words_of
 emptied_words = refl
 
 -- What a flush that is done leaves in the words.
-pub flush_done_as : (b : Buffer) (ws : List ℕ) (f : Flushing) → demand (ltb b.next 64) BadState (Ok tt) ≡ Ok tt
-    → ws ≡ buffer_words (flushed_buffer f b) → FlushedAs (pointed b (done f b)) (Ok tt) ws
+pub flush_done_as : (b : Buffer) (ws : List ℕ) (r : Flushed) (f : Flushing) → r ≡ pointed b (done f b)
+    → demand (ltb b.next 64) BadState (Ok tt) ≡ Ok tt
+    → ws ≡ buffer_words (flushed_buffer f b) → FlushedAs r (Ok tt) ws
 unfolding pointed
-flush_done_as b ws f e q = go (ltb b.next 64) e
+flush_done_as b ws r f is e q = rw is (go (ltb b.next 64) e)
   where
     go : (t : Bool) → demand t BadState (Ok tt) ≡ Ok tt → FlushedAs (cond t (done f b) (refused BadState b)) (Ok tt) ws
     go true e = (refl, q)

@@ -44,14 +44,14 @@ pub fn find(ws: &[u32; BUFFER_WORDS], domain: u32, address: ByteAddr) -> Option<
     let root = slots::block_of(1, address);
     let middle = slots::block_of(2, address);
     let leaf = slots::block_of(3, address);
-    (0..64).map(|i| slot_at(ws, 4 * i)).find(|s| {
+    (0..SLOTS as usize).map(|i| slot_at(ws, 4 * i)).find(|s| {
         one_of(s.block, root, middle, leaf) && slots::slot_matches(*s, domain, address)
     })
 }
 
 // A slot stored at the pointer, which moves on.
 pub fn fill_next(ws: &mut [u32; BUFFER_WORDS], s: Slot)
-    requires { get_or ws.old 256 0 < 64 }
+    requires { get_or ws.old NEXT 0 < SLOTS }
     ensures { ws.new ≡ buffer_words (filled (buffer_of ws.old) s) }
 {
     let next = ws[NEXT];

@@ -25,7 +25,8 @@ pub const BUFFER_WORDS: usize = 257;
 // Which word of a buffer is next, its pointer.
 const NEXT: usize = 256;
 
-// One entry that decided a lookup, for a domain and the block of a level (1 root, 2 middle, 3 leaf).
+// One entry that decided a lookup, for a domain and the block of a level (1 root, 2 middle, 3 leaf). Its fields are the
+// words as they lie in the buffer: lent words may hold any number, so the level is one too.
 #[derive(Clone, Copy)]
 pub struct Slot {
     pub domain: u32,
@@ -41,7 +42,8 @@ pub enum Verdict {
     Deny(u32),
 }
 
-// Whether there are accesses of this kind and size.
+// Whether there are accesses of this kind and size. Both stay numbers: they come from outside, `check` answers for any, and
+// `table::passes` takes the kind as it came.
 fn is_access(kind: u32, size: u32) -> bool
     ensures { result ≡ is_access kind size }
 {
@@ -67,7 +69,7 @@ fn past_size(a: u32, size: u32) -> u32
 
 // Whether the pointer is a slot's.
 fn pointed(next: u32) -> Result<(), Refusal>
-    ensures { result ≡ demand (ltb next 64) Refusal.BadState (Ok tt) }
+    ensures { result ≡ demand (ltb next SLOTS) Refusal.BadState (Ok tt) }
 {
     if next >= SLOTS {
         return Err(Refusal::BadState);
@@ -153,7 +155,7 @@ where
     requires { F.IsAlwaysCallable empties }
     ensures { (f : Flushing) → Tells (F.post empties) f → ws.new ≡ buffer_words (flushed_buffer f (buffer_of ws.old)) }
 {
-    for i in 0..64 {
+    for i in 0..SLOTS as usize {
         let s = layout::slot_at(ws, 4 * i);
         if empties(s) {
             layout::put_slot(ws, 4 * i, slots::empty_slot());

@@ -7,11 +7,11 @@ use mathlib.Core.List.{List}
 use native.Mathlib.Omega.{arith}
 use lib.ListN.{length}
 use borrow.Author.Tests.{eq-eqb}
+use Rattle.std.specs.Prelude.{Some, None}
 use Rattle.theory.specs.Pool.{words, right_of}
 use Rattle.theory.specs.Settled.{Settled}
 use Rattle.theory.proofs.Logic.{by_cases}
 use Rattle.words.specs.Region.{covered}
-use Rattle.words.proofs.RightsLaws.{right_small}
 use Rattle.table.specs.declared.Shape.{Shape}
 use Rattle.table.specs.Shape.{Fits}
 use Rattle.table.specs.Map.{addresses, block, leads, form_of}
@@ -21,11 +21,10 @@ use Rattle.places.specs.Count.{blocks, domain_of, address_of, want}
 use Rattle.places.proofs.NumberLaws.{in_domain, in_number}
 use Rattle.places.proofs.ChangedLaws.{changed_rights}
 use Rattle.targets.specs.declared.Paint.{Paint}
-use Rattle.targets.specs.declared.Target.TheVariants.{Says, Mixed}
 use Rattle.targets.specs.Paints.{region}
-use Rattle.targets.specs.Targets.{painted, virtual_of, entry_blocks, Gives, Readable}
+use Rattle.targets.specs.Targets.{painted, virtual_of, Gives}
 use Rattle.targets.proofs.TargetLaws.{wanted_mixed, unwanted_said}
-use Rattle.targets.proofs.PoolLaws.{root_gives, middle_gives, virtual_gives, virtual_readable, root_readable}
+use Rattle.targets.proofs.PoolLaws.{root_gives, middle_gives, virtual_gives, root_readable}
 use Rattle.plan.specs.Aims.{aim_of, aimed_at}
 use Rattle.plan.specs.Planning.{Regular, first_of, last_of}
 use Rattle.plan.specs.Edges.{entry_at, edge_for, edge_at, ReadableRoot, RootGives}
@@ -51,12 +50,6 @@ module _ (p : List ℕ) (d n : ℕ) (bn : n < 1048576) where
   pub entry_stood : leads 2 root ≡ false → entry_at (words p) 0 d n ≡ virtual_of 1 root n
   entry_stood l = ap (λ t. cond t (words p (root + n % 1024)) (virtual_of 1 root n)) l
 
-  entry_readable : ReadableRoot p d → Readable p 1 (entry_at (words p) 0 d n)
-  entry_readable z = by_cases (leads 2 root)
-      (λ l. subst (Readable p 1) (sym (entry_led l))
-      ((z (n / 1024) (omega arith)).1.entries l (n % 1024) (omega arith)))
-      (λ l. subst (Readable p 1) (sym (entry_stood l)) (virtual_readable p _ (right_small root _)))
-
   entry_gives : (R : ℕ → ℕ) → RootGives (words p) d R → Gives (words p) 1 (entry_at (words p) 0 d n) n R
   entry_gives R g = by_cases (leads 2 root)
       (λ l.
@@ -67,18 +60,7 @@ module _ (p : List ℕ) (d n : ℕ) (bn : n < 1048576) where
       (λ l. subst (λ e. Gives (words p) 1 e n R) (sym (entry_stood l))
       (virtual_gives (words p) R root (n / 1024) n l refl (g (n / 1024) (omega arith))))
 
--- The entry of a block of any height is readable, and gives the block's rights.
-pub entry_blocks_lem : (h : ℕ) → h < 2 → entry_blocks (suc h) ≡ blocks h
-entry_blocks_lem zero hi = refl
-entry_blocks_lem (suc zero) hi = refl
-entry_blocks_lem (suc (suc h)) hi = absurd (omega arith)
-
-pub old_readable : (p : List ℕ) (h d n : ℕ) → h < 2 → n < blocks h → ReadableRoot p d
-    → Readable p (suc h) (entry_at (words p) h d n)
-old_readable p zero d n hi b z = entry_readable p d n b z
-old_readable p (suc zero) d n hi b z = (z n b).1
-old_readable p (suc (suc h)) d n hi b z = absurd (omega arith)
-
+-- The entry of a block of any height gives the block's rights.
 pub old_gives : (p : List ℕ) (h d n : ℕ) → h < 2 → n < blocks h → (R : ℕ → ℕ) → RootGives (words p) d R
     → Gives (words p) (suc h) (entry_at (words p) h d n) n R
 old_gives p zero d n hi b R g = entry_gives p d n b R g
@@ -136,7 +118,7 @@ module _ (s : Shape) (d : ℕ) (paint : Paint) (P : ℕ → ℕ) (small : paint.
     rests w = (wants_says s goal (suc h) a goal_rights (omega arith)
         (inside h hi bn) w).rights
 
-    told_mixed : wants_of goal (suc h) a ≡ true → Told s d paint P h n (edge_for n (entry_at P h d n) Mixed)
+    told_mixed : wants_of goal (suc h) a ≡ true → Told s d paint P h n (edge_for n (entry_at P h d n) None)
     told_mixed w = record {
       number = refl;
       old = refl;
@@ -146,7 +128,7 @@ module _ (s : Shape) (d : ℕ) (paint : Paint) (P : ℕ → ℕ) (small : paint.
     }
 
     told_said : wants_of goal (suc h) a ≡ false → Told s d paint P h n
-        (edge_for n (entry_at P h d n) (Says (said_of goal (suc h) a)))
+        (edge_for n (entry_at P h d n) (Some (said_of goal (suc h) a)))
     told_said w = record {
       number = refl;
       old = refl;

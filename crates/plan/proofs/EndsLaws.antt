@@ -2,6 +2,7 @@
 use Prim.Native.Nat.{ℕ, suc, ◌+◌, ◌<◌}
 use mathlib.Core.Path.{◌≡◌, refl, sym, subst, fun_ext, ap, ◌∙◌}
 use mathlib.Core.Logic.{◌≢◌, ⊎_elim}
+use Rattle.std.specs.Prelude.{Option, Some, None, is_some}
 use mathlib.Core.Bool.{Bool, true, false, not}
 use mathlib.Core.List.{List}
 use native.Mathlib.Omega.{arith}
@@ -22,7 +23,7 @@ use Rattle.plan.specs.declared.Edge.{Edge}
 use Rattle.plan.specs.declared.Ends.{Ends}
 use Rattle.plan.specs.Plan.{plan_words, edge_word, edge_in, ends_in, put_edge, Beside}
 use Rattle.plan.specs.Planning.{Regular, first_of, last_of}
-use Rattle.plan.specs.Edges.{edge_at, kept_at, EndsAre, PlansEnds, Taken, At, None, found, TakenIs, TakesPlace}
+use Rattle.plan.specs.Edges.{edge_at, kept_at, EndsAre, PlansEnds, TakenIs, TakesPlace}
 use Rattle.plan.proofs.Giving.{ends_at, GivesOut}
 use Rattle.plan.proofs.KeptLaws.{kept_all}
 use Rattle.plan.proofs.GiveLaws.{given_none, given_one, given_second_none, given_two}
@@ -39,13 +40,13 @@ kept_like o h d a b n l e = fun_ext (λ p. rw (n, l, e) refl)
 
 -- An edge that takes a place keeps its number, and leads where it led.
 taken_like : {f : ℕ → Bool} {c : ℕ} {s : Shape} {h : ℕ} {e g : Edge} {x : ℕ} → InRange s → h < heights
-    → TakenIs f c s h e g (At x)
+    → TakenIs f c s h e g (Some x)
     → (g.number ≡ e.number) × (leads 1 g.last ≡ leads 1 e.last)
 taken_like {s = s} {h = h} {e = e} r hi t = ⊎_elim
     (λ y. (ap (λ (a : Edge). a.number) y.1, ap (λ (a : Edge). leads 1 a.last) y.1))
     (λ k. (
       k.same_number,
-      ap (leads 1) k.points ∙ lt-ltb (place_at s h k.place) 2147483648 (place_low s h k.place r hi k.below)
+      ap (leads 1) k.points ∙ lt-ltb (place_at s h k.place) 2147483648 (place_low s h k.place r hi k.first.high)
           ∙ sym (and_both (leads (suc h) e.last) (not (leads (suc h) e.old)) k.makes_new).0,
     ))
     t
@@ -107,7 +108,7 @@ module _ (p : List ℕ) (s : Shape) (o : List ℕ) (d : ℕ) (paint : Paint) (fi
     room₁ = let (_, b) = first_low h in let e = after in let z = beside₁.long in omega arith
 
     -- An edge is stored after it, and the first takes its place.
-    module _ (l₂ l₃ : List ℕ) (e : Edge) (put₂ : l₂ ≡ put_edge l₁ L e) (r : Taken)
+    module _ (l₂ l₃ : List ℕ) (e : Edge) (put₂ : l₂ ≡ put_edge l₁ L e) (r : Option ℕ)
         (t : TakesPlace (kept l₂) 0 s h F l₂ l₃ r) where
       -- Both edges are read back,
       beside₂ : Beside L 3 l₁ l₂
@@ -135,7 +136,7 @@ module _ (p : List ℕ) (s : Shape) (o : List ℕ) (d : ℕ) (paint : Paint) (fi
 
     -- Both edges are one, which takes its place before it is stored again.
     module _ (l₂ l₃ l₄ : List ℕ) (same : first_of h paint ≡ last_of h paint) (put₂ : l₂ ≡ put_edge l₁ L (edge_in l₁ F))
-        (r : Taken) (t : TakesPlace (kept l₂) 0 s h F l₂ l₃ r) (put₄ : l₄ ≡ put_edge l₃ L (edge_in l₃ F)) where
+        (r : Option ℕ) (t : TakesPlace (kept l₂) 0 s h F l₂ l₃ r) (put₄ : l₄ ≡ put_edge l₃ L (edge_in l₃ F)) where
       -- It is read back in both places ..
       again : (edge_in l₄ L ≡ edge_in l₃ F) × Beside L 3 l₃ l₄
       again = put_told l₃ L (edge_in l₃ F) put₄ (room₃ l₂ l₃ (edge_in l₁ F) put₂ r t)
@@ -148,15 +149,15 @@ module _ (p : List ℕ) (s : Shape) (o : List ℕ) (d : ℕ) (paint : Paint) (fi
       one_ends : ends_in l₄ h ≡ record { first = edge_in l₃ F; last = edge_in l₃ F }
       one_ends = let z = after in ends_are l₄ h (edge_below F (omega arith) again.1) again.0
 
-      one_are : (r : Taken) → TakenIs (kept l₂) 0 s h (edge_in l₂ F) (edge_in l₃ F) r
-          → EndsAre s d paint P h (found r) (ends_in l₄ h)
-      one_are (At x) k =
+      one_are : (r : Option ℕ) → TakenIs (kept l₂) 0 s h (edge_in l₂ F) (edge_in l₃ F) r
+          → EndsAre s d paint P h (is_some r) (ends_in l₄ h)
+      one_are (Some x) k =
           let told = one_gives.told in
           subst (EndsAre s d paint P h true) (sym one_ends) (given_one one_gives (edge_in l₃ F) x
           (told.first_told.number ∙ same ∙ sym told.last_told.number) k)
       one_are None k = given_none one_gives (edge_in l₃ F) (ends_in l₄ h) k
 
-      pub one_planned : PlansEnds s d paint P h l₀ l₄ (found r)
+      pub one_planned : PlansEnds s d paint P h l₀ l₄ (is_some r)
       one_planned =
           let z = after in
           record {
@@ -169,7 +170,7 @@ module _ (p : List ℕ) (s : Shape) (o : List ℕ) (d : ℕ) (paint : Paint) (fi
     module _ (l₂ l₃ : List ℕ) (apart : first_of h paint ≢ last_of h paint)
         (put₂ : l₂ ≡ put_edge l₁ L (edge (last_of h paint))) where
       -- What is known of both lets the places be given out.
-      two_gives : (r : Taken) → TakesPlace (kept l₂) 0 s h F l₂ l₃ r
+      two_gives : (r : Option ℕ) → TakesPlace (kept l₂) 0 s h F l₂ l₃ r
           → GivesOut s d paint P h (kept l₂) (ends_in l₂ h)
       two_gives r t = gives l₂ (drafted l₂ l₃ (edge (last_of h paint)) put₂ r t refl)
 
@@ -181,12 +182,12 @@ module _ (p : List ℕ) (s : Shape) (o : List ℕ) (d : ℕ) (paint : Paint) (fi
       }
 
       -- .. and takes its place after the first.
-      module _ (l₄ : List ℕ) (x : ℕ) (t : TakesPlace (kept l₂) 0 s h F l₂ l₃ (At x)) (r : Taken)
+      module _ (l₄ : List ℕ) (x : ℕ) (t : TakesPlace (kept l₂) 0 s h F l₂ l₃ (Some x)) (r : Option ℕ)
           (u : TakesPlace (kept l₃) x s h L l₃ l₄ r) where
         -- The edges differ.
         numbers : (edge_in l₂ F).number ≢ (edge_in l₂ L).number
         numbers z =
-            let told = (two_gives (At x) t).told in
+            let told = (two_gives (Some x) t).told in
             apart (sym told.first_told.number ∙ z ∙ told.last_told.number)
 
         -- That the first has its place leaves the last, and which tables are kept.
@@ -202,19 +203,19 @@ module _ (p : List ℕ) (s : Shape) (o : List ℕ) (d : ℕ) (paint : Paint) (fi
         two_ends : ends_in l₄ h ≡ record { first = edge_in l₃ F; last = edge_in l₄ L }
         two_ends = let z = after in ends_are l₄ h (edge_below F (omega arith) u.beside) refl
 
-        two_are : (r : Taken) → TakenIs (kept l₂) x s h (edge_in l₂ L) (edge_in l₄ L) r
-            → EndsAre s d paint P h (found r) (ends_in l₄ h)
-        two_are (At y) k = subst (EndsAre s d paint P h true) (sym two_ends)
-            (given_two (two_gives (At x) t) (edge_in l₃ F) x (edge_in l₄ L) y numbers t.taken k)
-        two_are None k = given_second_none (two_gives (At x) t) (edge_in l₃ F) x (edge_in l₄ L) (ends_in l₄ h) numbers
+        two_are : (r : Option ℕ) → TakenIs (kept l₂) x s h (edge_in l₂ L) (edge_in l₄ L) r
+            → EndsAre s d paint P h (is_some r) (ends_in l₄ h)
+        two_are (Some y) k = subst (EndsAre s d paint P h true) (sym two_ends)
+            (given_two (two_gives (Some x) t) (edge_in l₃ F) x (edge_in l₄ L) y numbers t.taken k)
+        two_are None k = given_second_none (two_gives (Some x) t) (edge_in l₃ F) x (edge_in l₄ L) (ends_in l₄ h) numbers
             t.taken k
 
-        pub two_planned : PlansEnds s d paint P h l₀ l₄ (found r)
+        pub two_planned : PlansEnds s d paint P h l₀ l₄ (is_some r)
         two_planned =
             let z = after in
             record {
               ends = two_are r (subst (λ f. TakenIs f x s h (edge_in l₂ L) (edge_in l₄ L) r) same_kept
                   (subst (λ e. TakenIs (kept l₃) x s h e (edge_in l₄ L) r) same_last u.taken));
               beside = beside_both F 6 (omega arith) (omega arith) (omega arith) (omega arith)
-                  (beside₃ l₂ l₃ (edge (last_of h paint)) put₂ (At x) t) u.beside;
+                  (beside₃ l₂ l₃ (edge (last_of h paint)) put₂ (Some x) t) u.beside;
             }

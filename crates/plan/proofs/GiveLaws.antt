@@ -3,11 +3,11 @@
 use Prim.Native.Nat.{ℕ, zero, suc, ◌+◌, ◌*◌, ◌/◌, ◌%◌, ◌≤◌, ◌<◌}
 use mathlib.Core.Path.{◌≡◌, refl, sym, subst, ap, ◌∙◌}
 use mathlib.Core.Logic.{◌≢◌, ⊎_elim}
-use mathlib.Core.Bool.{Bool, true, false, cond, ◌&&◌, not, true≢false, false≢true}
+use Rattle.std.specs.Prelude.{Some, None}
+use mathlib.Core.Bool.{Bool, true, false, cond, ◌&&◌, not, true≢false}
 use native.Mathlib.Omega.{arith}
 use native.Mathlib.Decide.{ℕ_discrete}
 use native.Mathlib.Numerals.{add-one}
-use lib.Dec.{eqb}
 use borrow.Author.Tests.{eq-eqb, ne_eqb, lt-ltb}
 use Rattle.theory.proofs.Logic.{by_cases, and_both}
 use Rattle.table.specs.declared.Shape.{Shape}
@@ -28,8 +28,7 @@ use Rattle.plan.specs.declared.Edge.{Edge}
 use Rattle.plan.specs.declared.Ends.{Ends}
 use Rattle.plan.specs.Plan.{is_new}
 use Rattle.plan.specs.Aims.{aim_of, aimed_at}
-use Rattle.plan.specs.Edges.{entry_at, EdgeIs, EndsPlaced, EndsAre, Takes, At, None, taken_by, found}
-use Rattle.plan.specs.Edges.{TakenIs}
+use Rattle.plan.specs.Edges.{entry_at, EdgeIs, EndsPlaced, EndsAre, Takes, TakenIs}
 use Rattle.plan.proofs.Giving.{Told, GivesOut}
 use Rattle.plan.proofs.OldEntryLaws.{old_leads}
 use Rattle.plan.proofs.FreshLaws.{apart_not_fresh}
@@ -184,10 +183,10 @@ module _ {s : Shape} {d : ℕ} {paint : Paint} {P : ℕ → ℕ} {h : ℕ} {f : 
           new = sym (new_is b t) ∙ k.makes_new
 
           below : k.place < M
-          below = k.below
+          below = k.first.high
 
           spare : free k.place ≡ true
-          spare = is_free k.place below ∙ ap not (k.first.free k.below)
+          spare = is_free k.place below ∙ ap not (k.first.free)
 
           points : g.last ≡ start k.place
           points = k.points
@@ -196,7 +195,7 @@ module _ {s : Shape} {d : ℕ} {paint : Paint} {P : ℕ → ℕ} {h : ℕ} {f : 
           led = ap (leads (suc h)) points
               ∙ lt-ltb (place_at s h k.place) 2147483648 (place_low s h k.place G.range G.height below)
 
-      past : (g : Edge) (x : ℕ) → TakenIs f c s h e g (At x) → Past n x g owner
+      past : (g : Edge) (x : ℕ) → TakenIs f c s h e g (Some x) → Past n x g owner
       past g x k = ⊎_elim (λ y. rest g x y.0 y.1 y.2) (take g x) k
 
       full : (g : Edge) → TakenIs f c s h e g None → M < count W N
@@ -226,7 +225,7 @@ module _ {s : Shape} {d : ℕ} {paint : Paint} {P : ℕ → ℕ} {h : ℕ} {f : 
         let z = low (first_of h paint) first_in in
         plain j (omega arith) (λ u. absurd (omega arith)) (λ u. absurd (omega arith))
 
-    one_past : (g : Edge) (x : ℕ) → TakenIs f 0 s h first g (At x) → Past free is_free (first_of h paint) x g
+    one_past : (g : Edge) (x : ℕ) → TakenIs f 0 s h first g (Some x) → Past free is_free (first_of h paint) x g
         owner
     one_past = past free is_free 0 0 owner S (first_of h paint) first_in (omega arith) before_first first
         G.told.first_told
@@ -236,7 +235,7 @@ module _ {s : Shape} {d : ℕ} {paint : Paint} {P : ℕ → ℕ} {h : ℕ} {f : 
         G.told.first_told
 
     -- .. is the last one too,
-    both_one : (g : Edge) (x : ℕ) → first.number ≡ last.number → TakenIs f 0 s h first g (At x)
+    both_one : (g : Edge) (x : ℕ) → first.number ≡ last.number → TakenIs f 0 s h first g (Some x)
         → EndsPlaced s d paint P h (record { first = g; last = g })
     both_one g x e k =
         let r = one_past g x k in
@@ -254,7 +253,7 @@ module _ {s : Shape} {d : ℕ} {paint : Paint} {P : ℕ → ℕ} {h : ℕ} {f : 
         }
 
     -- .. or the last edge comes after it.
-    module _ (apart : first.number ≢ last.number) (g : Edge) (x : ℕ) (k : TakenIs f 0 s h first g (At x))
+    module _ (apart : first.number ≢ last.number) (g : Edge) (x : ℕ) (k : TakenIs f 0 s h first g (Some x))
       where
         r : Past free is_free (first_of h paint) x g owner
         r = one_past g x k
@@ -273,7 +272,7 @@ module _ {s : Shape} {d : ℕ} {paint : Paint} {P : ℕ → ℕ} {h : ℕ} {f : 
         two_full = full free is_free (suc (nth (first_of h paint))) x r.owner r.state (last_of h paint)
             bounds.1 less between last G.told.last_told
 
-        both_two : (l : Edge) (y : ℕ) → TakenIs f x s h last l (At y)
+        both_two : (l : Edge) (y : ℕ) → TakenIs f x s h last l (Some y)
             → EndsPlaced s d paint P h (record { first = g; last = l })
         both_two l y z =
             let t = past free is_free (suc (nth (first_of h paint))) x r.owner r.state (last_of h paint)
@@ -305,14 +304,14 @@ module _ {s : Shape} {d : ℕ} {paint : Paint} {P : ℕ → ℕ} {h : ℕ} {f : 
       let (free, owner, S, is_free) = kept_free s d paint G.settled h G.height G.kept in
       one_full free owner S is_free g k
 
-  pub given_one : (g : Edge) (x : ℕ) → first.number ≡ last.number → TakenIs f 0 s h first g (At x)
+  pub given_one : (g : Edge) (x : ℕ) → first.number ≡ last.number → TakenIs f 0 s h first g (Some x)
       → EndsAre s d paint P h true (record { first = g; last = g })
   given_one g x e k =
       let (free, owner, S, is_free) = kept_free s d paint G.settled h G.height G.kept in
       both_one free owner S is_free g x e k
 
   pub given_second_none : (g : Edge) (x : ℕ) (l : Edge) (ends : Ends) → first.number ≢ last.number
-      → TakenIs f 0 s h first g (At x)
+      → TakenIs f 0 s h first g (Some x)
       → TakenIs f x s h last l None
       → EndsAre s d paint P h false ends
   given_second_none g x l r e k n =
@@ -320,32 +319,13 @@ module _ {s : Shape} {d : ℕ} {paint : Paint} {P : ℕ → ℕ} {h : ℕ} {f : 
       two_full free owner S is_free e g x k l n
 
   pub given_two : (g : Edge) (x : ℕ) (l : Edge) (y : ℕ) → first.number ≢ last.number
-      → TakenIs f 0 s h first g (At x)
-      → TakenIs f x s h last l (At y) → EndsAre s d paint P h true (record { first = g; last = l })
+      → TakenIs f 0 s h first g (Some x)
+      → TakenIs f x s h last l (Some y) → EndsAre s d paint P h true (record { first = g; last = l })
   given_two g x l y e k z =
       let (free, owner, S, is_free) = kept_free s d paint G.settled h G.height G.kept in
       both_two free owner S is_free e g x k l y z
 
 -- The next place is looked for below the last.
 pub taken_low : {f : ℕ → Bool} {c : ℕ} {s : Shape} {h : ℕ} {e g : Edge} {x : ℕ} → c ≤ places s h
-    → TakenIs f c s h e g (At x) → x ≤ places s h
-taken_low le k = ⊎_elim (λ y. let z = y.2 in omega arith) (λ y. let z = y.next in let b = y.below in omega arith) k
-
--- The number of a place says that one was found ..
-pub taken_at : (n : ℕ) → n < 4294967295 → taken_by n ≡ At n
-taken_at n l = ap (λ b. cond b None (At n)) (ne_eqb n 4294967295 (λ e. omega arith))
-
--- .. and where one was found, the number says from where the next is looked for.
-pub found_at : (n : ℕ) → found (taken_by n) ≡ true → taken_by n ≡ At n
-found_at n = cases (eqb n 4294967295)
-  where
-    cases : (b : Bool) → found (cond b None (At n)) ≡ true → cond b None (At n) ≡ At n
-    cases true e = absurd (false≢true e)
-    cases false e = refl
-
-pub found_none : (n : ℕ) → found (taken_by n) ≡ false → taken_by n ≡ None
-found_none n = cases (eqb n 4294967295)
-  where
-    cases : (b : Bool) → found (cond b None (At n)) ≡ false → cond b None (At n) ≡ None
-    cases true e = refl
-    cases false e = absurd (true≢false e)
+    → TakenIs f c s h e g (Some x) → x ≤ places s h
+taken_low le k = ⊎_elim (λ y. let z = y.2 in omega arith) (λ y. let z = y.next in let b = y.first.high in omega arith) k

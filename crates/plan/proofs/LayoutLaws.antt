@@ -8,7 +8,6 @@ use native.Mathlib.Omega.{arith}
 use lib.ListN.{length, get_or, set, length-set}
 use lib.Seq.{get_or-set_same, get_or-set_other}
 use Rattle.places.specs.Count.{heights}
-use Rattle.targets.specs.declared.Paint.{Paint}
 use Rattle.plan.specs.declared.Edge.{Edge}
 use Rattle.plan.specs.declared.Ends.{Ends}
 use Rattle.plan.specs.Plan.{edge_word, edge_in, ends_in, paint_in, plan_in, ends_of, put_edge, Beside}
@@ -56,52 +55,6 @@ pub put_told : (l : List ℕ) (i : ℕ) (e : Edge) {m : List ℕ} → m ≡ put_
 put_told l i e p b = (
   ap (λ w. edge_in w i) p ∙ edge_put l i e b,
   subst (Beside i 3 l) (sym p) (beside_put l i e),
-)
-
--- The domain, the region and its right are stored in the first words, one after another.
-module _ (l : List ℕ) (d : ℕ) (paint : Paint) where
-  abbrev from_domain : List ℕ
-  from_domain = set l 0 d
-
-  abbrev to_lo : List ℕ
-  to_lo = set from_domain 1 paint.lo
-
-  abbrev to_hi : List ℕ
-  to_hi = set to_lo 2 paint.hi
-
-  abbrev pub headed : List ℕ
-  headed = set to_hi 3 paint.right
-
-  -- They leave as many words ..
-  pub head_long : length headed ≡ length l
-  head_long = simp length-set
-
-  -- .. the domain is read back ..
-  pub head_domain : 3 < length l → get_or headed 0 0 ≡ d
-  head_domain b =
-      get_or-set_other to_hi 3 0 paint.right 0 (λ z. omega arith)
-      ∙ get_or-set_other to_lo 2 0 paint.hi 0 (λ z. omega arith)
-      ∙ get_or-set_other from_domain 1 0 paint.lo 0 (λ z. omega arith) ∙ get_or-set_same l 0 d 0 (omega arith)
-
-  -- .. and so is the paint.
-  pub head_paint : 3 < length l → paint_in headed ≡ paint
-  head_paint b =
-      let lo = get_or-set_other to_hi 3 1 paint.right 0 (λ z. omega arith)
-      ∙ get_or-set_other to_lo 2 1 paint.hi 0 (λ z. omega arith)
-      ∙ get_or-set_same from_domain 1 paint.lo 0 (simp length-set (omega arith)) in
-      let hi = get_or-set_other to_hi 3 2 paint.right 0 (λ z. omega arith)
-      ∙ get_or-set_same to_lo 2 paint.hi 0 (simp length-set (omega arith)) in
-      let right = get_or-set_same to_hi 3 paint.right 0 (simp length-set (omega arith)) in
-      λ i. record { lo = lo i; hi = hi i; right = right i }
-
--- An edge that is copied word by word, to words after its own, is stored there.
-pub copy_put : (l : List ℕ) (i j : ℕ) → i + 3 ≤ j → (let m = set l j (get_or l i 0) in
-    let n = set m (j + 1) (get_or m (i + 1) 0) in
-    set n (j + 2) (get_or n (i + 2) 0) ≡ put_edge l j (edge_in l i))
-copy_put l i j b = simp (
-  get_or-set_other l j (i + 1) (get_or l i 0) 0 (λ z. omega arith),
-  get_or-set_other (set l j (get_or l i 0)) (j + 1) (i + 2) (get_or l (i + 1) 0) 0 (λ z. omega arith),
-  get_or-set_other l j (i + 2) (get_or l i 0) 0 (λ z. omega arith),
 )
 
 -- An edge that takes its place stores one word, and leaves those beside its own.

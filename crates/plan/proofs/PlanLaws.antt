@@ -3,20 +3,18 @@
 use Prim.Native.Nat.{ℕ, ◌<◌}
 use mathlib.Core.Path.{◌≡◌, sym, subst}
 use mathlib.Core.Bool.{Bool, false}
-use native.Mathlib.Omega.{arith}
 use Rattle.theory.specs.Pool.{right_of}
 use Rattle.table.specs.declared.Shape.{Shape}
 use Rattle.table.specs.Map.{form_of}
-use Rattle.places.specs.Count.{heights, Room}
+use Rattle.places.specs.Count.{heights}
 use Rattle.places.proofs.HeightLaws.{choose}
 use Rattle.targets.specs.declared.Paint.{Paint}
 use Rattle.plan.specs.declared.Edge.{Edge}
 use Rattle.plan.specs.declared.Ends.{Ends}
 use Rattle.plan.specs.declared.Plan.{Plan}
 use Rattle.plan.specs.Plan.{ends_of}
-use Rattle.plan.specs.Aims.{aim_of, aimed_at}
 use Rattle.plan.specs.Planning.{Regular}
-use Rattle.plan.specs.Edges.{EdgeIs, EndsIs, PlanReady, Placed, EndsPlaced, EndsAre}
+use Rattle.plan.specs.Edges.{EdgeIs, EndsIs, PlanReady, Placed, EndsPlaced}
 use Rattle.plan.proofs.Giving.{ends_at, EndsTold}
 use Rattle.plan.proofs.DraftLaws.{drafted_ends}
 
@@ -51,8 +49,3 @@ plan_ready s d paint P q for_domain for_paint all =
         ends = λ h hi. ends_owned s d paint P (λ g. (f g).1) h (told h hi).1;
       };
     }
-
--- Too many tables of one height leave no room.
-pub full_height : (s : Shape) (d : ℕ) (paint : Paint) (P : ℕ → ℕ) (h : ℕ) → h < heights → (ends : Ends)
-    → EndsAre s d paint P h false ends → Room s (aimed_at s (aim_of d paint) P) → ⊥
-full_height s d paint P h hi ends x r = let y = r.tables h hi in omega arith

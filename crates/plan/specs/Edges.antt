@@ -1,7 +1,7 @@
 -- The edges of a plan, the places of its tables, and what it is for a plan to be ready; then, for the inner
 -- functions, the steps by which it is made. A height `h` is that of the tables that may stand for a block: 0 for pages,
 -- 1 for blocks of 4 MB.
-use Rattle.std.specs.Prelude.{ℕ, zero, suc, ◌+◌, ◌*◌, ◌/◌, ◌%◌, ◌≤◌, ◌<◌, ◌≡◌, ◌⊎◌, Bool, true, false, cond, ◌&&◌, ◌||◌, not, List, eqb, ltb, length, get_or}
+use Rattle.std.specs.Prelude.{ℕ, zero, suc, ◌+◌, ◌*◌, ◌/◌, ◌%◌, ◌≤◌, ◌<◌, ◌≡◌, ◌⊎◌, Bool, true, false, cond, ◌&&◌, ◌||◌, not, List, Option, Some, None, eqb, ltb, length, get_or}
 use Rattle.theory.specs.Pool.{words}
 use Rattle.table.specs.declared.Shape.{Shape}
 use Rattle.table.specs.Shape.{places}
@@ -12,8 +12,6 @@ use Rattle.places.specs.Final.{old, was, place_at, AllOwned, entry_word}
 use Rattle.census.specs.Places.{first_number}
 use Rattle.census.specs.Tally.{none}
 use Rattle.targets.specs.declared.Paint.{Paint}
-use Rattle.targets.specs.declared.Target.{Target}
-use Rattle.targets.specs.declared.Target.TheVariants.{Says, Mixed}
 use Rattle.targets.specs.Targets.{painted, target_of, virtual_of, Gives, Readable}
 use Rattle.plan.specs.declared.Edge.{Edge}
 use Rattle.plan.specs.declared.Ends.{Ends}
@@ -69,9 +67,9 @@ PlansChange s d paint P false q = Room s (aimed_at s (aim_of d paint) P) → ⊥
 
 -- An edge with what is known before places are given out: eight rights, the pointer that it had, or a pointer that
 -- waits for its place.
-abbrev pub edge_for : ℕ → ℕ → Target → Edge
-edge_for n e (Says w) = record { number = n; old = e; last = w }
-edge_for n e Mixed = record { number = n; old = e; last = cond (leads 1 e) e 2147483647 }
+abbrev pub edge_for : ℕ → ℕ → Option ℕ → Edge
+edge_for n e (Some w) = record { number = n; old = e; last = w }
+edge_for n e None = record { number = n; old = e; last = cond (leads 1 e) e 2147483647 }
 
 -- The edge for block `n`, where the domain has the rights `R`.
 abbrev pub edge_at : (ℕ → ℕ) → ℕ → Paint → (ℕ → ℕ) → ℕ → ℕ → Edge
@@ -120,44 +118,35 @@ module _ (s : Shape) (d : ℕ) (paint : Paint) (P : ℕ → ℕ) where
     pub ends : EndsAre h r (ends_in m h)
     pub beside : Beside (edge_word h true) 6 l m
 
--- `r` is the first place from `c` on that is not kept, or `m` where all below `m` are.
+-- `r` is the first place from `c` on, below `m`, that is not kept ..
 pub record FirstFree (f : ℕ → Bool) (c m r : ℕ) : Type 0 where
   pub low : c ≤ r
-  pub high : r ≤ m
+  pub high : r < m
   pub gap : (q : ℕ) → c ≤ q → q < r → f q ≡ true
-  pub free : r < m → f r ≡ false
+  pub free : f r ≡ false
+
+-- .. or there is none.
+abbrev pub FreeIs : (ℕ → Bool) → ℕ → ℕ → Option ℕ → Type 0
+FreeIs f c m (Some r) = FirstFree f c m r
+FreeIs f c m None = (q : ℕ) → c ≤ q → q < m → f q ≡ true
 
 -- The edge `e` gets the first free place from `c` on for its new table, and places are next looked for from `b` on.
 pub record Takes (f : ℕ → Bool) (c : ℕ) (s : Shape) (h : ℕ) (e g : Edge) (b : ℕ) : Type 0 where
   pub makes_new : is_new h e ≡ true
   pub place : ℕ
   pub first : FirstFree f c (places s h) place
-  pub below : place < places s h
   pub same_number : g.number ≡ e.number
   pub same_old : g.old ≡ e.old
   pub points : g.last ≡ place_at s h place
   pub next : b ≡ place + 1
 
--- From which place on the next is looked for, once an edge has its own; or none is left.
-pub data Taken : Type 0 where
-  At : ℕ → Taken
-  None : Taken
-
--- The number that says so.
-abbrev pub taken_by : ℕ → Taken
-taken_by n = cond (eqb n 4294967295) None (At n)
-
--- An edge that needs no new place stays as it is; one that does takes the first free one, or there is none.
-abbrev pub TakenIs : (ℕ → Bool) → ℕ → Shape → ℕ → Edge → Edge → Taken → Type 0
-TakenIs f c s h e g (At b) = ((is_new h e ≡ false) × (g ≡ e) × (b ≡ c)) ⊎ Takes f c s h e g b
-TakenIs f c s h e g None = (is_new h e ≡ true) × ((q : ℕ) → c ≤ q → q < places s h → f q ≡ true)
+-- From which place on the next is looked for, once an edge has its own, or that none is left: an edge that needs no new
+-- place stays as it is; one that does takes the first free one, or there is none.
+abbrev pub TakenIs : (ℕ → Bool) → ℕ → Shape → ℕ → Edge → Edge → Option ℕ → Type 0
+TakenIs f c s h e g (Some b) = ((is_new h e ≡ false) × (g ≡ e) × (b ≡ c)) ⊎ Takes f c s h e g b
+TakenIs f c s h e g None = (is_new h e ≡ true) × FreeIs f c (places s h) None
 
 -- So it is with the edge whose words begin at `i`; the other words are as they were.
-pub record TakesPlace (f : ℕ → Bool) (c : ℕ) (s : Shape) (h i : ℕ) (l m : List ℕ) (r : Taken) : Type 0 where
+pub record TakesPlace (f : ℕ → Bool) (c : ℕ) (s : Shape) (h i : ℕ) (l m : List ℕ) (r : Option ℕ) : Type 0 where
   pub taken : TakenIs f c s h (edge_in l i) (edge_in m i) r
   pub beside : Beside i 3 l m
-
--- A place was found, where one was needed.
-abbrev pub found : Taken → Bool
-found (At b) = true
-found None = false

@@ -10,35 +10,26 @@ use census::NONE;
 fn still_wanted(domain: u32, ends: Ends, e: u32, n: u32) -> bool
     ensures { result ≡ stays_of domain ends e n }
 {
-    let first = ends.first;
-    let last = ends.last;
-    let f = first.number;
-    let l = last.number;
-    let f_entry = first.last;
-    let l_entry = last.last;
     if e != domain {
-        return true;
+        true
+    } else if n == ends.first.number {
+        ends.first.last < words::BIT_31
+    } else if n == ends.last.number {
+        ends.last.last < words::BIT_31
+    } else {
+        n < ends.first.number || ends.last.number < n
     }
-    if n == f {
-        return f_entry < words::BIT_31;
-    }
-    if n == l {
-        return l_entry < words::BIT_31;
-    }
-    if n < f {
-        return true;
-    }
-    l < n
 }
 
 // Whether the table at a place of a height, by the place's owner, is kept.
 pub fn is_kept(height: u32, domain: u32, ends: Ends, owner: u32) -> bool
     ensures { result ≡ owner_stays height domain ends owner }
 {
-    if owner == NONE {
-        return false;
-    }
-    let e = census::domain_of(height, owner);
-    let n = census::block_in_domain(height, owner);
-    still_wanted(domain, ends, e, n)
+    owner != NONE
+        && still_wanted(
+            domain,
+            ends,
+            census::domain_of(height, owner),
+            census::block_in_domain(height, owner),
+        )
 }

@@ -48,28 +48,25 @@ fn edge_in(plan: &[u32; PLAN_WORDS], i: usize) -> Edge
     }
 }
 
-// The edges of a height.
-pub fn ends_in(plan: &[u32; PLAN_WORDS], height: u32) -> Ends
-    ensures { result ≡ ends_of (plan_in plan.now) height }
-{
-    if height == 0 {
-        let first = edge_in(plan, FIRST_PAGE);
-        let last = edge_in(plan, LAST_PAGE);
-        return Ends { first, last };
-    }
-    let first = edge_in(plan, FIRST_BLOCK);
-    let last = edge_in(plan, LAST_BLOCK);
-    Ends { first, last }
-}
-
 // Where the words of the first or the last edge of a height begin.
 pub fn edge_index(height: u32, first: bool) -> usize
     ensures { result ≡ edge_word height first }
 {
-    if height == 0 {
-        if first { FIRST_PAGE } else { LAST_PAGE }
-    } else {
-        if first { FIRST_BLOCK } else { LAST_BLOCK }
+    match (height, first) {
+        (0, true) => FIRST_PAGE,
+        (0, false) => LAST_PAGE,
+        (_, true) => FIRST_BLOCK,
+        (_, false) => LAST_BLOCK,
+    }
+}
+
+// The edges of a height.
+pub fn ends_in(plan: &[u32; PLAN_WORDS], height: u32) -> Ends
+    ensures { result ≡ ends_of (plan_in plan.now) height }
+{
+    Ends {
+        first: edge_in(plan, edge_index(height, true)),
+        last: edge_in(plan, edge_index(height, false)),
     }
 }
 

@@ -11,13 +11,15 @@ ghost use Rattle.table.specs.Map.{form_of};
 ghost use Rattle.places.specs.Count.{heights, blocks};
 ghost use Rattle.census.specs.Places.{max_places, first_number};
 ghost use Rattle.census.specs.Census.{Owners};
-ghost use Rattle.plan.specs.Plan.{plan_words, ends_in, plan_in, put_edge};
+ghost use Rattle.plan.specs.Plan.{ends_in, plan_in, put_edge};
 ghost use Rattle.plan.specs.Planning.{Regular};
 ghost use Rattle.plan.specs.Edges.{PlansChange, PlansEnds, edge_for, edge_at, entry_at, ReadableRoot, RootGives};
-ghost use Rattle.plan.specs.Edges.{kept_at, FirstFree, TakesPlace, taken_by, found};
+ghost use Rattle.plan.specs.Edges.{kept_at, FreeIs, TakesPlace};
 
+use census::PLACES;
 use table::{Shape, TABLE_WORDS};
-use targets::{Paint, Target};
+use targets::Paint;
+use words::PoolWord;
 
 mod keeping; // keeping.rt: the tables that stay
 mod layout; // layout.rt: how a plan lies in its words
@@ -25,11 +27,8 @@ mod layout; // layout.rt: how a plan lies in its words
 pub use layout::{PLAN_WORDS, domain_in, ends_in, paint_in};
 
 // What a pointer holds while the place of its new table is still to be found: it leads, and no pool word has this
-// number.
+// number. An Option would take another of the lent words.
 pub const PENDING: u32 = 0x7FFF_FFFF;
-
-// What `take_place` answers where no place is left, a number that no place has: an enum would stand on the stack.
-const NO_PLACE: u32 = 0xFFFF_FFFF;
 
 // A block or a page at an end of the region: its number in the domain, the entry that it had, and the entry that it
 // will have. Of a page in a block of eight rights the old entry is the eight rights that stand for it.
@@ -58,30 +57,15 @@ pub struct Plan {
 }
 
 // An edge before places are given out. A table that it had stays where it is.
-fn edge_of(number: u32, old: u32, target: Target) -> Edge
+fn edge_of(number: u32, old: u32, target: Option<u32>) -> Edge
     ensures { result ≡ edge_for number old target }
 {
-    match target {
-        Target::Says(w) => Edge {
-            number,
-            old,
-            last: w,
-        },
-        Target::Mixed => {
-            if old < words::BIT_31 {
-                return Edge {
-                    number,
-                    old,
-                    last: old,
-                };
-            }
-            Edge {
-                number,
-                old,
-                last: PENDING,
-            }
-        }
-    }
+    let last = match target {
+        Some(w) => w,
+        None if old < words::BIT_31 => old,
+        None => PENDING,
+    };
+    Edge { number, old, last }
 }
 
 // The root entry of a block.
@@ -91,8 +75,7 @@ fn root_entry(pool: &[u32], domain: u32, block: u32) -> u32
     ensures { result ≡ words pool.now (1024 * domain + block) }
 {
     let word = table::root_word(domain, block);
-    let at = words::pool_index(word);
-    pool[at]
+    pool[word.index()]
 }
 
 // The entry of a block; of a page in a block of eight rights, the eight rights that stand for it.
@@ -105,13 +88,11 @@ fn old_entry(pool: &[u32], height: u32, domain: u32, n: u32) -> u32
         return root_entry(pool, domain, n);
     }
     let root = root_entry(pool, domain, n / TABLE_WORDS);
-    if root < words::BIT_31 {
-        let table = words::pool_word(root);
-        let page = words::word_after(table, (n % TABLE_WORDS) as usize);
-        let k = words::pool_index(page);
-        return pool[k];
+    if root >= words::BIT_31 {
+        return targets::virtual_entry(1, root, n);
     }
-    targets::virtual_entry(1, root, n)
+    let page = PoolWord::from(root).after((n % TABLE_WORDS) as usize);
+    pool[page.index()]
 }
 
 // The edge of a block, before places are given out: where a new table is wanted, its pointer waits.
@@ -135,79 +116,50 @@ fn draft_edge(
     layout::put_edge(plan, i, edge);
 }
 
-// The first place from `from` on where no kept table stands, or `to`. Places that the change gives up count as free; a
-// place that a table of any domain keeps does not.
+// The first place from `from` on, below `to`, where no kept table stands. Places that the change gives up count as free;
+// a place that a table of any domain keeps does not.
 fn next_free(
-    owners: &[u32],
+    owners: &[u32; PLACES],
     height: u32,
     domain: u32,
     plan: &[u32; PLAN_WORDS],
     from: u32,
     to: u32,
-) -> u32
-    requires owners_len { length owners.now ≡ max_places }
+) -> Option<u32>
     requires from_le_to { (from ≤ to) × (first_number height + to ≤ max_places) }
-    ensures { FirstFree (kept_at owners.now height domain (ends_in plan.now height)) from to
-        result }
+    ensures { FreeIs (kept_at owners.now height domain (ends_in plan.now height)) from to result }
 {
     let base = census::first_number(height);
     let ends = layout::ends_in(plan, height);
-    let mut p = from;
-    while p < to {
-        let owner = owners[(base + p) as usize];
-        let kept = keeping::is_kept(height, domain, ends, owner);
-        if !kept {
-            return p;
-        }
-        p += 1;
-    }
-    p
+    (from..to).find(|p| !keeping::is_kept(height, domain, ends, owners[(base + *p) as usize]))
 }
 
 // A new table, of the edge whose words begin at `i`, takes the lowest place of its height, from `from` on, that no
-// kept table has. Answers from which place on the next is looked for, or that none is left.
+// kept table has. Answers from which place on the next is looked for, or None where no place is left.
 fn take_place(
-    owners: &[u32],
+    owners: &[u32; PLACES],
     shape: Shape,
     height: u32,
     domain: u32,
     plan: &mut [u32; PLAN_WORDS],
     i: usize,
     from: u32,
-) -> u32
-    requires owners_len { length owners.now ≡ max_places }
+) -> Option<u32>
     requires in_range { InRange shape }
     requires from_bound { (from ≤ places shape height) × (i < 14) }
-    requires plan_len { length plan.old ≡ plan_words }
     ensures { TakesPlace (kept_at owners.now height domain (ends_in plan.old height)) from
-        shape height i plan.old plan.new (taken_by result) }
+        shape height i plan.old plan.new result }
 {
     let old = plan[i + 1];
     let last = plan[i + 2];
-    if last >= words::BIT_31 {
-        return from;
-    }
-    if old < words::BIT_31 {
-        return from;
+    if last >= words::BIT_31 || old < words::BIT_31 {
+        return Some(from);
     }
     let count = table::places_of(shape, height);
-    let place = next_free(owners, height, domain, plan, from, count);
-    if place == count {
-        return NO_PLACE;
-    }
-    let base = table::first_place(shape, height);
-    let long = table::size_of(height);
-    let table = words::word_after(base, (long * place) as usize);
-    let pointer = words::entry_of(table);
-    plan[i + 2] = pointer;
-    place + 1
-}
-
-// Whether a new table, if one was needed, has its place.
-fn has_place(next: u32) -> bool
-    ensures { result ≡ found (taken_by next) }
-{
-    next != NO_PLACE
+    let place = next_free(owners, height, domain, plan, from, count)?;
+    let table = table::first_place(shape, height).after((table::size_of(height) * place) as usize);
+    plan[i + 2] = table.entry();
+    Some(place + 1)
 }
 
 // The edges of a height, with places for their new tables in the order of their blocks; or a new table finds none.
@@ -215,7 +167,7 @@ fn has_place(next: u32) -> bool
 fn plan_ends(
     pool: &[u32],
     shape: Shape,
-    owners: &[u32],
+    owners: &[u32; PLACES],
     height: u32,
     domain: u32,
     paint: Paint,
@@ -225,15 +177,12 @@ fn plan_ends(
     requires settled { Settled (form_of shape) (words pool.now) }
     requires owners { Owners pool.now shape owners.now }
     requires height_lt_heights { (height < heights) × (domain < shape.domains) × Regular paint }
-    requires plan_len { length plan.old ≡ plan_words }
     ensures { PlansEnds shape domain paint (words pool.now) height plan.old
         plan.new result }
 {
-    let lo = paint.lo;
-    let hi = paint.hi;
     let long = table::block_words(height + 1);
-    let begin = lo / long;
-    let end = (hi - 1) / long;
+    let begin = paint.lo / long;
+    let end = (paint.hi - 1) / long;
     let f = layout::edge_index(height, true);
     let l = layout::edge_index(height, false);
     draft_edge(pool, height, domain, paint, begin, plan, f);
@@ -241,15 +190,13 @@ fn plan_ends(
         layout::copy_edge(plan, f, l);
         let only = take_place(owners, shape, height, domain, plan, f, 0);
         layout::copy_edge(plan, f, l);
-        return has_place(only);
+        return only.is_some();
     }
     draft_edge(pool, height, domain, paint, end, plan, l);
-    let one = take_place(owners, shape, height, domain, plan, f, 0);
-    if !has_place(one) {
+    let Some(next) = take_place(owners, shape, height, domain, plan, f, 0) else {
         return false;
-    }
-    let two = take_place(owners, shape, height, domain, plan, l, one);
-    has_place(two)
+    };
+    take_place(owners, shape, height, domain, plan, l, next).is_some()
 }
 
 // The plan of a change, before its first store: which entries it ends with, and where its new tables stand. False
@@ -257,7 +204,7 @@ fn plan_ends(
 pub fn plan_change(
     pool: &[u32],
     shape: Shape,
-    owners: &[u32],
+    owners: &[u32; PLACES],
     domain: u32,
     paint: Paint,
     plan: &mut [u32; PLAN_WORDS],
@@ -269,17 +216,12 @@ pub fn plan_change(
     requires regular { Regular paint }
     ensures { PlansChange shape domain paint (words pool.now) result (plan_in plan.new) }
 {
-    // Only as a slice is an array behind a reference known to have its length: the words that are stored are read back.
-    let whole = &plan[..];
     plan[0] = domain;
     plan[1] = paint.lo;
     plan[2] = paint.hi;
     plan[3] = paint.right;
-    let mut height: u32 = 2;
-    while 0 < height {
-        height -= 1;
-        let fits = plan_ends(pool, shape, owners, height, domain, paint, plan);
-        if !fits {
+    for height in (0..2).rev() {
+        if !plan_ends(pool, shape, owners, height, domain, paint, plan) {
             return false;
         }
     }

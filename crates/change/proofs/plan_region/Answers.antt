@@ -14,37 +14,37 @@ use Rattle.change.proofs.plan_region.Goals.{Else-not-settled}
 settled_here : (c : Else-not-settled) → let a =
     c.args in
     Settled (form_of a.shape) (words a.pool.now)
-settled_here c = c.settled-settled.ensures.holds (c.if-not-settled.false)
+settled_here c = c.settled.ensures.holds (c.if-not-settled.false)
 
-pub returns-then-not-sound : goal.returns-then-not-sound
-returns-then-not-sound c = λ n. unsound (λ z. true≢false
-    (sym (c.census-sound.ensures.whole z) ∙ c.if-not-sound.true))
+pub returns-then-not-census : goal.returns-then-not-census
+returns-then-not-census c = λ n. unsound (λ z. true≢false
+    (sym (c.census.ensures.whole z) ∙ c.if-not-census.true))
 
-pub settled-settled-requires : goal.settled-settled-requires
-settled-settled-requires c = let sound = c.if-not-sound.false in
+pub settled-requires : goal.settled-requires
+settled-requires c = let sound = c.if-not-census.false in
     record {
       fits = c.requires.fits;
-      sound_pool = c.census-sound.ensures.sound sound;
-      owners = c.census-sound.ensures.owners sound;
+      sound_pool = c.census.ensures.sound sound;
+      owners = c.census.ensures.owners sound;
     }
 
 pub returns-then-not-settled : goal.returns-then-not-settled
-returns-then-not-settled c = λ n. unsettled (c.census-sound.ensures.sound (c.if-not-sound.false))
-    (λ z. true≢false (sym (c.settled-settled.ensures.passes z) ∙ c.if-not-settled.true))
+returns-then-not-settled c = λ n. unsettled (c.census.ensures.sound (c.if-not-census.false))
+    (λ z. true≢false (sym (c.settled.ensures.passes z) ∙ c.if-not-settled.true))
 
-pub plan_change-ready-requires : goal.plan_change-ready-requires
-plan_change-ready-requires c = record {
+pub plan_change-requires : goal.plan_change-requires
+plan_change-requires c = record {
   fits = c.requires.fits;
-  settled = settled_here (goal.at.plan_change-ready-requires c).Else-not-settled;
-  owners = c.census-sound.ensures.owners (c.if-not-sound.false);
+  settled = settled_here (goal.at.plan_change-requires c).Else-not-settled;
+  owners = c.census.ensures.owners (c.if-not-census.false);
   domain_lt_domains = c.requires.domain_lt_domains.0;
   regular = c.requires.domain_lt_domains.1;
 }
 
-pub returns-then-not-ready : goal.returns-then-not-ready
-returns-then-not-ready c = let a = c.args in
-    λ n. no_room (settled_here (goal.at.returns-then-not-ready c).Else-not-settled) (planning_none a.pool.now a.shape a.domain a.paint
-    c.plan_change-ready.result _ c.plan_change-ready.ensures (c.if-not-ready.true))
+pub returns-then-not-plan_change : goal.returns-then-not-plan_change
+returns-then-not-plan_change c = let a = c.args in
+    λ n. no_room (settled_here (goal.at.returns-then-not-plan_change c).Else-not-settled) (planning_none a.pool.now a.shape a.domain a.paint
+    c.plan_change.result _ c.plan_change.ensures (c.if-not-plan_change.true))
 
 pub returns : goal.returns
 returns c = let a = c.args in
@@ -52,6 +52,6 @@ returns c = let a = c.args in
       t,
       plan_ready a.pool.now a.shape a.domain a.paint _ c.requires.fits t
           (λ i. omega (arith, c.type_inv.pool i)) c.requires.domain_lt_domains.0 c.requires.domain_lt_domains.1
-          (planning_ready a.pool.now a.shape a.domain a.paint c.plan_change-ready.result _
-          c.plan_change-ready.ensures (c.if-not-ready.false)),
+          (planning_ready a.pool.now a.shape a.domain a.paint c.plan_change.result _
+          c.plan_change.ensures (c.if-not-plan_change.false)),
     )

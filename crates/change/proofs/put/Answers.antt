@@ -4,9 +4,6 @@ use Rattle.plan.specs.Aims.{aim_of}
 use Rattle.change.proofs.CutLaws.{put_cuts}
 use Rattle.change.proofs.put.Goals as goal
 
-pub bounds-pool-i : goal.bounds-pool-i
-bounds-pool-i c = rw c.pool_index-i.ensures c.requires.inside
-
 pub returns : goal.returns
 returns c = let a = c.args in
-    rw c.pool_index-i.ensures record { stored = refl; cut = put_cuts a.shape (aim_of a.domain a.paint) c.requires }
+    rw c.index.ensures record { stored = refl; cut = put_cuts a.shape (aim_of a.domain a.paint) c.requires }

@@ -1,5 +1,5 @@
 -- `lookaside::flush_domain` meets its contract. Assumes nothing.
-use mathlib.Core.Path.{sym, ◌∙◌}
+use mathlib.Core.Path.{refl, sym, ◌∙◌}
 use Rattle.std.proofs.Common.{rules}
 use Rattle.lookaside.specs.Flushes.{flushes}
 use Rattle.lookaside.proofs.LayoutLaws.{flush_done_as}
@@ -7,5 +7,5 @@ use Rattle.lookaside.proofs.flush_domain.Goals as goal
 
 pub returns : goal.returns
 unfolding flushes
-returns c = flush_done_as _ _ _ (sym c.pointed.ensures ∙ c.in_ok-pointed.was)
+returns c = flush_done_as _ _ _ _ refl (sym c.pointed.ensures ∙ c.in_ok-pointed.was)
     (c.flush.ensures _ (λ s b p. search rules))

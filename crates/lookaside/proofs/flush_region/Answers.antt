@@ -1,12 +1,14 @@
 -- `lookaside::flush_region` meets its contract. Assumes nothing.
-use mathlib.Core.Path.{sym, ◌∙◌}
+use mathlib.Core.Path.{sym, ap, ◌∙◌}
 use Rattle.std.proofs.Common.{rules}
-use Rattle.lookaside.specs.Flushes.{flushes}
+use Rattle.lookaside.specs.Flushes.{flushes, pointed, flushed_rounded}
+use Rattle.lookaside.specs.Layout.{buffer_of}
 use Rattle.lookaside.proofs.LayoutLaws.{flush_done_as}
 use Rattle.lookaside.proofs.flush_region.Goals as goal
 
 pub returns : goal.returns
 unfolding flushes
-returns c =
-    rw (sym c.round_region.ensures ∙ c.in_ok-region.was)
-    (flush_done_as _ _ _ (sym c.pointed.ensures ∙ c.in_ok-pointed.was) (c.flush.ensures _ (λ s b p. search rules)))
+returns c = let b = buffer_of c.args.buffer.now in
+    flush_done_as b _ _ _
+    (ap (λ r. pointed b (flushed_rounded r b c.args.domain)) (sym c.round_region.ensures ∙ c.in_ok-region.was))
+    (sym c.pointed.ensures ∙ c.in_ok-pointed.was) (c.flush.ensures _ (λ s b p. search rules))

@@ -1,28 +1,14 @@
 -- `plan::draft_edge` meets its contract.
-use Prim.Native.Nat.{suc, ◌*◌, ◌<◌}
+use Prim.Native.Nat.{suc, ◌*◌}
 use mathlib.Core.Path.{sym, subst, ap, ◌∙◌}
-use native.Mathlib.Omega.{arith}
 use native.Mathlib.Numerals.{add-one}
 use Rattle.theory.specs.Pool.{words}
 use Rattle.table.specs.Map.{block}
-use Rattle.targets.specs.Targets.{painted, target_of, entry_blocks, Gives, Readable}
+use Rattle.targets.specs.Targets.{painted, target_of, Gives}
 use Rattle.plan.specs.Plan.{put_edge}
 use Rattle.plan.specs.Edges.{edge_for}
-use Rattle.plan.proofs.DraftLaws.{entry_blocks_lem, old_readable, old_gives}
+use Rattle.plan.proofs.DraftLaws.{old_gives}
 use Rattle.plan.proofs.draft_edge.Goals as goal
-
-pub entry_target-target-requires : goal.entry_target-target-requires
-entry_target-target-requires c = let a = c.args in
-    let z = sym (add-one a.height) in record {
-      readable = subst (λ h. Readable a.pool.now h c.old_entry-old.result) z
-          (subst (Readable a.pool.now (suc a.height)) (sym c.old_entry-old.ensures)
-          (old_readable a.pool.now a.height a.domain a.n c.requires.height_lt_heights.0 c.requires.height_lt_heights.2 c.requires.readable_root));
-      height_bound = (
-        omega arith,
-        subst (λ h. a.n < entry_blocks h) z (rw (entry_blocks_lem a.height c.requires.height_lt_heights.0) c.requires.height_lt_heights.2),
-        c.requires.height_lt_heights.3,
-      );
-    }
 
 pub returns : goal.returns
 returns c = λ R g.

@@ -1,24 +1,24 @@
 -- `plan::plan_ends` meets its contract.
 use Prim.Native.Nat.{ℕ, zero, suc, ◌+◌, ◌-◌, ◌/◌, ◌≤◌, ◌<◌}
-use mathlib.Core.Path.{◌≡◌, refl, sym, subst, ap, ◌∙◌}
+use mathlib.Core.Path.{◌≡◌, sym, subst, ap, ◌∙◌}
 use mathlib.Core.Bool.{Bool, true, false}
+use Rattle.std.specs.Prelude.{Option}
 use mathlib.Core.List.{List}
 use native.Mathlib.Omega.{arith}
 use native.Mathlib.Numerals.{add-one}
-use lib.ListN.{length}
 use Rattle.theory.specs.Pool.{words, right_of}
 use Rattle.table.specs.declared.Shape.{Shape}
 use Rattle.table.specs.Map.{block, form_of}
 use Rattle.plan.specs.declared.Edge.{Edge}
-use Rattle.plan.specs.Plan.{plan_words, edge_word, edge_in, put_edge}
+use Rattle.plan.specs.Plan.{edge_word, edge_in, put_edge}
 use Rattle.plan.specs.Planning.{Regular, first_of, last_of}
 use Rattle.targets.specs.declared.Paint.{Paint}
 use Rattle.places.specs.Count.{heights}
-use Rattle.plan.specs.Edges.{edge_at, Taken, taken_by, TakesPlace}
+use Rattle.plan.specs.Edges.{edge_at, TakesPlace}
 use Rattle.plan.proofs.MeetLaws.{end_below}
 use Rattle.plan.proofs.DraftLaws.{words_bytes, pool_root, pool_gives}
-use Rattle.plan.proofs.GiveLaws.{taken_low, found_at, found_none}
-use Rattle.plan.proofs.LayoutLaws.{length_put, last_after, first_low}
+use Rattle.plan.proofs.GiveLaws.{taken_low}
+use Rattle.plan.proofs.LayoutLaws.{last_after, first_low}
 use Rattle.plan.proofs.EndsLaws.{one_planned, first_full, two_planned}
 use Rattle.plan.proofs.plan_ends.Goals as goal
 
@@ -60,22 +60,11 @@ drafted : (edge : ℕ → Edge) (l : List ℕ) {m : List ℕ} {i j n o : ℕ} �
     → m ≡ put_edge l j (edge o)
 drafted edge l {j = j} {n = n} x y e = e ∙ ap (λ k. put_edge l k (edge n)) x ∙ ap (λ k. put_edge l j (edge k)) y
 
-still_long : (l : List ℕ) {m : List ℕ} (i : ℕ) (e : Edge) → m ≡ put_edge l i e → length l ≡ plan_words
-    → length m ≡ plan_words
-still_long l i e x y = ap length x ∙ length_put l i e ∙ y
-
--- A place is taken at the words that are told, with the answer that is told.
-takes_as : {f : ℕ → Bool} {c : ℕ} {z : Shape} {h i j : ℕ} {l m : List ℕ} {r q : Taken} → i ≡ j → r ≡ q
+-- A place is taken at the words that are told.
+takes_at : {f : ℕ → Bool} {c : ℕ} {z : Shape} {h i j : ℕ} {l m : List ℕ} {r : Option ℕ} → i ≡ j
     → TakesPlace f c z h i l m r
-    → TakesPlace f c z h j l m q
-takes_as {f} {c} {z} {h} {i} {j} {l} {m} {r} {q} x y t =
-    subst (λ k. TakesPlace f c z h k l m q) x (subst (TakesPlace f c z h i l m) y t)
-
-pub nonzero_div-begin : goal.nonzero_div-begin
-nonzero_div-begin c = few c.args.height c.block_words-long.ensures
-
-pub nonzero_div-end : goal.nonzero_div-end
-nonzero_div-end c = few c.args.height c.block_words-long.ensures
+    → TakesPlace f c z h j l m r
+takes_at {f} {c} {z} {h} {l = l} {m = m} {r = r} x t = subst (λ k. TakesPlace f c z h k l m r) x t
 
 pub draft_edge-requires : goal.draft_edge-requires
 draft_edge-requires c =
@@ -88,52 +77,6 @@ draft_edge-requires c =
       readable_root = pool_root a.shape a.pool.now a.domain c.requires.fits c.requires.settled domain;
       height_lt_heights = (low, omega arith, rw (begins c.args.height c.block_words-long.ensures a.paint r low) n, r.right, omega arith);
     }
-
-pub copy_edge-requires : goal.copy_edge-requires
-copy_edge-requires c =
-    let x = follows c.args.height c.edge_index-f.ensures c.edge_index-l.ensures in
-    let y = lies c.args.height c.edge_index-f.ensures c.edge_index-l.ensures in
-    (omega arith, omega arith)
-
-pub take_place-only-requires : goal.take_place-only-requires
-take_place-only-requires c =
-    let z = lies c.args.height c.edge_index-f.ensures c.edge_index-l.ensures in
-    let d = c.draft_edge.ensures _ (pool_gives c.args.shape (words c.args.pool.now) c.args.domain) in
-    record {
-      owners_len = c.requires.owners.long;
-      in_range = c.requires.fits.range;
-      from_bound = (omega arith, omega arith);
-      plan_len = still_long _ _ _ c.copy_edge.ensures (still_long _ _ _ d c.requires.plan_len);
-    }
-
-pub copy_edge-requires-then-begin-end : goal.copy_edge-requires-then-begin-end
-copy_edge-requires-then-begin-end c =
-    let x = follows c.args.height c.edge_index-f.ensures c.edge_index-l.ensures in
-    let y = lies c.args.height c.edge_index-f.ensures c.edge_index-l.ensures in
-    (omega arith, omega arith)
-
--- Both edges are one.
-pub returns-then-begin-end : goal.returns-then-begin-end
-returns-then-begin-end c =
-    let a = c.args in
-    let P = words a.pool.now in
-    let edge : ℕ → Edge = edge_at P a.domain a.paint (right_of (form_of a.shape) P a.domain) a.height in
-    let pre = c.requires in
-    let (low, domain, r) = pre.height_lt_heights in
-    let f = c.edge_index-f.ensures in
-    let l = c.edge_index-l.ensures in
-    let b = begins c.args.height c.block_words-long.ensures a.paint r low in
-    let e = ends c.args.height c.block_words-long.ensures a.paint r low in
-    rw c.has_place.ensures (
-    one_planned a.pool.now a.shape a.owners.now a.domain a.paint pre.fits pre.settled pre.owners domain r a.height low
-    a.plan.now c.draft_edge.new.plan pre.plan_len
-    (drafted edge a.plan.now f b (c.draft_edge.ensures _ (pool_gives a.shape (words a.pool.now) a.domain)))
-    c.copy_edge.new.plan c.take_place-only.new.plan c.copy_edge-then-begin-end.new.plan
-    (sym b ∙ c.if-begin-end.true ∙ e)
-    (copied a.height f l c.draft_edge.new.plan c.copy_edge.ensures)
-    (taken_by c.take_place-only.result)
-    (takes_as f refl c.take_place-only.ensures)
-    (copied a.height f l c.take_place-only.new.plan c.copy_edge-then-begin-end.ensures))
 
 pub draft_edge-requires-2 : goal.draft_edge-requires-2
 draft_edge-requires-2 c =
@@ -148,20 +91,31 @@ draft_edge-requires-2 c =
       height_lt_heights = (low, omega arith, rw (ends c.args.height c.block_words-long.ensures a.paint r low) n, r.right, omega arith);
     }
 
-pub take_place-one-requires : goal.take_place-one-requires
-take_place-one-requires c =
-    let z = lies c.args.height c.edge_index-f.ensures c.edge_index-l.ensures in
-    let g = pool_gives c.args.shape (words c.args.pool.now) c.args.domain in
-    record {
-      owners_len = c.requires.owners.long;
-      in_range = c.requires.fits.range;
-      from_bound = (omega arith, omega arith);
-      plan_len = still_long _ _ _ (c.draft_edge-2.ensures _ g)
-          (still_long _ _ _ (c.draft_edge.ensures _ g) c.requires.plan_len);
-    }
+-- Both edges are one.
+pub returns-then-begin-end : goal.returns-then-begin-end
+returns-then-begin-end c =
+    let a = c.args in
+    let P = words a.pool.now in
+    let edge : ℕ → Edge = edge_at P a.domain a.paint (right_of (form_of a.shape) P a.domain) a.height in
+    let pre = c.requires in
+    let (low, domain, r) = pre.height_lt_heights in
+    let f = c.edge_index-f.ensures in
+    let l = c.edge_index-l.ensures in
+    let b = begins c.args.height c.block_words-long.ensures a.paint r low in
+    let e = ends c.args.height c.block_words-long.ensures a.paint r low in
+    rw c.is_some.ensures (
+    one_planned a.pool.now a.shape a.owners.now a.domain a.paint pre.fits pre.settled pre.owners domain r a.height low
+    a.plan.now c.draft_edge.new.plan c.told-plan
+    (drafted edge a.plan.now f b (c.draft_edge.ensures _ (pool_gives a.shape (words a.pool.now) a.domain)))
+    c.copy_edge.new.plan c.take_place-only.new.plan c.copy_edge-then-begin-end.new.plan
+    (sym b ∙ c.if-begin-end.true ∙ e)
+    (copied a.height f l c.draft_edge.new.plan c.copy_edge.ensures)
+    c.take_place-only.result
+    (takes_at f c.take_place-only.ensures)
+    (copied a.height f l c.take_place-only.new.plan c.copy_edge-then-begin-end.ensures))
 
-pub returns-then-not-has_place : goal.returns-then-not-has_place
-returns-then-not-has_place c =
+pub returns-in_default : goal.returns-in_default
+returns-in_default c =
     let a = c.args in
     let P = words a.pool.now in
     let edge : ℕ → Edge = edge_at P a.domain a.paint (right_of (form_of a.shape) P a.domain) a.height in
@@ -173,24 +127,17 @@ returns-then-not-has_place c =
     let e = ends c.args.height c.block_words-long.ensures a.paint r low in
     let g = pool_gives a.shape (words a.pool.now) a.domain in
     first_full a.pool.now a.shape a.owners.now a.domain a.paint pre.fits pre.settled pre.owners domain r a.height low
-    a.plan.now c.draft_edge.new.plan pre.plan_len (drafted edge a.plan.now f b (c.draft_edge.ensures _ g)) _ _
+    a.plan.now c.draft_edge.new.plan c.told-plan (drafted edge a.plan.now f b (c.draft_edge.ensures _ g)) _ _
     (λ z. c.if-begin-end.false (b ∙ z ∙ sym e)) (drafted edge c.draft_edge.new.plan l e (c.draft_edge-2.ensures _ g))
-    (takes_as f (found_none c.take_place-one.result (sym c.has_place-2.ensures ∙ c.if-not-has_place.true))
-    c.take_place-one.ensures)
+    (takes_at f c.in_default.ensures)
 
-pub take_place-two-requires : goal.take_place-two-requires
-take_place-two-requires c =
+pub take_place-requires-2 : goal.take_place-requires-2
+take_place-requires-2 c =
     let y = follows c.args.height c.edge_index-f.ensures c.edge_index-l.ensures in
     let z = lies c.args.height c.edge_index-f.ensures c.edge_index-l.ensures in
-    let g = pool_gives c.args.shape (words c.args.pool.now) c.args.domain in
-    let on = found_at _ (sym c.has_place-2.ensures ∙ c.if-not-has_place.false) in
-    let u = c.take_place-one.ensures in
     record {
-      owners_len = c.requires.owners.long;
       in_range = c.requires.fits.range;
-      from_bound = (taken_low (omega arith) (rw on at u.taken), omega arith);
-      plan_len = u.beside.long ∙ still_long _ _ _ (c.draft_edge-2.ensures _ g)
-          (still_long _ _ _ (c.draft_edge.ensures _ g) c.requires.plan_len);
+      from_bound = (taken_low (omega arith) c.in-Some.ensures.taken, omega arith);
     }
 
 -- The last edge takes its place after the first.
@@ -206,11 +153,9 @@ returns c =
     let b = begins c.args.height c.block_words-long.ensures a.paint r low in
     let e = ends c.args.height c.block_words-long.ensures a.paint r low in
     let g = pool_gives a.shape (words a.pool.now) a.domain in
-    rw c.has_place-3.ensures (
+    rw c.is_some-2.ensures (
     two_planned a.pool.now a.shape a.owners.now a.domain a.paint pre.fits pre.settled pre.owners domain r a.height low
-    a.plan.now c.draft_edge.new.plan pre.plan_len (drafted edge a.plan.now f b (c.draft_edge.ensures _ g)) _ _
+    a.plan.now c.draft_edge.new.plan c.told-plan (drafted edge a.plan.now f b (c.draft_edge.ensures _ g)) _ _
     (λ z. c.if-begin-end.false (b ∙ z ∙ sym e)) (drafted edge c.draft_edge.new.plan l e (c.draft_edge-2.ensures _ g))
-    _ c.take_place-one.result
-    (takes_as f (found_at _ (sym c.has_place-2.ensures ∙ c.if-not-has_place.false)) c.take_place-one.ensures)
-    (taken_by c.take_place-two.result)
-    (takes_as l refl c.take_place-two.ensures))
+    _ c.in-Some.next (takes_at f c.in-Some.ensures)
+    c.take_place-2.result (takes_at l c.take_place-2.ensures))

@@ -10,7 +10,7 @@ use Rattle.change.proofs.AheadLaws.{ahead_as, ahead_both}
 use Rattle.change.proofs.ahead.next_high.Goals as goal
 
 pub near_entries-one-requires : goal.near_entries-one-requires
-near_entries-one-requires c = let e = ap (λ w. w.0) c.pool_word-root.ensures in
+near_entries-one-requires c = let e = ap (λ w. w.0) c.from-root.ensures in
     record {
       plan_fits = c.requires;
       height_bound = (omega arith, omega (arith, c.requires.0.domain));
@@ -34,7 +34,7 @@ near_table-requires c = let b = edge_below (plan_in c.args.plan.now) c.requires.
 
 pub returns : goal.returns
 returns c = let q = plan_in c.args.plan.now in
-    let root = ap (λ w. w.0) c.pool_word-root.ensures in
+    let root = ap (λ w. w.0) c.from-root.ensures in
     let w = c.ends_in-blocks.ensures in
     ahead_as (ahead_both (ahead_both (rw (root, c.domain_in.ensures) at c.near_entries-one.ensures)
     (rw w at c.near_table-two.ensures)) (rw w at c.near_table.ensures))

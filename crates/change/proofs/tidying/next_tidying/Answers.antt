@@ -1,60 +1,41 @@
--- `tidying::next_tidying` meets its contract. The loop takes every tidying that stands at the cursor to word `k`.
-use Prim.Native.Nat.{◌+◌, ◌-◌, ◌%◌}
+-- `tidying::next_tidying` meets its contract. The loop takes every tidying that stands at the cursor to word `k`, which
+-- is of the place that comes next.
+use Prim.Native.Nat.{◌+◌, ◌*◌, ◌-◌, ◌%◌}
 use mathlib.Core.Path.{◌≡◌, ap}
 use native.Mathlib.Omega.{arith}
-use Rattle.change.proofs.RunLaws.{in_store, in_none, wanted_from}
+use Rattle.change.proofs.RunLaws.{found_next, passes_on}
 use Rattle.change.proofs.TidyAimLaws.{place_at, tidy_end}
 use Rattle.change.proofs.tidying.next_tidying.Goals as goal
-use Rattle.change.proofs.tidying.next_tidying.Goals.{After-pool_word-base}
+use Rattle.change.proofs.tidying.next_tidying.Goals.{After-from}
 
--- The place in which the word stands.
-base : (c : After-pool_word-base) → let k = c.loop-k.k in c.pool_word-base.result.0
-    ≡ k - k % 1024
-base c = ap (λ w. w.0) c.pool_word-base.ensures
+pub loop-place-init : goal.loop-place-init
+loop-place-init c = (omega arith, omega arith, λ u y. rw c.index-k.ensures (rw c.requires.looks.follows at y))
 
--- From where it stands on.
-from : (c : After-pool_word-base) → let k = c.loop-k.k in c.pool_word-base.result.0 +
-    k % 1024 ≡ k
-from c = let e = base c in omega arith
+-- Where the place begins, and how far on word `k` is.
+begins : (c : After-from) → let l = c.loop-place in
+    (c.from.result.0 ≡ 1024 * l.place) × (c.from.result.0 + (l.k - 1024 * l.place) ≡ l.k)
+begins c = let e = ap (λ w. w.0) c.from.ensures in (e, omega (arith, c.loop-place.invariant.0))
 
-pub loop-k-init : goal.loop-k-init
-loop-k-init c = λ u y. y
+pub next_in_place-next-requires-clause-place : goal.next_in_place-next-requires-clause-place
+next_in_place-next-requires-clause-place c =
+    let base = 1024 * c.loop-place.place in
+    let e : base - base % 1024 ≡ base = omega arith in
+    let b = begins (goal.at.next_in_place-next-requires-clause-place c).After-from in
+    (rw (b.0, ← e) (place_at c.args.shape base (omega (arith, c.loop-place-test.true))), omega (arith, c.loop-place.invariant.1))
 
-pub overflow_cast-k : goal.overflow_cast-k
-overflow_cast-k c = omega (arith, c.loop-k-test.true, c.requires.looks.fits.range)
+pub returns-then-is_some : goal.returns-then-is_some
+returns-then-is_some c =
+    let b = begins (goal.at.returns-then-is_some c).After-from in
+    found_next c.loop-place.invariant.2 _ _ c.if-is_some.ensures (rw b.1 at c.next_in_place-next.ensures)
 
-pub next_in_place-next-requires : goal.next_in_place-next-requires
-next_in_place-next-requires c = let p = c.requires.looks in record {
-  fits = (p.fits, p.sound);
-  middle_owners = c.requires.middle_owners;
-  place = (
-    rw (base (goal.at.next_in_place-next-requires c).After-pool_word-base) (place_at c.args.shape _ c.loop-k-test.true),
-    omega arith,
-  );
-}
-
-pub returns-in_default : goal.returns-in_default
-returns-in_default c = let g = c.in_default.is in
-    rw g (wanted_from (λ u y. c.loop-k.invariant u (rw c.pool_index-k.ensures (rw c.requires.looks.follows at y)))
-    (in_store _ g (rw (from (goal.at.returns-in_default c).After-pool_word-base) at c.next_in_place-next.ensures)))
-
-pub overflow_add-k : goal.overflow_add-k
-overflow_add-k c = omega (
-  arith,
-  c.loop-k-test.true,
-  c.requires.looks.fits.range,
-)
-
-pub loop-k-smaller : goal.loop-k-smaller
-loop-k-smaller c = omega (arith, c.loop-k-test.true)
-
-pub loop-k-preserved : goal.loop-k-preserved
-loop-k-preserved c = let k = c.loop-k.k in
-    let e : c.pool_word-base.result.0 + 1024 ≡ k - k % 1024 + 1024 = rw (base (goal.at.loop-k-preserved c).After-pool_word-base) in
-    λ u y. rw e at (in_none _ c.in-None.is (rw (from (goal.at.loop-k-preserved c).After-pool_word-base) at c.next_in_place-next.ensures) u
-    (c.loop-k.invariant u y))
+pub loop-place-preserved : goal.loop-place-preserved
+loop-place-preserved c =
+    let b = begins (goal.at.loop-place-preserved c).After-from in (
+      omega arith,
+      omega arith,
+      rw (← b.0) (passes_on c.loop-place.invariant.2 _ _ c.if-is_some.ensures (rw b.1 at c.next_in_place-next.ensures)),
+    )
 
 pub returns : goal.returns
-returns c = let a = c.args in
-    λ u y. tidy_end a.shape a.pool.now c.loop-k.k c.loop-k-test.false u
-    (c.loop-k.invariant u (rw c.pool_index-k.ensures (rw c.requires.looks.follows at y)))
+returns c = λ u y. tidy_end c.args.shape c.args.pool.now c.loop-place.k
+    (omega (arith, c.loop-place-test.false, c.loop-place.invariant.0)) u (c.loop-place.invariant.2 u y)
