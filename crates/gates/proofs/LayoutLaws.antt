@@ -11,6 +11,8 @@ use borrow.Author.Tests.{eqb-true, not-true}
 use lib.Dec.{eqb}
 use lib.ListN.{length, get_or, take, drop, set, length-set, length-append, drop_of_length-le}
 use lib.Seq.{sets, drop-cons, get_or_at, get_or-append_seam, get_or-append-add}
+use Rattle.std.proofs.Common.{Result, Ok, Err}
+use Rattle.refusals.specs.declared.Refusal.{Refusal}
 use Rattle.rows.specs.Rows.{words_of}
 use Rattle.rows.proofs.Layouts.{Layout}
 use Rattle.rows.proofs.RowLaws.{add_two, length_said, said_at, length_words, row_words, words_set}
@@ -18,15 +20,12 @@ use Rattle.rows.proofs.RowLaws.{words_set_after, words_said, rows_words}
 use Rattle.gates.specs.declared.Gate.{Gate}
 use Rattle.gates.specs.declared.Gate.TheVariants.{Switch, Return}
 use Rattle.gates.specs.declared.GateAt.{GateAt}
-use Rattle.gates.specs.declared.Gates.{Gates}
 use Rattle.gates.specs.declared.Frame.{Frame}
-use Rattle.gates.specs.declared.CallStack.{CallStack}
-use Rattle.gates.specs.declared.GatesSet.{GatesSet}
 use Rattle.gates.specs.declared.Stepped.{Stepped}
-use Rattle.gates.specs.declared.Step.{Step}
+use Rattle.gates.specs.States.{Gates, GatesSet, CallStack, Step}
 use Rattle.gates.specs.Gates.{no_gate, stored, set_refused, set_done}
 use Rattle.gates.specs.Steps.{no_frame}
-use Rattle.gates.specs.Layout.{IsGates, IsStack, return_word, gate_said, gate_word, gate_at, gate_words, gates_of}
+use Rattle.gates.specs.Layout.{gates_long, stack_long, return_word, gate_said, gate_word, gate_at, gate_words, gates_of}
 use Rattle.gates.specs.Layout.{gates_words, frame_at, frame_words, stack_of, stack_words, SetAs, SteppedAs}
 
 -- The word of a gate.
@@ -82,7 +81,7 @@ gate_layout = record {
 pub gates_said : (ws : List ℕ) → length (gates_of ws).places ≡ 64
 gates_said ws = length_said gate_layout 64 ws
 
-pub gates_words_lem : (ws : List ℕ) → IsGates ws → gates_words (gates_of ws) ≡ ws
+pub gates_words_lem : (ws : List ℕ) → length ws ≡ gates_long → gates_words (gates_of ws) ≡ ws
 gates_words_lem ws h =
     ap (λ (t : List ℕ). words_of gate_words (gates_of ws).places ++ t)
     (sym (drop-cons ws 192 0 (omega arith)
@@ -127,7 +126,7 @@ module _ (l : List GateAt) (n : ℕ) where
   pub count_stored : (m : ℕ) → length l ≡ 64 → set (of_places l n) 192 m ≡ of_places l m
   count_stored m h = words_set_after gate_layout l (n ∷ []) 192 0 m (omega arith)
 
-pub stored_words : (ws : List ℕ) (i : ℕ) (g : GateAt) (m : ℕ) → IsGates ws → i < 64
+pub stored_words : (ws : List ℕ) (i : ℕ) (g : GateAt) (m : ℕ) → length ws ≡ gates_long → i < 64
     → set (sets ws (3 * i) (gate_words g)) 192 m ≡ gates_words (stored (gates_of ws) i g m)
 stored_words ws i g m h l =
     let xs = (gates_of ws).places in
@@ -138,10 +137,11 @@ stored_words ws i g m h l =
     ∙ count_stored (set xs i g) (get_or ws 192 0) m (omega arith)
 
 -- What setting or removing leaves in the words `ws`, where it is refused and where it is done.
-pub set_refused_as : (ws : List ℕ) → IsGates ws → (r : GatesSet) (n : ℕ) → r ≡ set_refused n (gates_of ws) → SetAs r n ws
+pub set_refused_as : (ws : List ℕ) → length ws ≡ gates_long → (r : GatesSet) (n : Refusal) → r ≡ set_refused n (gates_of ws)
+    → SetAs r (Err n) ws
 set_refused_as ws h r n e = rw e (refl, sym (gates_words_lem ws h))
 
-pub set_done_as : (ws : List ℕ) (r : GatesSet) (G : Gates) → r ≡ set_done G → ws ≡ gates_words G → SetAs r 0 ws
+pub set_done_as : (ws : List ℕ) (r : GatesSet) (G : Gates) → r ≡ set_done G → ws ≡ gates_words G → SetAs r (Ok tt) ws
 set_done_as ws r G e q = rw e (refl, q)
 
 -- Words of a frame.
@@ -172,7 +172,7 @@ frames_said ws = length_said frame_layout 16 ws
 pub frames_at : (ws : List ℕ) (i : ℕ) → i < 16 → get_or (stack_of ws).frames i no_frame ≡ frame_at ws (2 * i)
 frames_at ws i h = said_at frame_layout 16 ws i no_frame h
 
-pub stack_words_lem : (ws : List ℕ) → IsStack ws → stack_words (stack_of ws) ≡ ws
+pub stack_words_lem : (ws : List ℕ) → length ws ≡ stack_long → stack_words (stack_of ws) ≡ ws
 stack_words_lem ws h =
     ap (λ (t : List ℕ). words_of frame_words (stack_of ws).frames ++ t)
     (sym (drop-cons ws 32 0 (omega arith) ∙ ap (λ (t : List ℕ). get_or ws 32 0 ∷ t)
@@ -210,13 +210,13 @@ ends_stored k d c h =
     (words_set_after frame_layout k.frames (k.depth ∷ k.current ∷ []) 32 0 d (omega arith))
     ∙ words_set_after frame_layout k.frames (d ∷ k.current ∷ []) 33 1 c (omega arith)
 
-pub popped_words : (ws : List ℕ) (d c : ℕ) → IsStack ws → set (set ws 32 d) 33 c
+pub popped_words : (ws : List ℕ) (d c : ℕ) → length ws ≡ stack_long → set (set ws 32 d) 33 c
     ≡ stack_words (record { frames = (stack_of ws).frames; depth = d; current = c })
 popped_words ws d c h =
     ap (λ (r : List ℕ). set (set r 32 d) 33 c) (sym (stack_words_lem ws h)) ∙ ends_stored (stack_of ws) d c (frames_said ws)
 
 -- A frame stored, and the two.
-pub pushed_words : (ws : List ℕ) (i : ℕ) (f : Frame) (d c : ℕ) → IsStack ws → i < 16
+pub pushed_words : (ws : List ℕ) (i : ℕ) (f : Frame) (d c : ℕ) → length ws ≡ stack_long → i < 16
     → set (set (sets ws (2 * i) (frame_words f)) 32 d) 33 c
     ≡ stack_words (record { frames = set (stack_of ws).frames i f; depth = d; current = c })
 pushed_words ws i f d c h l =
@@ -228,6 +228,6 @@ pushed_words ws i f d c h l =
     ∙ ends_stored (record { frames = set k.frames i f; depth = k.depth; current = k.current }) d c (m ∙ n)
 
 -- A step that leaves the stack as it came.
-pub step_stays_as : (ws : List ℕ) → IsStack ws → (r : Step) (a : Stepped)
+pub step_stays_as : (ws : List ℕ) → length ws ≡ stack_long → (r : Step) (a : Result Stepped Refusal)
     → r ≡ record { answer = a; stack = stack_of ws } → SteppedAs r a ws
 step_stays_as ws h r a e = rw e (refl, sym (stack_words_lem ws h))

@@ -8,7 +8,10 @@ use native.Mathlib.Nat.{not-suc-le-zero, le_of_suc-le-suc}
 use native.Mathlib.Numerals.{add-one}
 use native.Mathlib.Omega.{arith}
 use lib.ListN.{length, get_or, take, drop, set, drop_of_length-le, take-append-drop}
-use lib.Seq.{drop-cons, get_or-take, length-take-le, take-take, take_at, drop_at, take-set-lt, drop-set-lt}
+use lib.Seq.{get_or-take, length-take-le, take-take, take_at, drop_at, take-set-lt, drop-set-lt}
+use Rattle.std.proofs.Common.{Result, Ok, Err}
+use Rattle.std.specs.List.{list_all, range_with_len}
+use Rattle.refusals.specs.declared.Refusal.{Refusal}
 use Rattle.gates.specs.Lists.{before, every, others, take_out}
 use Rattle.theory.proofs.Logic.{by_cases}
 
@@ -17,54 +20,53 @@ neither true b e = absurd (true≢false e)
 neither false b e = (refl, e)
 
 -- No refusal: the first test fails, and none of those after it refuses.
-pub none_refuses : (b : Bool) (n r : ℕ) → 0 < n → cond b n r ≡ 0 → (b ≡ false) × (r ≡ 0)
-none_refuses true n r h e = absurd (omega arith)
-none_refuses false n r h e = (refl, e)
+pub none_refuses : (b : Bool) (n : Refusal) (r : Result (Unit {0}) Refusal) → cond b (Err n) r ≡ Ok tt
+    → (b ≡ false) × (r ≡ Ok tt)
+none_refuses true n r e = absurd cc
+none_refuses false n r e = (refl, e)
 
-module _ {A : Type 0} (t : A → Bool) (l : List A) (n : ℕ) where
-  -- The search for the first that passes the test has gone by the elements below `i`.
-  abbrev pub Passed : ℕ → Type 0
-  Passed i = before t (take n l) ≡ i + before t (drop i (take n l))
+-- What is asked is in order or refused.
+pub by_refusal : {P : Type 0} (r : Result (Unit {0}) Refusal) → (r ≡ Ok tt → P) → ((n : Refusal) → r ≡ Err n → P) → P
+by_refusal (Ok u) f g = f refl
+by_refusal (Err n) f g = g n refl
 
-  -- The test of every element has gone by those below `i`.
-  abbrev pub Tested : ℕ → Type 0
-  Tested i = every t (take n l) ≡ every t (drop i (take n l))
-
-module _ {A : Type 0} (t : A → Bool) (l : List A) (n : ℕ) (d : A) (long : n ≤ length l) where
-  rest_cons : (i : ℕ) → i < n → drop i (take n l) ≡ get_or l i d ∷ drop (i + 1) (take n l)
-  rest_cons i h =
-      let e : length (take n l) ≡ n = length-take-le n l long in
-      rw (add-one, ← get_or-take n l i d h) (drop-cons (take n l) i d (omega arith))
-
-  rest_none : (i : ℕ) → n ≤ i → drop i (take n l) ≡ []
-  rest_none i h = let e : length (take n l) ≡ n = length-take-le n l long in drop_of_length-le (take n l) {i = i}
-      (omega arith)
-
-  pub passed_more : (i : ℕ) → i < n → t (get_or l i d) ≡ false → Passed t l n i → Passed t l n (i + 1)
+module _ {A : Type 0} (t : A → Bool) (d : A) where
+  -- The search goes by every element that fails the test, and stops at the first that passes it.
+  pub before_none : (n : ℕ) (l : List A) → n ≤ length l → ((k : ℕ) → k < n → t (get_or l k d) ≡ false)
+      → before t (take n l) ≡ n
   unfolding before
-  passed_more i h e p =
-      let q : before t (drop i (take n l)) ≡ suc (before t (drop (i + 1) (take n l))) = rw (rest_cons i h, e) in
-      omega arith
+  before_none zero l long h = refl
+  before_none (suc n) [] long h = absurd (not-suc-le-zero long)
+  before_none (suc n) (x ∷ l) long h =
+      rw (h 0 (omega arith)) (ap suc (before_none n l (le_of_suc-le-suc long) (λ k q. h (suc k) (omega arith))))
 
-  pub passed_hit : (i : ℕ) → i < n → t (get_or l i d) ≡ true → Passed t l n i → before t (take n l) ≡ i
+  pub before_first : (n i : ℕ) (l : List A) → n ≤ length l → i < n → t (get_or l i d) ≡ true
+      → ((k : ℕ) → k < i → t (get_or l k d) ≡ false) → before t (take n l) ≡ i
   unfolding before
-  passed_hit i h e p = let q : before t (drop i (take n l)) ≡ 0 = rw (rest_cons i h, e) in omega arith
+  before_first zero i l long h e q = absurd (not-suc-le-zero h)
+  before_first (suc n) i [] long h e q = absurd (not-suc-le-zero long)
+  before_first (suc n) zero (x ∷ l) long h e q = rw e
+  before_first (suc n) (suc i) (x ∷ l) long h e q =
+      rw (q 0 (omega arith))
+      (ap suc (before_first n i l (le_of_suc-le-suc long) (le_of_suc-le-suc h) e (λ k m. q (suc k) (omega arith))))
 
-  pub passed_all : Passed t l n n → before t (take n l) ≡ n
-  unfolding before
-  passed_all p = let q : before t (drop n (take n l)) ≡ 0 = rw (rest_none n (omega arith)) in omega arith
-
-  pub tested_more : (i : ℕ) → i < n → t (get_or l i d) ≡ true → Tested t l n i → Tested t l n (i + 1)
+  numbered_from : (f : ℕ → A) (n a : ℕ) (l : List A) → n ≤ length l → ((i : ℕ) → i < n → get_or l i d ≡ f (a + i))
+      → list_all (λ i. t (f i)) (range_with_len a n) ≡ every t (take n l)
   unfolding every
-  tested_more i h e p = p ∙ rw (rest_cons i h, e)
+  numbered_from f zero a l long h = refl
+  numbered_from f (suc n) a [] long h = absurd (not-suc-le-zero long)
+  numbered_from f (suc n) a (x ∷ l) long h =
+      let e : x ≡ f a = h 0 (omega arith) ∙ ap f (omega arith) in
+      rw (
+        ← e,
+        numbered_from f n (a + 1) l (le_of_suc-le-suc long)
+            (λ i q. h (suc i) (omega arith) ∙ ap f (omega arith)),
+      )
 
-  pub tested_fails : (i : ℕ) → i < n → t (get_or l i d) ≡ false → Tested t l n i → every t (take n l) ≡ false
-  unfolding every
-  tested_fails i h e p = p ∙ rw (rest_cons i h, e)
-
-  pub tested_all : Tested t l n n → every t (take n l) ≡ true
-  unfolding every
-  tested_all p = p ∙ rw (rest_none n (omega arith))
+  -- A test of the numbers below `n` is the test of the elements that these numbers give.
+  pub every_numbered : (f : ℕ → A) (n : ℕ) (l : List A) → n ≤ length l → ((i : ℕ) → i < n → get_or l i d ≡ f i)
+      → list_all (λ i. t (f i)) (range_with_len 0 n) ≡ every t (take n l)
+  every_numbered f n l long h = numbered_from f n 0 l long (λ i q. h i q ∙ ap f (omega arith))
 
 -- The others keep their order when the first that passes is replaced or taken out, and when one that passes comes last.
 module _ {A : Type 0} (t : A → Bool) where

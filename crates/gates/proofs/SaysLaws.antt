@@ -6,27 +6,27 @@ use mathlib.Core.Path.{◌≡◌, refl, ◌∙◌}
 use mathlib.Core.Bool.{Bool, true, false, cond, not, ◌&&◌}
 use mathlib.Core.List.{List, [], ◌∷◌, ◌++◌}
 use native.Mathlib.Omega.{arith}
-use borrow.Author.Tests.{ltb-true, ltb-false, leb-true, eqb-true, ne_eqb, not-false}
+use borrow.Author.Tests.{ltb-true, ltb-false, leb-true, ne_eqb, not-false}
 use lib.Dec.{eqb, ltb, leb}
 use lib.ListN.{length, get_or, take, drop, set, length-append, length-drop, length-set}
 use lib.Seq.{length-take-le}
 use Rattle.words.specs.declared.ByteAddr.{ByteAddr}
 use Rattle.table.specs.declared.Shape.{Shape}
 use Rattle.table.specs.Shape.{max_domains}
-use Rattle.theory.proofs.Logic.{and_both}
+use Rattle.theory.proofs.Logic.{by_cases, and_both}
 use Rattle.rows.specs.Rows.{rows_of}
+use Rattle.std.proofs.Common.{Ok}
+use Rattle.refusals.specs.declared.Refusal.TheVariants.{NoShape, NoDomain, GateToItself, GatesFull, BadState}
 use Rattle.gates.specs.declared.Gate.{Gate}
 use Rattle.gates.specs.declared.Gate.TheVariants.{Switch, Return}
 use Rattle.gates.specs.declared.GateAt.{GateAt}
-use Rattle.gates.specs.declared.Gates.{Gates}
-use Rattle.gates.specs.declared.CallStack.{CallStack}
-use Rattle.gates.specs.declared.Step.{Step}
+use Rattle.gates.specs.States.{Gates, CallStack, Step}
 use Rattle.gates.specs.Gates.{max_gates, no_gate, place_of, leads_below, leads_to, place_refusal, set_refused, set_done}
 use Rattle.gates.specs.Gates.{stored, set_at_place, set_of, without, remove_of}
 use Rattle.gates.specs.Steps.{step_of}
 use Rattle.gates.specs.Moves.{Moves, stays, calls, returns}
 use Rattle.gates.specs.Layout.{return_word, gate_said, gate_at, gates_of, gates_words, stack_of, stack_words}
-use Rattle.gates.proofs.ListLaws.{none_refuses}
+use Rattle.gates.proofs.ListLaws.{none_refuses, by_refusal}
 use Rattle.gates.proofs.StepLaws.{step_moves}
 use Rattle.gates.proofs.LayoutLaws.{has_word, gates_said, gates_again, frames_said, stack_again}
 
@@ -104,9 +104,9 @@ placed_real G g h r =
     k = place_of G g.domain g.address.0
 
     go : (t u v : Bool) → HasWords
-        (cond t (set_refused 14 G)
+        (cond t (set_refused GateToItself G)
         (cond u (set_done (stored G k g G.count))
-        (cond v (set_refused 12 G) (set_done (stored G G.count g (G.count + 1)))))).gates
+        (cond v (set_refused GatesFull G) (set_done (stored G G.count g (G.count + 1)))))).gates
     go true u v = h
     go false true v = stored_real G k g G.count h r
     go false false true = h
@@ -118,12 +118,12 @@ below_real D Return small e = refl
 below_real D (Switch d) small e =
     rw (ne_eqb d return_word (λ z. let l = ltb-true d D e in omega arith))
 
-in_order : (D n d : ℕ) (x : Gate) (a : ℕ) → place_refusal D n d x a ≡ 0 → (n ≤ 64) × (has_word x ≡ true)
+in_order : (D n d : ℕ) (x : Gate) (a : ℕ) → place_refusal D n d x a ≡ Ok tt → (n ≤ 64) × (has_word x ≡ true)
 unfolding place_refusal
 in_order D n d x a e =
-    let (p, e1) = none_refuses (not (leb 1 D && leb D max_domains)) 1 _ (omega arith) e in
-    let (q, e2) = none_refuses (ltb max_gates n) 18 _ (omega arith) e1 in
-    let (r, e3) = none_refuses (not (ltb d D && leads_below D x)) 2 _ (omega arith) e2 in
+    let (p, e1) = none_refuses (not (leb 1 D && leb D max_domains)) NoShape _ e in
+    let (q, e2) = none_refuses (ltb max_gates n) BadState _ e1 in
+    let (r, e3) = none_refuses (not (ltb d D && leads_below D x)) NoDomain _ e2 in
     let small = leb-true D max_domains (and_both (leb 1 D) (leb D max_domains) (not-false _ p)).1 in
     let below = (and_both (ltb d D) (leads_below D x) (not-false _ r)).1 in
     let few = ltb-false max_gates n q in
@@ -131,16 +131,10 @@ in_order D n d x a e =
 
 set_real : (D : ℕ) (G : Gates) (d : ℕ) (a : ByteAddr) (x : Gate) → HasWords G → HasWords (set_of D G d a x).gates
 unfolding set_of
-set_real D G d a x h = go (eqb n 0) refl
-  where
-    n : ℕ
-    n = place_refusal D G.count d x a.0
-
-    go : (t : Bool) → eqb n 0 ≡ t → HasWords
-        (cond t (set_at_place G (record { domain = d; address = a; gate = x })) (set_refused n G)).gates
-    go true e = placed_real G (record { domain = d; address = a; gate = x }) h
-        (in_order D G.count d x a.0 (eqb-true n 0 e)).1
-    go false e = h
+set_real D G d a x h =
+    by_refusal (place_refusal D G.count d x a.0)
+    (λ e. rw e (placed_real G (record { domain = d; address = a; gate = x }) h (in_order D G.count d x a.0 e).1))
+    (λ n e. rw e h)
 
 without_real : (G : Gates) (k : ℕ) → G.count ≤ 64 → k < G.count → HasWords G → HasWords (without G k)
 without_real G k few l h =
@@ -161,20 +155,15 @@ without_real G k few l h =
 
 remove_real : (D : ℕ) (G : Gates) (d : ℕ) (a : ByteAddr) → HasWords G → HasWords (remove_of D G d a).gates
 unfolding remove_of
-remove_real D G d a h = go (eqb n 0) (ltb k G.count) refl refl
+remove_real D G d a h =
+    by_refusal (place_refusal D G.count d Return a.0)
+    (λ e. rw e (by_cases (ltb k G.count)
+    (λ l. rw l (without_real G k (in_order D G.count d Return a.0 e).0 (ltb-true k G.count l) h))
+    (λ l. rw l h)))
+    (λ n e. rw e h)
   where
-    n : ℕ
-    n = place_refusal D G.count d Return a.0
-
     k : ℕ
     k = place_of G d a.0
-
-    go : (t u : Bool) → eqb n 0 ≡ t → ltb k G.count ≡ u
-        → HasWords (cond t (cond u (set_done (without G k)) (set_refused 13 G)) (set_refused n G)).gates
-    go true true e l = without_real G k (in_order D G.count d Return a.0 (eqb-true n 0 e)).0
-        (ltb-true k G.count l) h
-    go true false e l = h
-    go false u e l = h
 
 pub set_says : (D : ℕ) (ws : List ℕ) (d : ℕ) (a : ByteAddr) (x : Gate)
     → let G = (set_of D (gates_of ws) d a x).gates in gates_of (gates_words G) ≡ G

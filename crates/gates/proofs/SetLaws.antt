@@ -12,17 +12,18 @@ use lib.Dec.{ltb, eqb}
 use lib.ListN.{length, drop, set}
 use lib.Seq.{take-set-lt, take-suc-set, drop-set-lt}
 use Rattle.words.specs.declared.ByteAddr.{ByteAddr}
+use Rattle.refusals.specs.declared.Refusal.{Refusal}
+use Rattle.refusals.specs.declared.Refusal.TheVariants.{GateToItself, GatesFull, NoGate}
 use Rattle.gates.specs.declared.Gate.{Gate}
 use Rattle.gates.specs.declared.Gate.TheVariants.{Return}
 use Rattle.gates.specs.declared.GateAt.{GateAt}
-use Rattle.gates.specs.declared.Gates.{Gates}
-use Rattle.gates.specs.declared.GatesSet.{GatesSet}
-use Rattle.gates.specs.declared.Here.TheVariants.{Stands}
+use Rattle.gates.specs.States.{Gates, GatesSet}
+use Rattle.std.proofs.Common.{Some, Ok, Err}
 use Rattle.gates.specs.Lists.{others, take_out}
 use Rattle.gates.specs.Gates.{max_gates, held, stands_at, place_of, gate_in, gate_of, leads_to, set_refused, set_done}
 use Rattle.gates.specs.Gates.{stored, set_of, without, remove_of}
 use Rattle.theory.proofs.Logic.{by_cases}
-use Rattle.gates.proofs.ListLaws.{others_set, others_last, others_take_out, take_closed, drop_closed}
+use Rattle.gates.proofs.ListLaws.{by_refusal, others_set, others_last, others_take_out, take_closed, drop_closed}
 use Rattle.gates.proofs.GateLaws.{refusal, new, place_in_order, held_long, gate_set, gate_last, gate_take_out}
 use Rattle.gates.proofs.GateLaws.{gate_others, set_refused_lem, set_own, set_replaces, set_full, set_adds}
 use Rattle.gates.proofs.GateLaws.{remove_refused, remove_missing, remove_takes_out}
@@ -44,37 +45,35 @@ module _ (D : ℕ) (G : Gates) (d : ℕ) (a : ByteAddr) (x : Gate) where
 
   -- Setting is refused, or it replaces a gate, or it adds one.
   data Sets : Type 0 where
-    refuses : (n : ℕ) → 0 < n → set_result ≡ set_refused n G → Sets
+    refuses : (n : Refusal) → set_result ≡ set_refused n G → Sets
     replaces : G.count ≤ max_gates → k < G.count → set_result ≡ set_done (stored G k g G.count) → Sets
     adds : G.count < max_gates → G.count ≤ k → set_result ≡ set_done (stored G G.count g (G.count + 1)) → Sets
 
   sets : Sets
   sets =
-      by_cases (eqb (refusal D G d a x) 0)
-      (λ y. let z = eqb-true (refusal D G d a x) 0 y in
-      let few = place_in_order D G.count d x a.0 z in
-      by_cases (leads_to d x) (λ o. refuses 14 (omega arith) (set_own D G d a x z o))
+      by_refusal (refusal D G d a x)
+      (λ z. let few = place_in_order D G.count d x a.0 z in
+      by_cases (leads_to d x) (λ o. refuses GateToItself (set_own D G d a x z o))
       (λ o. by_cases (ltb k G.count)
       (λ l. replaces few (ltb-true k G.count l) (set_replaces D G d a x z o (ltb-true k G.count l)))
       (λ l. by_cases (eqb G.count max_gates)
-      (λ f. refuses 12 (omega arith) (set_full D G d a x z o (ltb-false k G.count l)
+      (λ f. refuses GatesFull (set_full D G d a x z o (ltb-false k G.count l)
       (eqb-true G.count max_gates f)))
       (λ f. let m = eqb-false G.count max_gates f in
       adds (omega arith) (ltb-false k G.count l) (set_adds D G d a x z o (ltb-false k G.count l) m)))))
-      (λ y. let m = eqb-false (refusal D G d a x) 0 y in refuses (refusal D G d a x) (omega arith)
-      (set_refused_lem D G d a x m))
+      (λ n y. refuses n (set_refused_lem D G d a x n y))
 
   -- A refusal leaves the set as it came.
-  pub set_refusal_keeps : 0 < set_result.refusal → set_result.gates ≡ G
-  set_refusal_keeps h = keeps sets
+  pub set_refusal_keeps : (n : Refusal) → set_result.answer ≡ Err n → set_result.gates ≡ G
+  set_refusal_keeps n h = keeps sets
     where
       keeps : Sets → set_result.gates ≡ G
-      keeps (refuses n _ e) = ap (λ r. r.gates) e
-      keeps (replaces _ _ e) = let q = ap (λ r. r.refusal) e in absurd (omega arith)
-      keeps (adds _ _ e) = let q = ap (λ r. r.refusal) e in absurd (omega arith)
+      keeps (refuses _ e) = ap (λ r. r.gates) e
+      keeps (replaces _ _ e) = let q = ap (λ r. r.answer) e in absurd cc
+      keeps (adds _ _ e) = let q = ap (λ r. r.answer) e in absurd cc
 
   -- A gate set, once it is: of an array of 64 places.
-  module _ (long : length G.places ≡ max_gates) (done : set_result.refusal ≡ 0) where
+  module _ (long : length G.places ≡ max_gates) (done : set_result.answer ≡ Ok tt) where
     abbrev after : Gates
     after = set_result.gates
 
@@ -85,7 +84,7 @@ module _ (D : ℕ) (G : Gates) (d : ℕ) (a : ByteAddr) (x : Gate) where
       where
         by : Sets → ((k < length (held G)) × (held after ≡ set (held G) k g))
             ⊎ ((length (held G) ≤ k) × (held after ≡ held G ++ g ∷ []))
-        by (refuses n h e) = let q = ap (λ r. r.refusal) e in absurd (omega arith)
+        by (refuses n e) = let q = ap (λ r. r.answer) e in absurd cc
         by (replaces f l e) =
             let m = held_long G d a.0 (omega arith) in
             inl (omega arith, ap (λ r. held r.gates) e ∙ take-set-lt G.count G.places k g l)
@@ -101,7 +100,7 @@ module _ (D : ℕ) (G : Gates) (d : ℕ) (a : ByteAddr) (x : Gate) where
     here = rw (eq-eqb d d refl, eq-eqb a.0 a.0 refl)
 
     -- The gate found there is the new one.
-    pub set_here : gate_of after d a.0 ≡ Stands x
+    pub set_here : gate_of after d a.0 ≡ Some x
     set_here = ⊎_elim (λ (l, e). rw e (gate_set d a.0 g here (held G) l))
         (λ (l, e). rw e (gate_last d a.0 g here (held G) l)) held_set
 
@@ -122,7 +121,7 @@ module _ (D : ℕ) (G : Gates) (d : ℕ) (a : ByteAddr) (x : Gate) where
     set_count = by sets
       where
         by : Sets → after.count ≡ cond (ltb k G.count) G.count (G.count + 1)
-        by (refuses n h e) = let q = ap (λ r. r.refusal) e in absurd (omega arith)
+        by (refuses n e) = let q = ap (λ r. r.answer) e in absurd cc
         by (replaces f l e) = ap (λ r. r.gates.count) e ∙ rw (lt-ltb k G.count l)
         by (adds f l e) = ap (λ r. r.gates.count) e ∙ rw (le-ltb k G.count l)
 
@@ -131,7 +130,7 @@ module _ (D : ℕ) (G : Gates) (d : ℕ) (a : ByteAddr) (x : Gate) where
     set_idle = by sets
       where
         by : Sets → drop after.count after.places ≡ drop after.count G.places
-        by (refuses n h e) = let q = ap (λ r. r.refusal) e in absurd (omega arith)
+        by (refuses n e) = let q = ap (λ r. r.answer) e in absurd cc
         by (replaces f l e) =
             ap (λ r. drop r.gates.count r.gates.places) e ∙ drop-set-lt G.count G.places k g l
             ∙ sym (ap (λ r. drop r.gates.count G.places) e)
@@ -154,30 +153,28 @@ module _ (D : ℕ) (G : Gates) (d : ℕ) (a : ByteAddr) where
 
   -- Removing is refused, or it takes out a gate.
   data Removes : Type 0 where
-    refuses : (n : ℕ) → 0 < n → remove_result ≡ set_refused n G → Removes
+    refuses : (n : Refusal) → remove_result ≡ set_refused n G → Removes
     takes_out : G.count ≤ max_gates → gone < G.count → remove_result ≡ set_done (without G gone) → Removes
 
   removes : Removes
   removes =
-      by_cases (eqb (refusal D G d a Return) 0)
-      (λ y. let z = eqb-true (refusal D G d a Return) 0 y in
-      by_cases (ltb gone G.count)
+      by_refusal (refusal D G d a Return)
+      (λ z. by_cases (ltb gone G.count)
       (λ l. takes_out (place_in_order D G.count d Return a.0 z) (ltb-true gone G.count l)
       (remove_takes_out D G d a z (ltb-true gone G.count l)))
-      (λ l. refuses 13 (omega arith) (remove_missing D G d a z (ltb-false gone G.count l))))
-      (λ y. let m = eqb-false (refusal D G d a Return) 0 y in refuses (refusal D G d a Return) (omega arith)
-      (remove_refused D G d a m))
+      (λ l. refuses NoGate (remove_missing D G d a z (ltb-false gone G.count l))))
+      (λ n y. refuses n (remove_refused D G d a n y))
 
   -- A refusal leaves the set as it came.
-  pub remove_refusal_keeps : 0 < remove_result.refusal → remove_result.gates ≡ G
-  remove_refusal_keeps h = keeps removes
+  pub remove_refusal_keeps : (n : Refusal) → remove_result.answer ≡ Err n → remove_result.gates ≡ G
+  remove_refusal_keeps n h = keeps removes
     where
       keeps : Removes → remove_result.gates ≡ G
-      keeps (refuses n _ e) = ap (λ r. r.gates) e
-      keeps (takes_out _ _ e) = let q = ap (λ r. r.refusal) e in absurd (omega arith)
+      keeps (refuses _ e) = ap (λ r. r.gates) e
+      keeps (takes_out _ _ e) = let q = ap (λ r. r.answer) e in absurd cc
 
   -- A gate removed, once it is: of an array of 64 places.
-  module _ (long : length G.places ≡ max_gates) (done : remove_result.refusal ≡ 0) where
+  module _ (long : length G.places ≡ max_gates) (done : remove_result.answer ≡ Ok tt) where
     abbrev left : Gates
     left = remove_result.gates
 
@@ -185,7 +182,7 @@ module _ (D : ℕ) (G : Gates) (d : ℕ) (a : ByteAddr) where
     removed = by removes
       where
         by : Removes → (G.count ≤ max_gates) × (gone < G.count) × (remove_result ≡ set_done (without G gone))
-        by (refuses n h e) = let q = ap (λ r. r.refusal) e in absurd (omega arith)
+        by (refuses n e) = let q = ap (λ r. r.answer) e in absurd cc
         by (takes_out f l e) = (f, l, e)
 
     -- The gates held are those from before without the first that stood there: later ones moved down.

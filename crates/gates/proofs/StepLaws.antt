@@ -7,160 +7,157 @@ use mathlib.Core.List.{List}
 use mathlib.Core.Logic.{⊎_elim}
 use native.Mathlib.Nat.{eq-or-lt_of_le}
 use native.Mathlib.Omega.{arith}
-use borrow.Author.Tests.{ltb-true, ltb-false, eqb-true, eqb-false, eq-eqb, ne_eqb}
+use borrow.Author.Tests.{ltb-true, ltb-false, eqb-true, eqb-false}
 use lib.Dec.{ltb, eqb}
 use lib.ListN.{length, get_or, take, drop, length-set}
 use lib.Seq.{take-set-le, drop-set-lt, get_or-set_same, get_or-set_other}
 use Rattle.words.specs.declared.ByteAddr.{ByteAddr}
 use Rattle.table.specs.declared.Shape.{Shape}
 use Rattle.table.specs.declared.Deciding.{Deciding}
-use Rattle.table.specs.declared.Found.{Found}
-use Rattle.table.specs.declared.Found.TheVariants.{By, Refused as NotFound}
 use Rattle.table.specs.Shape.{fits_of}
 use Rattle.table.specs.Lookup.{lookup_of}
+use Rattle.refusals.specs.declared.Refusal.{Refusal}
+use Rattle.refusals.specs.declared.Refusal.TheVariants.{NoShape, StackFull, StackEmpty, OtherReturn, BadState}
+use Rattle.gates.specs.declared.Gate.{Gate}
 use Rattle.gates.specs.declared.Gate.TheVariants.{Switch, Return}
-use Rattle.gates.specs.declared.Gates.{Gates}
-use Rattle.gates.specs.declared.Here.{Here}
-use Rattle.gates.specs.declared.Here.TheVariants.{Nothing, Stands}
-use Rattle.gates.specs.declared.CallStack.{CallStack}
+use Rattle.std.proofs.Common.{Option, Some, None, Result, Ok, Err}
 use Rattle.gates.specs.declared.Stepped.{Stepped}
-use Rattle.gates.specs.declared.Stepped.TheVariants.{Pass, Deny, Refused}
-use Rattle.gates.specs.declared.Step.{Step}
+use Rattle.gates.specs.declared.Stepped.TheVariants.{Pass, Deny}
+use Rattle.gates.specs.States.{Gates, CallStack, Step}
 use Rattle.gates.specs.Gates.{max_gates, gate_of}
-use Rattle.gates.specs.Steps.{max_depth, no_frame, in_use, top, pushed, popped, step_refusal, step_refused, verdict}
+use Rattle.gates.specs.Steps.{max_depth, no_frame, in_use, top, pushed, popped, step_refusal, step_refused, step_passed, verdict}
 use Rattle.gates.specs.Steps.{fetch_of, on_pass, switch_step, given_back, gate_step, step_of}
 use Rattle.gates.specs.Moves.{Moves, stays, calls, returns}
 use Rattle.theory.proofs.Logic.{by_cases}
-use Rattle.gates.proofs.ListLaws.{neither, none_refuses}
+use Rattle.gates.proofs.ListLaws.{neither, none_refuses, by_refusal}
 
 -- Nothing is refused before the gate: the counts are in range.
-pub step_in_order : (n : ℕ) (s : Shape) (G : Gates) (k : CallStack) (a t : ℕ) → step_refusal n s G k a t ≡ 0
+pub step_in_order : (n : ℕ) (s : Shape) (G : Gates) (k : CallStack) (a t : ℕ) → step_refusal n s G k a t ≡ Ok tt
     → (G.count ≤ max_gates) × (k.depth ≤ max_depth)
 unfolding step_refusal
 step_in_order n s G k a t e =
-    let (_, p) = none_refuses (not (fits_of s n)) 1 _ (omega arith) e in
-    let (q, _) = none_refuses (ltb max_gates G.count || ltb max_depth k.depth) 18 _ (omega arith) p in
+    let (_, p) = none_refuses (not (fits_of s n)) NoShape _ e in
+    let (q, _) = none_refuses (ltb max_gates G.count || ltb max_depth k.depth) BadState _ p in
     let (x, y) = neither (ltb max_gates G.count) (ltb max_depth k.depth) q in
     (ltb-false max_gates G.count x, ltb-false max_depth k.depth y)
 
 module _ (p : List ℕ) (s : Shape) (G : Gates) (k : CallStack) (a t : ByteAddr) where
-  abbrev pub refusal : ℕ
+  abbrev pub refusal : Result (Unit {0}) Refusal
   refusal = step_refusal (length p) s G k a.0 t.0
 
-  pub step_refused_lem : (refusal ≡ 0 → ⊥) → step_of p s G k a t ≡ step_refused refusal k
+  pub step_refused_lem : (n : Refusal) → refusal ≡ Err n → step_of p s G k a t ≡ step_refused n k
   unfolding step_of
-  step_refused_lem h = rw (ne_eqb refusal 0 h)
+  step_refused_lem n h = rw h
 
-  pub step_by_gate : refusal ≡ 0 → {g : Here} → gate_of G k.current a.0 ≡ g → step_of p s G k a t
+  pub step_by_gate : refusal ≡ Ok tt → {g : Option Gate} → gate_of G k.current a.0 ≡ g → step_of p s G k a t
       ≡ gate_step (fetch_of p s a.0) k t g
   unfolding step_of
-  step_by_gate h e = rw (eq-eqb refusal 0 h, e)
+  step_by_gate h e = rw (h, e)
 
   pub one_step : {q r : Step} → q ≡ step_of p s G k a t → r ≡ step_of p s G k a t → q ≡ r
   one_step x y = x ∙ sym y
 
 module _ (t : ByteAddr) (k : CallStack) where
-  on_pass_lem : (v : Stepped) {r : Step} → Moves t k r → Moves t k (on_pass v k r)
-  on_pass_lem Pass m = m
-  on_pass_lem Deny m = stays Deny
-  on_pass_lem (Refused n) m = stays (Refused n)
+  on_pass_lem : (v : Result Stepped Refusal) {r : Step} → Moves t k r → Moves t k (on_pass v k r)
+  on_pass_lem (Ok Pass) m = m
+  on_pass_lem (Ok Deny) m = stays (Ok Deny)
+  on_pass_lem (Err n) m = stays (Err n)
 
-  switch_moves : (v : ℕ → Stepped) (e : ℕ) → Moves t k (switch_step v k e t)
+  switch_moves : (v : ℕ → Result Stepped Refusal) (e : ℕ) → Moves t k (switch_step v k e t)
   unfolding switch_step
   switch_moves v e =
       by_cases (ltb k.depth max_depth) (λ l. rw l (on_pass_lem (v e) (calls e (ltb-true k.depth max_depth l))))
-      (λ l. rw l (stays (Refused 15)))
+      (λ l. rw l (stays (Err StackFull)))
 
   give_back_moves : Moves t k (given_back k t)
   unfolding given_back
   give_back_moves =
-      by_cases (eqb k.depth 0) (λ z. rw z (stays (Refused 16)))
+      by_cases (eqb k.depth 0) (λ z. rw z (stays (Err StackEmpty)))
       (λ z. let n = eqb-false k.depth 0 z in
       by_cases (eqb (top k).back.0 t.0) (λ b. rw (z, b)
       (returns (omega arith) (eqb-true (top k).back.0 t.0 b)))
-      (λ b. rw (z, b) (stays (Refused 17))))
+      (λ b. rw (z, b) (stays (Err OtherReturn))))
 
-  gate_moves : (v : ℕ → Stepped) (h : Here) → Moves t k (gate_step v k t h)
-  gate_moves v Nothing = stays (v k.current)
-  gate_moves v (Stands (Switch e)) = switch_moves v e
-  gate_moves v (Stands Return) = on_pass_lem (v k.current) give_back_moves
+  gate_moves : (v : ℕ → Result Stepped Refusal) (h : Option Gate) → Moves t k (gate_step v k t h)
+  gate_moves v None = stays (v k.current)
+  gate_moves v (Some (Switch e)) = switch_moves v e
+  gate_moves v (Some Return) = on_pass_lem (v k.current) give_back_moves
 
 -- Whatever is handed in, a step is one of the three moves.
 pub step_moves : (p : List ℕ) (s : Shape) (G : Gates) (k : CallStack) (a t : ByteAddr) → Moves t k (step_of p s G k a t)
 step_moves p s G k a t =
-    by_cases (eqb (refusal p s G k a t) 0)
-    (λ y. rw (step_by_gate p s G k a t (eqb-true (refusal p s G k a t) 0 y) refl)
+    by_refusal (refusal p s G k a t)
+    (λ y. rw (step_by_gate p s G k a t y refl)
     (gate_moves t k (fetch_of p s a.0) (gate_of G k.current a.0)))
-    (λ y. rw (step_refused_lem p s G k a t (eqb-false (refusal p s G k a t) 0 y)) (stays (Refused (refusal p s G k a t))))
+    (λ n y. rw (step_refused_lem p s G k a t n y) (stays (Err n)))
 
 -- The domain in which a step checks the fetch.
-abbrev pub checked_in : CallStack → Here → ℕ
-checked_in k Nothing = k.current
-checked_in k (Stands (Switch e)) = e
-checked_in k (Stands Return) = k.current
+abbrev pub checked_in : CallStack → Option Gate → ℕ
+checked_in k None = k.current
+checked_in k (Some (Switch e)) = e
+checked_in k (Some Return) = k.current
 
-abbrev Unrefused : Stepped → Type 0
-Unrefused w = (n : ℕ) → w ≡ Refused n → ⊥
+abbrev Unrefused : Result Stepped Refusal → Type 0
+Unrefused w = (n : Refusal) → w ≡ Err n → ⊥
 
 module _ (t : ByteAddr) (k : CallStack) where
-  verdict_on : (w : Stepped) (r : Step) → (Unrefused r.answer → r.answer ≡ Pass)
+  verdict_on : (w : Result Stepped Refusal) (r : Step) → (Unrefused r.answer → r.answer ≡ Ok Pass)
       → Unrefused (on_pass w k r).answer → w ≡ (on_pass w k r).answer
-  verdict_on Pass r f h = sym (f h)
-  verdict_on Deny r f h = refl
-  verdict_on (Refused n) r f h = refl
+  verdict_on (Ok Pass) r f h = sym (f h)
+  verdict_on (Ok Deny) r f h = refl
+  verdict_on (Err n) r f h = refl
 
-  switch_verdict : (b : Bool) (w : Stepped) (e : ℕ)
-      → let r = cond b (on_pass w k (record { answer = Pass; stack = pushed k e t })) (step_refused 15 k) in
+  switch_verdict : (b : Bool) (w : Result Stepped Refusal) (e : ℕ)
+      → let r = cond b (on_pass w k (step_passed (pushed k e t))) (step_refused StackFull k) in
       Unrefused r.answer → w ≡ r.answer
-  switch_verdict true w e h = verdict_on w (record { answer = Pass; stack = pushed k e t }) (λ _. refl) h
-  switch_verdict false w e h = absurd (h 15 refl)
+  switch_verdict true w e h = verdict_on w (step_passed (pushed k e t)) (λ _. refl) h
+  switch_verdict false w e h = absurd (h StackFull refl)
 
-  give_back_passes : (b c : Bool) → let r = cond b (step_refused 16 k)
-      (cond c (record { answer = Pass; stack = popped k }) (step_refused 17 k)) in
-      Unrefused r.answer → r.answer ≡ Pass
-  give_back_passes true c h = absurd (h 16 refl)
+  give_back_passes : (b c : Bool) → let r = cond b (step_refused StackEmpty k)
+      (cond c (step_passed (popped k)) (step_refused OtherReturn k)) in
+      Unrefused r.answer → r.answer ≡ Ok Pass
+  give_back_passes true c h = absurd (h StackEmpty refl)
   give_back_passes false true h = refl
-  give_back_passes false false h = absurd (h 17 refl)
+  give_back_passes false false h = absurd (h OtherReturn refl)
 
-  gate_verdict : (v : ℕ → Stepped) (g : Here) → Unrefused (gate_step v k t g).answer → v (checked_in k g)
+  gate_verdict : (v : ℕ → Result Stepped Refusal) (g : Option Gate) → Unrefused (gate_step v k t g).answer → v (checked_in k g)
       ≡ (gate_step v k t g).answer
   unfolding switch_step given_back
-  gate_verdict v Nothing h = refl
-  gate_verdict v (Stands (Switch e)) h = switch_verdict (ltb k.depth max_depth) (v e) e h
-  gate_verdict v (Stands Return) h =
+  gate_verdict v None h = refl
+  gate_verdict v (Some (Switch e)) h = switch_verdict (ltb k.depth max_depth) (v e) e h
+  gate_verdict v (Some Return) h =
       verdict_on (v k.current) (given_back k t) (give_back_passes (eqb k.depth 0) (eqb (top k).back.0 t.0)) h
 
 -- A step that is not refused answers what the fetch answers in the domain in which it is checked.
 pub step_verdict : (p : List ℕ) (s : Shape) (G : Gates) (k : CallStack) (a t : ByteAddr)
-    → ((n : ℕ) → (step_of p s G k a t).answer ≡ Refused n → ⊥)
+    → ((n : Refusal) → (step_of p s G k a t).answer ≡ Err n → ⊥)
     → fetch_of p s a.0 (checked_in k (gate_of G k.current a.0)) ≡ (step_of p s G k a t).answer
 step_verdict p s G k a t h =
-    by_cases (eqb (refusal p s G k a t) 0)
-    (λ y. let e = ap (λ r. r.answer) (step_by_gate p s G k a t (eqb-true (refusal p s G k a t) 0 y) refl) in
+    by_refusal (refusal p s G k a t)
+    (λ y. let e = ap (λ r. r.answer) (step_by_gate p s G k a t y refl) in
     gate_verdict t k (fetch_of p s a.0) (gate_of G k.current a.0) (λ n q. h n (e ∙ q)) ∙ sym e)
-    (λ y. absurd (h (refusal p s G k a t) (ap (λ r. r.answer)
-    (step_refused_lem p s G k a t (eqb-false (refusal p s G k a t) 0 y)))))
+    (λ n y. absurd (h n (ap (λ r. r.answer) (step_refused_lem p s G k a t n y))))
 
 -- A fetch passes exactly where the lookup finds the right 3.
-pub fetch_passes : (p : List ℕ) (s : Shape) (a d : ℕ) → fetch_of p s a d ≡ Pass → (x : Deciding)
-    × (lookup_of p s d a ≡ By x) × (x.right ≡ 3)
+pub fetch_passes : (p : List ℕ) (s : Shape) (a d : ℕ) → fetch_of p s a d ≡ Ok Pass → (x : Deciding)
+    × (lookup_of p s d a ≡ Ok x) × (x.right ≡ 3)
 unfolding fetch_of
 fetch_passes p s a d = by (lookup_of p s d a)
   where
-    by : (f : Found) → verdict f ≡ Pass → (x : Deciding) × (f ≡ By x) × (x.right ≡ 3)
-    by (By y) e =
+    by : (f : Result Deciding Refusal) → verdict f ≡ Ok Pass → (x : Deciding) × (f ≡ Ok x) × (x.right ≡ 3)
+    by (Ok y) e =
         by_cases (eqb y.right 3) (λ q. (y, refl, eqb-true y.right 3 q))
-        (λ q. let z : Deny ≡ Pass = rw q at e in let x : ◌≡◌ {A = ℕ} 0 1 = cc in absurd (omega arith))
-    by (NotFound m) e = let x : ◌≡◌ {A = ℕ} 0 1 = cc in absurd (omega arith)
+        (λ q. absurd (cc (rw q at e)))
+    by (Err m) e = absurd cc
 
-pub fetch_on_3 : (p : List ℕ) (s : Shape) (a d : ℕ) (x : Deciding) → lookup_of p s d a ≡ By x → x.right ≡ 3
-    → fetch_of p s a d ≡ Pass
+pub fetch_on_3 : (p : List ℕ) (s : Shape) (a d : ℕ) (x : Deciding) → lookup_of p s d a ≡ Ok x → x.right ≡ 3
+    → fetch_of p s a d ≡ Ok Pass
 unfolding fetch_of
 fetch_on_3 p s a d x e q = rw (e, q)
 
 module _ {t : ByteAddr} {k : CallStack} where
   -- A deny or a refusal leaves the current domain and the stack as they were.
-  pub moves_unless_pass : {r : Step} → Moves t k r → (r.answer ≡ Pass → ⊥) → r.stack ≡ k
+  pub moves_unless_pass : {r : Step} → Moves t k r → (r.answer ≡ Ok Pass → ⊥) → r.stack ≡ k
   moves_unless_pass (stays r) h = refl
   moves_unless_pass (calls e l) h = absurd (h refl)
   moves_unless_pass (returns l b) h = absurd (h refl)

@@ -1,14 +1,13 @@
 -- Gate sets: which gate is found, and what setting and removing answer and leave.
-use Rattle.std.specs.Prelude.{ℕ, ◌+◌, ◌-◌, ◌%◌, Bool, true, false, cond, not, ◌&&◌, List, [], ◌∷◌, ◌++◌, take, drop, set, replicate, eqb, ltb, leb}
+use Rattle.std.specs.Prelude.{ℕ, ◌+◌, ◌-◌, ◌%◌, Bool, true, false, cond, not, ◌&&◌, Option, Some, None, Result, Ok, Err, List, [], ◌∷◌, ◌++◌, take, drop, set, replicate, eqb, ltb, leb}
 use Rattle.words.specs.declared.ByteAddr.{ByteAddr}
 use Rattle.table.specs.Shape.{max_domains}
+use Rattle.refusals.specs.declared.Refusal.{Refusal}
+use Rattle.refusals.specs.declared.Refusal.TheVariants.{NoShape, NoDomain, GateNotAligned, GatesFull, NoGate, GateToItself, BadState}
 use Rattle.gates.specs.declared.Gate.{Gate}
 use Rattle.gates.specs.declared.Gate.TheVariants.{Switch, Return}
 use Rattle.gates.specs.declared.GateAt.{GateAt}
-use Rattle.gates.specs.declared.Gates.{Gates}
-use Rattle.gates.specs.declared.GatesSet.{GatesSet}
-use Rattle.gates.specs.declared.Here.{Here}
-use Rattle.gates.specs.declared.Here.TheVariants.{Nothing, Stands}
+use Rattle.gates.specs.States.{Gates, GatesSet}
 use Rattle.gates.specs.Lists.{before, take_out}
 
 -- A set holds at most this many gates.
@@ -36,12 +35,12 @@ abbrev pub place_of : Gates → ℕ → ℕ → ℕ
 place_of G d a = before (stands_at d a) (held G)
 
 -- The gate found in a list: of two at one place, the earlier counts.
-unfoldable pub gate_in : ℕ → ℕ → List GateAt → Here
-gate_in d a [] = Nothing
-gate_in d a (g ∷ gs) = cond (stands_at d a g) (Stands g.gate) (gate_in d a gs)
+unfoldable pub gate_in : ℕ → ℕ → List GateAt → Option Gate
+gate_in d a [] = None
+gate_in d a (g ∷ gs) = cond (stands_at d a g) (Some g.gate) (gate_in d a gs)
 
 -- The gate found in a set.
-abbrev pub gate_of : Gates → ℕ → ℕ → Here
+abbrev pub gate_of : Gates → ℕ → ℕ → Option Gate
 gate_of G d a = gate_in d a (held G)
 
 -- A switch's destination is below D; a return has none.
@@ -54,48 +53,52 @@ abbrev pub leads_to : ℕ → Gate → Bool
 leads_to d (Switch e) = eqb e d
 leads_to d Return = false
 
--- What setting and removing refuse alike, in the paper's order; 0 for nothing.
-unfoldable pub place_refusal : ℕ → ℕ → ℕ → Gate → ℕ → ℕ
+-- What setting and removing refuse alike, in the paper's order.
+unfoldable pub place_refusal : ℕ → ℕ → ℕ → Gate → ℕ → Result (Unit {0}) Refusal
 place_refusal D n d x a =
-    cond (not (leb 1 D && leb D max_domains)) 1
-    (cond (ltb max_gates n) 18
-    (cond (not (ltb d D && leads_below D x)) 2
-    (cond (not (eqb (a % 4) 0)) 11 0)))
+    cond (not (leb 1 D && leb D max_domains)) (Err NoShape)
+    (cond (ltb max_gates n) (Err BadState)
+    (cond (not (ltb d D && leads_below D x)) (Err NoDomain)
+    (cond (not (eqb (a % 4) 0)) (Err GateNotAligned) (Ok tt))))
 
 -- A refusal leaves the set as it came.
-abbrev pub set_refused : ℕ → Gates → GatesSet
-set_refused n G = record { refusal = n; gates = G }
+abbrev pub set_refused : Refusal → Gates → GatesSet
+set_refused n G = record { answer = Err n; gates = G }
 
 abbrev pub set_done : Gates → GatesSet
-set_done G = record { refusal = 0; gates = G }
+set_done G = record { answer = Ok tt; gates = G }
+
+-- What is in order is done, and a refusal leaves the set as it came.
+abbrev pub set_if_in_order : Result (Unit {0}) Refusal → Gates → GatesSet → GatesSet
+set_if_in_order (Ok u) G r = r
+set_if_in_order (Err n) G r = set_refused n G
 
 -- The set with a gate stored at place `k`, and the count `n`.
 abbrev pub stored : Gates → ℕ → GateAt → ℕ → Gates
 stored G k g n = record { places = set G.places k g; count = n }
 
--- Setting the gate `g` once its place is in order: 14 for a switch to its own domain; else in the place of the gate
--- that stands there, else last, and 12 where 64 are present.
+-- Setting the gate `g` once its place is in order: refused for a switch to its own domain; else in the place of the gate
+-- that stands there, else last, and refused where 64 are present.
 unfoldable pub set_at_place : Gates → GateAt → GatesSet
 set_at_place G g =
     let k = place_of G g.domain g.address.0 in
-    cond (leads_to g.domain g.gate) (set_refused 14 G)
+    cond (leads_to g.domain g.gate) (set_refused GateToItself G)
     (cond (ltb k G.count) (set_done (stored G k g G.count))
-    (cond (eqb G.count max_gates) (set_refused 12 G)
+    (cond (eqb G.count max_gates) (set_refused GatesFull G)
     (set_done (stored G G.count g (G.count + 1)))))
 
 -- What setting a gate answers and leaves.
 unfoldable pub set_of : ℕ → Gates → ℕ → ByteAddr → Gate → GatesSet
 set_of D G d a x =
-    let n = place_refusal D G.count d x a.0 in
-    cond (eqb n 0) (set_at_place G (record { domain = d; address = a; gate = x })) (set_refused n G)
+    set_if_in_order (place_refusal D G.count d x a.0) G (set_at_place G (record { domain = d; address = a; gate = x }))
 
 -- The set without the gate of place `k`: later gates move down, and every place past the new count keeps what it held.
 abbrev pub without : Gates → ℕ → Gates
 without G k = record { places = take_out k (held G) ++ drop (G.count - 1) G.places; count = G.count - 1 }
 
--- What removing a gate answers and leaves: 13 where none stands there.
+-- What removing a gate answers and leaves: it is refused where none stands there.
 unfoldable pub remove_of : ℕ → Gates → ℕ → ByteAddr → GatesSet
 remove_of D G d a =
-    let n = place_refusal D G.count d Return a.0 in
     let k = place_of G d a.0 in
-    cond (eqb n 0) (cond (ltb k G.count) (set_done (without G k)) (set_refused 13 G)) (set_refused n G)
+    set_if_in_order (place_refusal D G.count d Return a.0) G
+    (cond (ltb k G.count) (set_done (without G k)) (set_refused NoGate G))

@@ -1,16 +1,14 @@
 -- How a gate set and a call stack lie in lent words: what words say, the words of a state, and what a call on words
 -- leaves. The first two are inverse to each other (proofs/LayoutLaws).
-use Rattle.std.specs.Prelude.{ℕ, ◌+◌, ◌*◌, ◌≡◌, cond, List, [], ◌∷◌, ◌++◌, eqb, length, get_or}
+use Rattle.std.specs.Prelude.{ℕ, ◌+◌, ◌*◌, ◌≡◌, cond, Result, List, [], ◌∷◌, ◌++◌, eqb, get_or}
+use Rattle.refusals.specs.declared.Refusal.{Refusal}
 use Rattle.rows.specs.Rows.{rows_of, words_of}
 use Rattle.gates.specs.declared.Gate.{Gate}
 use Rattle.gates.specs.declared.Gate.TheVariants.{Switch, Return}
 use Rattle.gates.specs.declared.GateAt.{GateAt}
-use Rattle.gates.specs.declared.Gates.{Gates}
-use Rattle.gates.specs.declared.GatesSet.{GatesSet}
 use Rattle.gates.specs.declared.Frame.{Frame}
-use Rattle.gates.specs.declared.CallStack.{CallStack}
 use Rattle.gates.specs.declared.Stepped.{Stepped}
-use Rattle.gates.specs.declared.Step.{Step}
+use Rattle.gates.specs.States.{Gates, GatesSet, CallStack, Step}
 
 -- The words of a gate set: 64 gates of three, then the count.
 abbrev pub gates_long : ℕ
@@ -19,14 +17,6 @@ gates_long = 193
 -- The words of a call stack: 16 frames of two, then the depth, then the current domain.
 abbrev pub stack_long : ℕ
 stack_long = 34
-
--- As many words as a gate set has.
-abbrev pub IsGates : List ℕ → Type 0
-IsGates ws = length ws ≡ gates_long
-
--- As many words as a call stack has.
-abbrev pub IsStack : List ℕ → Type 0
-IsStack ws = length ws ≡ stack_long
 
 -- The word of a return gate; any other word is the destination of a switch.
 abbrev pub return_word : ℕ
@@ -78,10 +68,10 @@ stack_of ws = record { frames = rows_of 16 (λ i. frame_at ws (2 * i)); depth = 
 abbrev pub stack_words : CallStack → List ℕ
 stack_words k = words_of frame_words k.frames ++ k.depth ∷ k.current ∷ []
 
--- Setting or removing a gate that is to be `r` answers `n`, 0 or its refusal, and leaves the words `ws`.
-abbrev pub SetAs : GatesSet → ℕ → List ℕ → Type 0
-SetAs r n ws = (n ≡ r.refusal) × (ws ≡ gates_words r.gates)
+-- Setting or removing a gate that is to be `r` answers `a` and leaves the words `ws`.
+abbrev pub SetAs : GatesSet → Result (Unit {0}) Refusal → List ℕ → Type 0
+SetAs r a ws = (a ≡ r.answer) × (ws ≡ gates_words r.gates)
 
 -- A step that is to be `r` answers `a` and leaves the words `ws` of the stack.
-abbrev pub SteppedAs : Step → Stepped → List ℕ → Type 0
+abbrev pub SteppedAs : Step → Result Stepped Refusal → List ℕ → Type 0
 SteppedAs r a ws = (a ≡ r.answer) × (ws ≡ stack_words r.stack)

@@ -1,5 +1,6 @@
--- The definitions that the contracts cite: lists, gate sets, and steps; and what a step does to a call stack.
+-- The definitions that the contracts cite: lists, states, gate sets, and steps; and what a step does to a call stack.
 pub mod Lists
+pub mod States
 pub mod Gates
 pub mod Steps
 pub mod Moves

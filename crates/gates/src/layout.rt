@@ -1,9 +1,9 @@
 // Gates and frames in their lent words: one read, one stored.
-ghost use Rattle.std.specs.Prelude.{◌≡◌, ◌+◌, ◌≤◌, length};
+ghost use Rattle.std.specs.Prelude.{◌≡◌, ◌*◌, ◌<◌};
 ghost use Rattle.std.proofs.lemmas.List.Edits.{sets};
 ghost use Rattle.gates.specs.Layout.{gate_said, gate_word, gate_at, gate_words, frame_at, frame_words};
 
-use crate::{Frame, Gate, GateAt};
+use crate::{Frame, GATES_WORDS, Gate, GateAt, STACK_WORDS};
 use words::ByteAddr;
 
 // The word of a return gate; any other word is the destination of a switch.
@@ -12,10 +12,10 @@ const RETURN_WORD: u32 = 0xFFFF_FFFF;
 fn gate_said(w: u32) -> Gate
     ensures { result ≡ gate_said w }
 {
-    if w == RETURN_WORD {
-        return Gate::Return;
+    match w {
+        RETURN_WORD => Gate::Return,
+        to => Gate::Switch(to),
     }
-    Gate::Switch(w)
 }
 
 fn gate_word(gate: Gate) -> u32
@@ -27,64 +27,40 @@ fn gate_word(gate: Gate) -> u32
     }
 }
 
-pub(crate) fn gate_at(ws: &[u32], at: usize) -> GateAt
-    requires { at + 3 ≤ length ws.now }
-    ensures { result ≡ gate_at ws.now at }
+pub(crate) fn gate_at(gates: &[u32; GATES_WORDS], i: usize) -> GateAt
+    requires { i < 64 }
+    ensures { result ≡ gate_at gates.now (3 * i) }
 {
-    let domain = ws[at];
-    let place = ws[at + 1];
-    let what = ws[at + 2];
-    let address = words::byte_addr(place);
-    let gate = gate_said(what);
     GateAt {
-        domain,
-        address,
-        gate,
+        domain: gates[3 * i],
+        address: ByteAddr::from(gates[3 * i + 1]),
+        gate: gate_said(gates[3 * i + 2]),
     }
 }
 
-pub(crate) fn put_gate(ws: &mut [u32], at: usize, g: GateAt)
-    requires { at + 3 ≤ length ws.old }
-    ensures { ws.new ≡ sets ws.old at (gate_words g) }
+pub(crate) fn put_gate(gates: &mut [u32; GATES_WORDS], i: usize, g: GateAt)
+    requires { i < 64 }
+    ensures { gates.new ≡ sets gates.old (3 * i) (gate_words g) }
 {
-    let address = g.address;
-    let gate = g.gate;
-    let place = words::addr_number(address);
-    let what = gate_word(gate);
-    ws[at] = g.domain;
-    ws[at + 1] = place;
-    ws[at + 2] = what;
+    gates[3 * i] = g.domain;
+    gates[3 * i + 1] = u32::from(g.address);
+    gates[3 * i + 2] = gate_word(g.gate);
 }
 
-// The gate of one place stored in another.
-pub(crate) fn move_gate(ws: &mut [u32], at: usize, other: usize)
-    requires { (at + 3 ≤ length ws.old) × (other + 3 ≤ length ws.old) }
-    ensures { ws.new ≡ sets ws.old at (gate_words (gate_at ws.old other)) }
+pub(crate) fn frame_at(stack: &[u32; STACK_WORDS], i: usize) -> Frame
+    requires { i < 16 }
+    ensures { result ≡ frame_at stack.now (2 * i) }
 {
-    let domain = ws[other];
-    let place = ws[other + 1];
-    let what = ws[other + 2];
-    ws[at] = domain;
-    ws[at + 1] = place;
-    ws[at + 2] = what;
+    Frame {
+        domain: stack[2 * i],
+        back: ByteAddr::from(stack[2 * i + 1]),
+    }
 }
 
-pub(crate) fn frame_at(ws: &[u32], at: usize) -> Frame
-    requires { at + 2 ≤ length ws.now }
-    ensures { result ≡ frame_at ws.now at }
+pub(crate) fn put_frame(stack: &mut [u32; STACK_WORDS], i: usize, f: Frame)
+    requires { i < 16 }
+    ensures { stack.new ≡ sets stack.old (2 * i) (frame_words f) }
 {
-    let domain = ws[at];
-    let to = ws[at + 1];
-    let back = words::byte_addr(to);
-    Frame { domain, back }
-}
-
-pub(crate) fn put_frame(ws: &mut [u32], at: usize, f: Frame)
-    requires { at + 2 ≤ length ws.old }
-    ensures { ws.new ≡ sets ws.old at (frame_words f) }
-{
-    let back = f.back;
-    let to = words::addr_number(back);
-    ws[at] = f.domain;
-    ws[at + 1] = to;
+    stack[2 * i] = f.domain;
+    stack[2 * i + 1] = u32::from(f.back);
 }

@@ -9,9 +9,10 @@ mod steps;
 ghost use Rattle.std.specs.Prelude.{◌≡◌};
 ghost use Rattle.gates.specs.Gates.{no_gates, set_of, remove_of};
 ghost use Rattle.gates.specs.Steps.{empty_stack, step_of};
-ghost use Rattle.gates.specs.Layout.{IsGates, IsStack, gates_of, gates_words, stack_of, stack_words};
+ghost use Rattle.gates.specs.Layout.{gates_of, gates_words, stack_of, stack_words};
 ghost use Rattle.gates.specs.Layout.{SetAs, SteppedAs};
 
+use refusals::Refusal;
 use table::Shape;
 use words::ByteAddr;
 
@@ -48,28 +49,6 @@ pub struct GateAt {
     pub gate: Gate,
 }
 
-// What the words of a gate set say. The gates held are the first `count`; a place past them keeps what it held and is
-// never looked at.
-#[derive(Drop)]
-pub struct Gates {
-    pub places: [GateAt; 64],
-    pub count: u32,
-}
-
-// Setting or removing a gate as contracts tell it: the number of the refusal, 0 for none, and the set afterwards.
-#[derive(Drop)]
-pub struct GatesSet {
-    pub refusal: u32,
-    pub gates: Gates,
-}
-
-// What stands at a domain and an address.
-#[derive(Clone, Copy)]
-pub enum Here {
-    Nothing,
-    Stands(Gate),
-}
-
 // Who called, and the address to return to.
 #[derive(Clone, Copy)]
 pub struct Frame {
@@ -77,117 +56,86 @@ pub struct Frame {
     pub back: ByteAddr,
 }
 
-// What the words of a call stack say, with the current domain. The frames in use are the first `depth`; a popped one
-// keeps its words and is never looked at.
-#[derive(Drop)]
-pub struct CallStack {
-    pub frames: [Frame; 16],
-    pub depth: u32,
-    pub current: u32,
-}
-
-// What a step answers.
-#[derive(Clone, Copy)]
+// What a step that is not refused answers.
+#[derive(Clone, Copy, Debug, PartialEq, Eq)]
 pub enum Stepped {
     Pass,
     Deny,
-    Refused(u32),
-}
-
-// A step as contracts tell it: its answer, and the stack afterwards.
-#[derive(Drop)]
-pub struct Step {
-    pub answer: Stepped,
-    pub stack: CallStack,
 }
 
 // A set that holds no gate, whatever its words were.
-pub fn no_gates(gates: &mut [u32])
-    requires { IsGates gates.old }
+pub fn no_gates(gates: &mut [u32; GATES_WORDS])
     ensures { gates.new ≡ gates_words no_gates }
 {
-    let address = words::byte_addr(0);
-    let gate = Gate::Return;
     let idle = GateAt {
         domain: 0,
-        address,
-        gate,
+        address: ByteAddr::from(0),
+        gate: Gate::Return,
     };
-    let mut i: usize = 0;
-    while i < 64 {
-        layout::put_gate(gates, 3 * i, idle);
-        i += 1;
+    for i in 0..64 {
+        layout::put_gate(gates, i, idle);
     }
     gates[COUNT] = 0;
 }
 
 // A stack with no frame, in a domain, whatever its words were.
-pub fn call_stack(stack: &mut [u32], domain: u32)
-    requires { IsStack stack.old }
+pub fn call_stack(stack: &mut [u32; STACK_WORDS], domain: u32)
     ensures { stack.new ≡ stack_words (empty_stack domain) }
 {
-    let back = words::byte_addr(0);
-    let idle = Frame { domain: 0, back };
-    let mut i: usize = 0;
-    while i < 16 {
-        layout::put_frame(stack, 2 * i, idle);
-        i += 1;
+    let idle = Frame {
+        domain: 0,
+        back: ByteAddr::from(0),
+    };
+    for i in 0..16 {
+        layout::put_frame(stack, i, idle);
     }
     stack[DEPTH] = 0;
     stack[CURRENT] = domain;
 }
 
 // Sets a gate: in the place of the one that stands there, else last. One gate is stored, and the count.
-pub fn set_gate(domains: u32, gates: &mut [u32], domain: u32, address: ByteAddr, gate: Gate) -> u32
-    requires { IsGates gates.old }
+pub fn set_gate(
+    domains: u32,
+    gates: &mut [u32; GATES_WORDS],
+    domain: u32,
+    address: ByteAddr,
+    gate: Gate,
+) -> Result<(), Refusal>
     ensures { SetAs (set_of domains (gates_of gates.old) domain address gate) result gates.new }
 {
     let count = gates[COUNT];
-    let refusal = places::place_refusal(domains, count, domain, gate, address);
-    if refusal != 0 {
-        return refusal;
+    places::place_refusal(domains, count, domain, gate, address)?;
+    if places::leads_to(gate, domain) {
+        return Err(Refusal::GateToItself);
     }
-    let own = places::leads_to(gate, domain);
-    if own {
-        return 14;
-    }
-    let place = places::place_of(gates, domain, address);
-    let last = count as usize;
     let g = GateAt {
         domain,
         address,
         gate,
     };
-    if place < last {
-        places::store_gate(gates, place, g, count);
-        return 0;
+    match places::place_of(gates, domain, address) {
+        Some(place) => places::store_gate(gates, place, g, count),
+        None if count == MAX_GATES => return Err(Refusal::GatesFull),
+        None => places::store_gate(gates, count as usize, g, count + 1),
     }
-    if count == MAX_GATES {
-        return 12;
-    }
-    places::store_gate(gates, last, g, count + 1);
-    0
+    Ok(())
 }
 
 // Removes the gate that stands there, the earlier of two. The later ones move down.
-pub fn remove_gate(domains: u32, gates: &mut [u32], domain: u32, address: ByteAddr) -> u32
-    requires { IsGates gates.old }
+pub fn remove_gate(
+    domains: u32,
+    gates: &mut [u32; GATES_WORDS],
+    domain: u32,
+    address: ByteAddr,
+) -> Result<(), Refusal>
     ensures { SetAs (remove_of domains (gates_of gates.old) domain address) result gates.new }
 {
     let count = gates[COUNT];
     // A return gate has no destination that could be refused, and a removal names none.
-    let no_destination = Gate::Return;
-    let refusal = places::place_refusal(domains, count, domain, no_destination, address);
-    if refusal != 0 {
-        return refusal;
-    }
-    let place = places::place_of(gates, domain, address);
-    let last = count as usize;
-    if place < last {
-        places::close_up(gates, place);
-        return 0;
-    }
-    13
+    places::place_refusal(domains, count, domain, Gate::Return, address)?;
+    let place = places::place_of(gates, domain, address).ok_or(Refusal::NoGate)?;
+    places::close_up(gates, place);
+    Ok(())
 }
 
 // One fetch step: by a switch gate into its destination, by a return gate back to the caller, else within the current
@@ -195,27 +143,18 @@ pub fn remove_gate(domains: u32, gates: &mut [u32], domain: u32, address: ByteAd
 pub fn fetch_step(
     pool: &[u32],
     shape: Shape,
-    gates: &[u32],
-    stack: &mut [u32],
+    gates: &[u32; GATES_WORDS],
+    stack: &mut [u32; STACK_WORDS],
     address: ByteAddr,
     target: ByteAddr,
-) -> Stepped
-    requires { IsGates gates.now × IsStack stack.old }
+) -> Result<Stepped, Refusal>
     ensures { SteppedAs (step_of pool.now shape (gates_of gates.now)
         (stack_of stack.old) address target) result stack.new }
 {
-    let long = pool.len();
-    let refusal = steps::step_refusal(long, shape, gates, stack, address, target);
-    if refusal != 0 {
-        return Stepped::Refused(refusal);
-    }
-    let current = stack[CURRENT];
-    let here = places::gate_here(gates, current, address);
-    match here {
-        Here::Nothing => steps::plain_step(pool, shape, stack, address),
-        Here::Stands(gate) => match gate {
-            Gate::Switch(to) => steps::switch_step(pool, shape, stack, to, address, target),
-            Gate::Return => steps::return_step(pool, shape, stack, address, target),
-        },
+    steps::step_refusal(pool.len(), shape, gates, stack, address, target)?;
+    match places::gate_here(gates, stack[CURRENT], address) {
+        None => steps::plain_step(pool, shape, stack, address),
+        Some(Gate::Switch(to)) => steps::switch_step(pool, shape, stack, to, address, target),
+        Some(Gate::Return) => steps::return_step(pool, shape, stack, address, target),
     }
 }

@@ -1,10 +1,11 @@
 // The gates held: which one stands at a place, what setting and removing refuse, and the stores that they make.
-ghost use Rattle.std.specs.Prelude.{◌≡◌, ◌<◌, ◌≤◌};
+ghost use Rattle.std.specs.Prelude.{◌≡◌, ◌<◌, ◌≤◌, MatchOption, OnOk};
 ghost use Rattle.gates.specs.Gates.{stands_at, place_of, gate_of, leads_below, leads_to, place_refusal};
 ghost use Rattle.gates.specs.Gates.{stored, without};
-ghost use Rattle.gates.specs.Layout.{IsGates, gates_of, gates_words};
+ghost use Rattle.gates.specs.Layout.{gates_of, gates_words};
 
-use crate::{COUNT, Gate, GateAt, Here, MAX_GATES, layout};
+use crate::{COUNT, GATES_WORDS, Gate, GateAt, MAX_GATES, layout};
+use refusals::Refusal;
 use words::ByteAddr;
 
 // Whether a switch leads below D; a return leads nowhere of its own.
@@ -20,114 +21,78 @@ pub(crate) fn leads_below(gate: Gate, domains: u32) -> bool
 pub(crate) fn leads_to(gate: Gate, domain: u32) -> bool
     ensures { result ≡ leads_to domain gate }
 {
-    match gate {
-        Gate::Switch(to) => to == domain,
-        Gate::Return => false,
-    }
+    matches!(gate, Gate::Switch(to) if to == domain)
 }
 
-// What setting and removing refuse alike, or 0.
+// What setting and removing refuse alike.
+#[tactic(auto, unfolding(crate::specs::Gates::place_refusal))]
 pub(crate) fn place_refusal(
     domains: u32,
     count: u32,
     domain: u32,
     gate: Gate,
     address: ByteAddr,
-) -> u32
-    ensures { result ≡ place_refusal domains count domain gate address.0 }
+) -> Result<(), Refusal>
+    ensures answer { result ≡ place_refusal domains count domain gate address.0 }
+    ensures few { OnOk result (count ≤ 64) }
 {
-    if domains < 1 {
-        return 1;
-    }
-    if domains > table::MAX_DOMAINS {
-        return 1;
+    if domains < 1 || domains > table::MAX_DOMAINS {
+        return Err(Refusal::NoShape);
     }
     if count > MAX_GATES {
-        return 18;
+        return Err(Refusal::BadState);
     }
-    if domain >= domains {
-        return 2;
+    if domain >= domains || !leads_below(gate, domains) {
+        return Err(Refusal::NoDomain);
     }
-    let known = leads_below(gate, domains);
-    if !known {
-        return 2;
+    if u32::from(address) % 4 != 0 {
+        return Err(Refusal::GateNotAligned);
     }
-    let a = words::addr_number(address);
-    if a % 4 != 0 {
-        return 11;
-    }
-    0
+    Ok(())
 }
 
 fn stands_at(g: GateAt, domain: u32, address: ByteAddr) -> bool
     ensures { result ≡ stands_at domain address.0 g }
 {
-    let d = g.domain;
-    if d != domain {
-        return false;
-    }
-    let a = g.address;
-    let here = words::addr_number(a);
-    let asked = words::addr_number(address);
-    here == asked
+    g.domain == domain && g.address == address
 }
 
-// The place of the first gate that stands there, or the count. The earlier of two counts because the search goes up.
-pub(crate) fn place_of(ws: &[u32], domain: u32, address: ByteAddr) -> usize
-    requires { IsGates ws.now × ((gates_of ws.now).count ≤ 64) }
-    ensures { result ≡ place_of (gates_of ws.now) domain address.0 }
+// The place of the first gate that stands there, if one does. The earlier of two counts because the search goes up.
+pub(crate) fn place_of(gates: &[u32; GATES_WORDS], domain: u32, address: ByteAddr) -> Option<usize>
+    requires { (gates_of gates.now).count ≤ 64 }
+    ensures { let G = gates_of gates.now in
+        MatchOption result (G.count ≤ place_of G domain address.0)
+        (λ k. (k ≡ place_of G domain address.0) × (k < G.count)) }
 {
-    let n = ws[COUNT];
-    let count = n as usize;
-    let mut i: usize = 0;
-    while i < count {
-        let g = layout::gate_at(ws, 3 * i);
-        let here = stands_at(g, domain, address);
-        if here {
-            return i;
-        }
-        i += 1;
-    }
-    count
+    (0..gates[COUNT] as usize).find(|i| stands_at(layout::gate_at(gates, *i), domain, address))
 }
 
-pub(crate) fn gate_here(ws: &[u32], domain: u32, address: ByteAddr) -> Here
-    requires { IsGates ws.now × ((gates_of ws.now).count ≤ 64) }
-    ensures { result ≡ gate_of (gates_of ws.now) domain address.0 }
+pub(crate) fn gate_here(gates: &[u32; GATES_WORDS], domain: u32, address: ByteAddr) -> Option<Gate>
+    requires { (gates_of gates.now).count ≤ 64 }
+    ensures { result ≡ gate_of (gates_of gates.now) domain address.0 }
 {
-    let n = ws[COUNT];
-    let count = n as usize;
-    let place = place_of(ws, domain, address);
-    if place < count {
-        let g = layout::gate_at(ws, 3 * place);
-        let gate = g.gate;
-        return Here::Stands(gate);
-    }
-    Here::Nothing
+    let place = place_of(gates, domain, address)?;
+    Some(layout::gate_at(gates, place).gate)
 }
 
 // One gate stored, and the count.
-pub(crate) fn store_gate(ws: &mut [u32], place: usize, g: GateAt, count: u32)
-    requires { IsGates ws.old × (place < 64) }
-    ensures { ws.new ≡ gates_words (stored (gates_of ws.old) place g count) }
+pub(crate) fn store_gate(gates: &mut [u32; GATES_WORDS], place: usize, g: GateAt, count: u32)
+    requires { place < 64 }
+    ensures { gates.new ≡ gates_words (stored (gates_of gates.old) place g count) }
 {
-    layout::put_gate(ws, 3 * place, g);
-    ws[COUNT] = count;
+    layout::put_gate(gates, place, g);
+    gates[COUNT] = count;
 }
 
 // The later gates move down over a place; the place of the last keeps what it held.
-pub(crate) fn close_up(ws: &mut [u32], place: usize)
-    requires { IsGates ws.old × (place < (gates_of ws.old).count) × ((gates_of ws.old).count ≤ 64) }
-    ensures { ws.new ≡ gates_words (without (gates_of ws.old) place) }
+pub(crate) fn close_up(gates: &mut [u32; GATES_WORDS], place: usize)
+    requires { (place < (gates_of gates.old).count) × ((gates_of gates.old).count ≤ 64) }
+    ensures { gates.new ≡ gates_words (without (gates_of gates.old) place) }
 {
-    let n = ws[COUNT];
-    let left = n - 1;
-    let last = left as usize;
-    let mut i = place;
-    while i < last {
-        let j = i + 1;
-        layout::move_gate(ws, 3 * i, 3 * j);
-        i = j;
+    let left = gates[COUNT] - 1;
+    for i in place..left as usize {
+        let next = layout::gate_at(gates, i + 1);
+        layout::put_gate(gates, i, next);
     }
-    ws[COUNT] = left;
+    gates[COUNT] = left;
 }

@@ -14,8 +14,8 @@ use Rattle.table.specs.Shape.{Fits}
 use Rattle.table.specs.Map.{form_of}
 use Rattle.listing.specs.declared.Run.{Run}
 use Rattle.listing.specs.declared.Open.{Open}
-use Rattle.listing.specs.declared.Listed.{Listed}
-use Rattle.listing.specs.declared.Listed.TheVariants.{Runs}
+use Rattle.std.specs.Prelude.{Result, Ok}
+use Rattle.refusals.specs.declared.Refusal.{Refusal}
 use Rattle.listing.specs.Runs.{memory_words, shown}
 use Rattle.listing.specs.Scan.{Scan, open_run, ended, next, scan, runs_of, listing_of}
 use Rattle.listing.specs.Sheets.{put_run, written, Sheet, sheet, counted, closed, opened, feed, fed, OpenAt}
@@ -161,14 +161,14 @@ module _ (p : List ℕ) (s : Shape) (from : ℕ) (old : List ℕ) where
   -- What the fold finds, written, is an answer.
   pub lists_found : (n : ℕ) (new : List ℕ) → Fits s (length p) → SoundPool (form_of s) (words p)
       → n ≡ length (listing_of s.domains memory_words (word_right s p))
-      → new ≡ written from 0 (listing_of s.domains memory_words (word_right s p)) old → Lists p s from old (Runs n) new
+      → new ≡ written from 0 (listing_of s.domains memory_words (word_right s p)) old → Lists p s from old (Ok n) new
   lists_found n new fits sound en ew =
       rw (en, ew, written_shown from (listing_of s.domains memory_words (word_right s p)) old)
       (listed fits sound (listing_of s.domains memory_words (word_right s p))
       (listing_all s.domains memory_words (word_right s p)))
 
   -- There is one answer, and one content of the lent words.
-  pub one_listing : {q r : Listed} {x y : List ℕ} → Lists p s from old q x → Lists p s from old r y → (q ≡ r) × (x ≡ y)
+  pub one_listing : {q r : Result ℕ Refusal} {x y : List ℕ} → Lists p s from old q x → Lists p s from old r y → (q ≡ r) × (x ≡ y)
   one_listing (no_shape a) (no_shape b) = (refl, refl)
   one_listing (no_shape a) (unsound f b) = absurd (a f)
   one_listing (no_shape a) (listed f o rs g) = absurd (a f)
@@ -178,4 +178,4 @@ module _ (p : List ℕ) (s : Shape) (from : ℕ) (old : List ℕ) where
   one_listing (listed f o rs g) (no_shape b) = absurd (b f)
   one_listing (listed f o rs g) (unsound h b) = absurd (b o)
   one_listing (listed f o rs g) (listed h i ts k) =
-      let e = one_all_runs g k in (ap (λ z. Runs (length z)) e, ap (λ z. shown from z old) e)
+      let e = one_all_runs g k in (ap (λ z. Ok (length z)) e, ap (λ z. shown from z old) e)

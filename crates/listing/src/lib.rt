@@ -17,6 +17,7 @@ ghost use Rattle.table.specs.Entries.{block_words};
 ghost use Rattle.listing.specs.Levels.{table_right, AllSay, EntryAt, TableAt, SomeEntry, SomeTable};
 ghost use Rattle.listing.specs.Listing.{word_right, Lists};
 
+use refusals::Refusal;
 use table::Shape;
 use words::PoolWord;
 
@@ -43,13 +44,6 @@ pub struct Open {
     pub count: usize,
 }
 
-// How many runs there are in all; or the number of the refusal.
-#[derive(Clone, Copy)]
-pub enum Listed {
-    Runs(usize),
-    Refused(u32),
-}
-
 // Run number `n`, at its place in the lent words, where it has one. The last byte is reckoned so that no sum reaches
 // 2^32.
 fn put_run(run: Run, n: usize, from: u32, runs: &mut [u32])
@@ -57,16 +51,10 @@ fn put_run(run: Run, n: usize, from: u32, runs: &mut [u32])
     ensures { runs.new ≡ put_run from n run runs.old }
 {
     let start = from as usize;
-    if n < start {
-        return;
-    }
-    let k = n - start;
-    if k < runs.len() / 4 {
-        let p = 4 * k;
-        runs[p] = run.domain;
-        runs[p + 1] = 4 * run.first;
-        runs[p + 2] = 4 * (run.past - 1) + 3;
-        runs[p + 3] = run.right;
+    if start <= n && n - start < runs.len() / 4 {
+        let p = 4 * (n - start);
+        let words = [run.domain, 4 * run.first, 4 * (run.past - 1) + 3, run.right];
+        runs[p..p + 4].copy_from_slice(&words);
     }
 }
 
@@ -76,19 +64,17 @@ fn close(run: Open, at: u32, runs: &mut [u32]) -> usize
     requires open_at { OpenAt run at }
     ensures { sheet (counted run result) runs.new ≡ closed at (sheet run runs.old) }
 {
-    let mut n = run.count;
-    let right = run.right;
-    if right != 0 {
-        let ended = Run {
-            domain: run.domain,
-            first: run.first,
-            past: at,
-            right,
-        };
-        put_run(ended, n, run.from, runs);
-        n += 1;
+    if run.right == 0 {
+        return run.count;
     }
-    n
+    let ended = Run {
+        domain: run.domain,
+        first: run.first,
+        past: at,
+        right: run.right,
+    };
+    put_run(ended, run.count, run.from, runs);
+    run.count + 1
 }
 
 // The right turns to `right` at word `at`.
@@ -97,36 +83,25 @@ fn turn_to(right: u32, at: u32, run: Open, runs: &mut [u32]) -> Open
     requires open_at { OpenAt run at }
     ensures { sheet result runs.new ≡ turned right at (sheet run runs.old) }
 {
-    let n = close(run, at, runs);
+    let count = close(run, at, runs);
     Open {
-        domain: run.domain,
         right,
         first: at,
-        count: n,
-        from: run.from,
+        count,
+        ..run
     }
 }
 
-// From word `at` on the right is `right`. There is one way out, whether it turns or not: so the open run stays in
-// registers.
+// From word `at` on the right is `right`.
 fn feed_right(right: u32, at: u32, run: Open, runs: &mut [u32]) -> Open
     requires at_le_memory_words { at ≤ memory_words }
     requires open_at { OpenAt run at }
     ensures { sheet result runs.new ≡ feed right at (sheet run runs.old) }
 {
-    let old = run.right;
-    let mut first = run.first;
-    let mut n = run.count;
-    if right != old {
-        n = close(run, at, runs);
-        first = at;
-    }
-    Open {
-        domain: run.domain,
-        right,
-        first,
-        count: n,
-        from: run.from,
+    if right == run.right {
+        run
+    } else {
+        turn_to(right, at, run, runs)
     }
 }
 
@@ -139,15 +114,13 @@ fn feed_rights(height: u32, w: u32, at: u32, run: Open, runs: &mut [u32]) -> Ope
         at (sheet run runs.old) }
 {
     let level = table::level_of(height);
-    let parts = level.parts;
-    let step = level.step;
-    let begin = words::stretch_at(w, parts, 0);
+    let begin = words::stretch_at(w, level.parts, 0);
     let mut s = feed_right(begin.right, at, run, runs);
     let mut i = begin.last + 1;
-    while i < parts {
-        let around = words::stretch_at(w, parts, i);
-        let from = at + i * step;
-        s = turn_to(around.right, from, s, runs);
+    // no `for`: each step is as long as the stretch that was found
+    while i < level.parts {
+        let around = words::stretch_at(w, level.parts, i);
+        s = turn_to(around.right, at + i * level.step, s, runs);
         i = around.last + 1;
     }
     s
@@ -161,14 +134,10 @@ fn feed_leaf(pool: &[u32], base: PoolWord, at: u32, run: Open, runs: &mut [u32])
     ensures { (s : Shape) → TableAt pool.now s 0 base.0 at → sheet result runs.new
         ≡ fed (table_words 0) (table_right s pool.now 0 base.0) at (sheet run runs.old) }
 {
-    let start = words::pool_index(base);
+    let start = base.index();
     let mut s = run;
-    let mut i: u32 = 0;
-    while i < table::LEAF_WORDS {
-        let w = pool[start + i as usize];
-        let from = at + i * 16;
-        s = feed_rights(0, w, from, s, runs);
-        i += 1;
+    for i in 0..table::LEAF_WORDS {
+        s = feed_rights(0, pool[start + i as usize], at + i * 16, s, runs);
     }
     s
 }
@@ -179,28 +148,18 @@ fn same_ahead(pool: &[u32], height: u32, word: PoolWord, rest: u32, right: u32) 
     requires { (0 < rest) × (word.0 + rest ≤ length pool.now) }
     ensures { (result ≤ rest) × AllSay pool.now height word.0 result right }
 {
-    let k = words::pool_index(word);
-    let w = pool[k];
+    let w = pool[word.index()];
     let first = words::right_at(w, 0);
-    if first != right {
-        return 0;
-    }
     let same = table::same_entry(height, first);
-    if w != same {
-        return 0;
+    if first != right || w != same {
+        0
+    } else if rest < 32 || !words::all_same(pool, word, 4, same) {
+        1
+    } else if words::all_same(pool, word, 32, same) {
+        32
+    } else {
+        4
     }
-    if rest < 32 {
-        return 1;
-    }
-    let near = words::all_same(pool, word, 4, same);
-    if !near {
-        return 1;
-    }
-    let all = words::all_same(pool, word, 32, same);
-    if all {
-        return 32;
-    }
-    4
 }
 
 // The table of a height above the leaves that begins at pool word `base`, for the memory from word `at` on. Entries
@@ -221,18 +180,14 @@ fn feed_table(
         at (sheet run runs.old) }
 {
     let level = table::level_of(height);
-    let entries = level.entries;
-    let block = level.block;
     let mut s = run;
     let mut i = 0;
-    while i < entries {
-        let entry = words::word_after(base, i as usize);
-        let right = s.right;
-        let rest = entries - i;
-        let n = same_ahead(pool, height, entry, rest, right);
+    // no `for`: entries that are alike are passed over several at a time
+    while i < level.entries {
+        let entry = base.after(i as usize);
+        let n = same_ahead(pool, height, entry, level.entries - i, s.right);
         if n == 0 {
-            let from = at + i * block;
-            s = feed_entry(pool, height, entry, from, s, runs);
+            s = feed_entry(pool, height, entry, at + i * level.block, s, runs);
             i += 1;
         } else {
             i += n;
@@ -258,12 +213,11 @@ fn feed_entry(
         ≡ fed (block_words height) (entry_right s pool.now height entry.0)
         at (sheet run runs.old) }
 {
-    let k = words::pool_index(entry);
-    let w = pool[k];
+    let w = pool[entry.index()];
     if w >= words::BIT_31 {
         return feed_rights(height, w, at, run, runs);
     }
-    let t = words::pool_word(w);
+    let t = PoolWord::from(w);
     if height == 1 {
         feed_leaf(pool, t, at, run, runs)
     } else {
@@ -295,7 +249,7 @@ fn list_domain(
         count,
         from,
     };
-    let root = words::pool_word(table::TABLE_WORDS * domain);
+    let root = PoolWord::from(table::TABLE_WORDS * domain);
     let s = feed_table(pool, 2, root, 0, run, runs);
     close(s, MEMORY_WORDS, runs)
 }
@@ -309,29 +263,24 @@ fn list_domains(pool: &[u32], shape: Shape, from: u32, runs: &mut [u32]) -> usiz
         ≡ written from 0 (listing_of shape.domains memory_words (word_right shape pool.now))
         runs.old }
 {
-    let domains = shape.domains;
     let mut n = 0;
-    let mut d = 0;
-    while d < domains {
+    for d in 0..shape.domains {
         n = list_domain(pool, shape, d, from, n, runs);
-        d += 1;
     }
     n
 }
 
 // The runs of a pool from number `from` on, as many as fit, four words each: domain, first byte, last byte, right.
-pub fn list_runs(pool: &[u32], shape: Shape, from: u32, runs: &mut [u32]) -> Listed
+// Answers how many runs there are in all.
+pub fn list_runs(pool: &[u32], shape: Shape, from: u32, runs: &mut [u32]) -> Result<usize, Refusal>
     ensures { Lists pool.now shape from runs.old result runs.new }
 {
-    let long = pool.len();
-    if !table::shape_fits(shape, long) {
-        return Listed::Refused(1);
+    if !table::shape_fits(shape, pool.len()) {
+        return Err(Refusal::NoShape);
     }
     let mut owners = [0u32; census::PLACES];
-    let sound = census::census(pool, shape, &mut owners);
-    if !sound {
-        return Listed::Refused(6);
+    if !census::census(pool, shape, &mut owners) {
+        return Err(Refusal::NotSound);
     }
-    let n = list_domains(pool, shape, from, runs);
-    Listed::Runs(n)
+    Ok(list_domains(pool, shape, from, runs))
 }

@@ -1,6 +1,4 @@
--- `gates::no_gates` meets its contract. The invariant: the words are those of a list of gates, of which
--- the first `i` are none.
-use Prim.Native.Nat.{◌-◌, ◌≤◌}
+-- The words are those of a list of gates, of which the first `i` are none.
 use mathlib.Core.Path.{◌≡◌}
 use mathlib.Core.List.{List}
 use lib.ListN.{length, get_or}
@@ -11,8 +9,5 @@ use Rattle.gates.proofs.LayoutLaws.{of_places}
 use Rattle.gates.proofs.no_gates.Given as goal
 
 abbrev pub invariant-loop-i : goal.invariant-loop-i
-invariant-loop-i l = (l.i ≤ 64) × (length l.gates ≡ 193) × (x : List GateAt) × (length x ≡ 64)
+invariant-loop-i l = (x : List GateAt) × (length x ≡ 64)
     × (l.gates ≡ of_places x (get_or l.initial.gates 192 0)) × Filling no_gate 64 x l.i
-
-abbrev pub decreases-loop-i : goal.decreases-loop-i
-decreases-loop-i l = 64 - l.i

@@ -1,49 +1,34 @@
--- `gates::remove_gate` meets its contract. Assumes nothing.
-use Prim.Native.Nat.{ℕ}
-use mathlib.Core.Path.{sym, ap, ◌∙◌}
+use Prim.Native.Nat.{ℕ, ◌≤◌, ◌<◌}
+use mathlib.Core.Path.{◌≡◌, sym, ap, ◌∙◌}
 use native.Mathlib.Omega.{arith}
-use borrow.Author.Tests.{ne_eqb}
-use Rattle.gates.specs.declared.Gate.TheVariants.{Return}
-use Rattle.gates.specs.Gates.{place_of, without, remove_of}
+use Rattle.std.proofs.lemmas.Result.{err_from_is_err_and}
+use Rattle.refusals.specs.declared.Refusal.TheVariants.{NoGate}
+use Rattle.gates.specs.Gates.{place_of, without}
 use Rattle.gates.specs.Layout.{gates_of, gates_words}
-use Rattle.gates.proofs.GateLaws.{place_in_order, remove_missing, remove_takes_out}
+use Rattle.gates.proofs.GateLaws.{remove_refused, remove_missing, remove_takes_out}
 use Rattle.gates.proofs.LayoutLaws.{set_refused_as, set_done_as}
 use Rattle.gates.proofs.remove_gate.Goals as goal
 
-pub returns-then-refusal-ne0 : goal.returns-then-refusal-ne0
-unfolding remove_of
-returns-then-refusal-ne0 c = let r = c.place_refusal-refusal in
-    set_refused_as c.args.gates.now c.requires _ _ (rw (← r.ensures, ne_eqb r.result 0 c.if-refusal-ne0.true))
+pub returns-in_err-place_refusal : goal.returns-in_err-place_refusal
+returns-in_err-place_refusal c = let a = c.args in
+    let p = err_from_is_err_and c.from_residual.result c.from_residual.ensures.1 in
+    rw (p.1, p.2) (set_refused_as a.gates.now c.told-gates _ _ (remove_refused a.domains (gates_of a.gates.now) a.domain
+    a.address _ (sym c.in_err-place_refusal.ensures.answer)))
 
-pub place_of-place-requires : goal.place_of-place-requires
-place_of-place-requires c = let a = c.args in
-    let in_order = sym c.place_refusal-refusal.ensures ∙ c.if-refusal-ne0.false in
-    let few = place_in_order a.domains (gates_of a.gates.now).count a.domain Return a.address.0 in_order in
-    (c.requires, few)
-
-pub overflow_cast-last : goal.overflow_cast-last
-overflow_cast-last c = let a = c.args in
-    let in_order = sym c.place_refusal-refusal.ensures ∙ c.if-refusal-ne0.false in
-    let few = place_in_order a.domains (gates_of a.gates.now).count a.domain Return a.address.0 in_order in
-    omega arith
-
-pub close_up-requires : goal.close_up-requires
-close_up-requires c = let a = c.args in
-    let in_order = sym c.place_refusal-refusal.ensures ∙ c.if-refusal-ne0.false in
-    let few = place_in_order a.domains (gates_of a.gates.now).count a.domain Return a.address.0 in_order in
-    (c.requires, c.if-place-last.true, few)
-
-pub returns-then-place-last : goal.returns-then-place-last
-returns-then-place-last c = let a = c.args in
-    let in_order = sym c.place_refusal-refusal.ensures ∙ c.if-refusal-ne0.false in
+pub returns-in_err-place : goal.returns-in_err-place
+returns-in_err-place c = let a = c.args in
     let G = gates_of a.gates.now in
-    set_done_as _ _ (without G (place_of G a.domain a.address.0))
-    (remove_takes_out a.domains G a.domain a.address in_order
-    (rw c.place_of-place.ensures at c.if-place-last.true))
-    (c.close_up.ensures ∙ ap (λ (k : ℕ). gates_words (without G k)) c.place_of-place.ensures)
+    let p = err_from_is_err_and c.from_residual-in_err-place.result c.from_residual-in_err-place.ensures.1 in
+    let e : c.in_err-place.field-0.0 ≡ NoGate = grind arith in
+    let none : G.count ≤ place_of G a.domain a.address.0 = grind arith in
+    rw (p.1, p.2, e) (set_refused_as a.gates.now c.told-gates _ _ (remove_missing a.domains G a.domain a.address
+    (sym c.in_ok-place_refusal.ensures.answer) none))
 
 pub returns : goal.returns
 returns c = let a = c.args in
-    let in_order = sym c.place_refusal-refusal.ensures ∙ c.if-refusal-ne0.false in
-    set_refused_as a.gates.now c.requires _ _ (remove_missing a.domains (gates_of a.gates.now) a.domain a.address
-    in_order (rw c.place_of-place.ensures at c.if-place-last.false))
+    let G = gates_of a.gates.now in
+    let e : c.in_ok-place.place ≡ place_of G a.domain a.address.0 = grind arith in
+    let l : c.in_ok-place.place < G.count = grind arith in
+    set_done_as _ _ (without G (place_of G a.domain a.address.0))
+    (remove_takes_out a.domains G a.domain a.address (sym c.in_ok-place_refusal.ensures.answer) (omega arith))
+    (c.close_up.ensures ∙ ap (λ (k : ℕ). gates_words (without G k)) e)

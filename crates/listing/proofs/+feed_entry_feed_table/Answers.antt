@@ -32,8 +32,8 @@ module _ (p : List ℕ) (s : Shape) {h k a i : ℕ} (x : EntryAt p s h k a) (up 
       ≡ fed (block_words h) (entry_right s p h k) a u
   whole u = rw there (leads_fed p s h k a x up led u)
 
-pub feed_entry-bounds-pool-k : goal.feed_entry-bounds-pool-k
-feed_entry-bounds-pool-k t c = omega (arith, entry_inside _ _ c.requires.height_nonzero.1.entry)
+pub feed_entry-bounds-pool-index : goal.feed_entry-bounds-pool-index
+feed_entry-bounds-pool-index t c = omega (arith, entry_inside _ _ c.requires.height_nonzero.1.entry)
 
 pub feed_entry-feed_rights-requires : goal.feed_entry-feed_rights-requires
 feed_entry-feed_rights-requires t c =
@@ -43,8 +43,8 @@ feed_entry-feed_rights-requires t c =
 pub feed_entry-returns-then-w-ge-BIT_31 : goal.feed_entry-returns-then-w-ge-BIT_31
 feed_entry-returns-then-w-ge-BIT_31 t c x k =
     let a = c.args in
-    let e = c.pool_index-k.ensures in
-    let l = word_stays a.height (words a.pool.now c.pool_index-k.result) c.requires.height_nonzero.0
+    let e = c.index.ensures in
+    let l = word_stays a.height (words a.pool.now c.index.result) c.requires.height_nonzero.0
     c.if-w-ge-BIT_31.true in
     c.feed_rights.ensures ∙ rw e (rights_fed a.pool.now x a.height a.entry.0 _ _ (rw e at l))
 
@@ -55,7 +55,7 @@ feed_entry-feed_leaf-requires t c =
     record {
       some_table = record {
         shape = _;
-        table = rw z at (below _ _ h.1.entry h.0 c.pool_index-k.ensures c.if-w-ge-BIT_31.false c.pool_word-t.ensures);
+        table = rw z at (below _ _ h.1.entry h.0 c.index.ensures c.if-w-ge-BIT_31.false c.from-t.ensures);
       };
       open_at = c.requires.open_at;
     }
@@ -69,7 +69,7 @@ feed_entry-feed_table-requires t c =
           omega (arith, c.if-height-eq1.false),
           record {
             shape = _;
-            table = below _ _ h.1.entry h.0 c.pool_index-k.ensures c.if-w-ge-BIT_31.false c.pool_word-t.ensures;
+            table = below _ _ h.1.entry h.0 c.index.ensures c.if-w-ge-BIT_31.false c.from-t.ensures;
           },
         ),
         c.requires.open_at,
@@ -80,18 +80,18 @@ pub feed_entry-returns-then-height-eq1 : goal.feed_entry-returns-then-height-eq1
 feed_entry-returns-then-height-eq1 t c x k =
     let z : c.args.height - 1 ≡ 0 = omega (arith, c.if-height-eq1.true) in
     let up = c.requires.height_nonzero.0 in
-    let i = c.pool_index-k.ensures in
+    let i = c.index.ensures in
     let low = c.if-w-ge-BIT_31.false in
-    c.feed_leaf.ensures x (rw z at (below _ _ k up i low c.pool_word-t.ensures))
-    ∙ (rw z at (whole _ _ k up i low c.pool_word-t.ensures (sheet c.args.run c.args.runs.now)))
+    c.feed_leaf.ensures x (rw z at (below _ _ k up i low c.from-t.ensures))
+    ∙ (rw z at (whole _ _ k up i low c.from-t.ensures (sheet c.args.run c.args.runs.now)))
 
 pub feed_entry-returns-else-height-eq1 : goal.feed_entry-returns-else-height-eq1
 feed_entry-returns-else-height-eq1 t c x k =
     let up = c.requires.height_nonzero.0 in
-    let i = c.pool_index-k.ensures in
+    let i = c.index.ensures in
     let low = c.if-w-ge-BIT_31.false in
-    c.feed_table.ensures x (below _ _ k up i low c.pool_word-t.ensures)
-    ∙ whole _ _ k up i low c.pool_word-t.ensures _
+    c.feed_table.ensures x (below _ _ k up i low c.from-t.ensures)
+    ∙ whole _ _ k up i low c.from-t.ensures _
 
 pub feed_table-loop-i-init : goal.feed_table-loop-i-init
 feed_table-loop-i-init t c = ((λ x k. along_start _ _ _ _ _ c.requires.open_at), refl)
@@ -102,8 +102,8 @@ stands : (t : ℕ) (c : feed_table-In-loop-i t) → EntryAt c.args.pool.now c.re
     (c.args.at + c.loop-i.i * c.level_of-level.result.block)
 stands t c = entry_at _ _ _ _ _ c.requires.height_nonzero.1.table _ c.level_of-level.ensures _ c.loop-i-test.true
 
-pub feed_table-word_after-entry-requires : goal.feed_table-word_after-entry-requires
-feed_table-word_after-entry-requires t c =
+pub feed_table-after-entry-requires : goal.feed_table-after-entry-requires
+feed_table-after-entry-requires t c =
     let x = stands t c in
     omega (arith, entry_inside _ _ x, x.fits.long, x.fits.range)
 
@@ -112,7 +112,7 @@ feed_table-same_ahead-n-requires t c =
     let n = c.level_of-level.result.entries in
     let k : n - 1 < n = omega (arith, c.loop-i-test.true) in
     let z = entry_at _ _ _ _ _ c.requires.height_nonzero.1.table _ c.level_of-level.ensures (n - 1) k in
-    (omega arith, omega (arith, entry_inside _ _ z, ap (λ x. x.0) c.word_after-entry.ensures))
+    (omega arith, omega (arith, entry_inside _ _ z, ap (λ x. x.0) c.after-entry.ensures))
 
 pub feed_table-feed_entry-s-requires : goal.feed_table-feed_entry-s-requires
 feed_table-feed_entry-s-requires t c =
@@ -120,22 +120,22 @@ feed_table-feed_entry-s-requires t c =
     let x = entry_at _ _ _ _ _ h.1.table _ c.level_of-level.ensures _ c.loop-i-test.true in (
       omega arith,
       (
-        (h.0, record { shape = h.1.shape; entry = rw c.word_after-entry.ensures x }),
+        (h.0, record { shape = h.1.shape; entry = rw c.after-entry.ensures x }),
         (c.loop-i.invariant.0 _ h.1.table).numbers,
       ),
     )
 
-pub feed_table-overflow_mul-from : goal.feed_table-overflow_mul-from
-feed_table-overflow_mul-from t c =
+pub feed_table-overflow_mul-i : goal.feed_table-overflow_mul-i
+feed_table-overflow_mul-i t c =
     omega (arith, entry_room _ _ _ _ _ c.requires.height_nonzero.1.table _ c.level_of-level.ensures _ c.loop-i-test.true)
 
-pub feed_table-overflow_add-from : goal.feed_table-overflow_add-from
-feed_table-overflow_add-from t c =
+pub feed_table-overflow_add-at : goal.feed_table-overflow_add-at
+feed_table-overflow_add-at t c =
     omega (arith, entry_room _ _ _ _ _ c.requires.height_nonzero.1.table _ c.level_of-level.ensures _ c.loop-i-test.true)
 
 pub feed_table-loop-i-preserved-then-n-eq0 : goal.feed_table-loop-i-preserved-then-n-eq0
 feed_table-loop-i-preserved-then-n-eq0 t c =
-    let w = c.word_after-entry.ensures in (
+    let w = c.after-entry.ensures in (
       (λ x k. let e = entry_at _ x _ _ _ k _ c.level_of-level.ensures _ c.loop-i-test.true in
           entry_next _ x _ _ _ k _ c.level_of-level.ensures _ c.loop-i-test.true _ _ _ (c.loop-i.invariant.0 x k)
           (c.feed_entry-s.ensures x (rw w e) ∙ rw w refl)),
@@ -146,7 +146,7 @@ pub feed_table-loop-i-preserved : goal.feed_table-loop-i-preserved
 feed_table-loop-i-preserved t c =
     let f = c.same_ahead-n.ensures in (
       (λ x k. same_next _ x _ _ _ k _ c.level_of-level.ensures _ _ _ _ _ (omega arith)
-          (rw (ap (λ x. x.0) c.word_after-entry.ensures) at f.1) refl (c.loop-i.invariant.0 x k)),
+          (rw (ap (λ x. x.0) c.after-entry.ensures) at f.1) refl (c.loop-i.invariant.0 x k)),
       omega arith,
     )
 

@@ -17,9 +17,9 @@ decreases-feed_table l = 2 * l.height + 1
 abbrev pub invariant-feed_table-loop-i : goal.invariant-feed_table-loop-i
 invariant-feed_table-loop-i l =
     ((x : Shape) → TableAt l.pool x l.height l.base.0 l.at
-    → Along (table_right x l.pool l.height l.base.0) l.entries l.block l.at (sheet l.initial.s l.initial.runs) l.i
+    → Along (table_right x l.pool l.height l.base.0) l.level.entries l.level.block l.at (sheet l.initial.s l.initial.runs) l.i
     (sheet l.s l.runs))
     × (length l.runs ≡ length l.initial.runs)
 
 abbrev pub decreases-feed_table-loop-i : goal.decreases-feed_table-loop-i
-decreases-feed_table-loop-i l = l.entries - l.i
+decreases-feed_table-loop-i l = l.level.entries - l.i

@@ -3,16 +3,10 @@ use borrow.Author.Tests.{eq-eqb, ne_eqb}
 use Rattle.listing.specs.Sheets.{closed}
 use Rattle.listing.proofs.close.Goals as goal
 
-pub put_run-requires : goal.put_run-requires
-put_run-requires c = (
-  c.requires.open_at.some c.if-right-ne0.true,
-  c.requires.at_le_memory_words,
-)
-
-pub returns-then-right-ne0 : goal.returns-then-right-ne0
+pub returns-then-run-eq0 : goal.returns-then-run-eq0
 unfolding closed
-returns-then-right-ne0 c = simp (ne_eqb _ _ c.if-right-ne0.true, c.put_run.ensures)
+returns-then-run-eq0 c = simp (eq-eqb _ _ c.if-run-eq0.true)
 
-pub returns-else-right-ne0 : goal.returns-else-right-ne0
+pub returns : goal.returns
 unfolding closed
-returns-else-right-ne0 c = simp (eq-eqb _ _ c.if-right-ne0.false)
+returns c = simp (ne_eqb _ _ c.if-run-eq0.false, c.put_run.ensures)

@@ -1,5 +1,4 @@
 -- `listing::feed_leaf` meets its contract. The loop's invariant: the words of the entries passed were fed.
-use Prim.Native.Nat.{◌-◌}
 use mathlib.Core.Path.{◌≡◌}
 use lib.ListN.{length}
 use Rattle.table.specs.declared.Shape.{Shape}
@@ -11,6 +10,3 @@ use Rattle.listing.proofs.feed_leaf.Given as goal
 abbrev pub invariant-loop-i : goal.invariant-loop-i
 invariant-loop-i l = ((x : Shape) → TableAt l.pool x 0 l.start l.at → Along (table_right x l.pool 0 l.start) 64 16 l.at (sheet l.initial.s l.initial.runs) l.i
     (sheet l.s l.runs)) × (length l.runs ≡ length l.initial.runs)
-
-abbrev pub decreases-loop-i : goal.decreases-loop-i
-decreases-loop-i l = 64 - l.i

@@ -1,17 +1,12 @@
 -- `listing::feed_right` meets its contract.
-use mathlib.Core.Path.{ap}
 use borrow.Author.Tests.{eq-eqb, ne_eqb}
-use Rattle.listing.specs.Sheets.{sheet, feed, opened}
+use Rattle.listing.specs.Sheets.{feed}
 use Rattle.listing.proofs.feed_right.Goals as goal
 
-pub returns-then-right-old : goal.returns-then-right-old
+pub returns-then-right-run : goal.returns-then-right-run
 unfolding feed
-returns-then-right-old c = simp (ne_eqb _ _ c.if-right-old.true)
-    (ap (opened _ _) c.close-n.ensures)
+returns-then-right-run c = simp (eq-eqb _ _ c.if-right-run.true)
 
-pub returns-else-right-old : goal.returns-else-right-old
+pub returns-else-right-run : goal.returns-else-right-run
 unfolding feed
-returns-else-right-old c = let o = c.args.run in
-    simp (eq-eqb _ _ c.if-right-old.false)
-    (ap (λ q. sheet (record { domain = o.domain; right = q; first = o.first; count = o.count; from = o.from })
-    c.args.runs.now) c.if-right-old.false)
+returns-else-right-run c = simp (ne_eqb _ _ c.if-right-run.false) c.turn_to.ensures

@@ -63,11 +63,11 @@ loop-i-init c = ((λ u l. l), refl, turning (goal.at.loop-i-init c).After-feed_r
 pub stretch_at-around-requires : goal.stretch_at-around-requires
 stretch_at-around-requires c = (c.loop-i-test.true, few_parts c.args.height _ c.level_of-level.ensures)
 
-pub overflow_mul-from : goal.overflow_mul-from
-overflow_mul-from c = omega (arith, inside (goal.at.overflow_mul-from c).In-loop-i)
+pub overflow_mul-i : goal.overflow_mul-i
+overflow_mul-i c = omega (arith, inside (goal.at.overflow_mul-i c).In-loop-i)
 
-pub overflow_add-from : goal.overflow_add-from
-overflow_add-from c = omega (arith, inside (goal.at.overflow_add-from c).In-loop-i, c.requires.height_value)
+pub overflow_add-at : goal.overflow_add-at
+overflow_add-at c = omega (arith, inside (goal.at.overflow_add-at c).In-loop-i, c.requires.height_value)
 
 pub turn_to-s-requires : goal.turn_to-s-requires
 turn_to-s-requires c = record {

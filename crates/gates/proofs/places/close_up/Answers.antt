@@ -1,68 +1,34 @@
--- `gates::places::close_up` meets its contract. The invariant: the words are those of a list of gates, of which
--- what is left to move gives the same list.
 use Prim.Native.Nat.{ℕ, ◌+◌, ◌*◌, ◌-◌}
 use mathlib.Core.Path.{◌≡◌, refl, sym, ap, ◌∙◌}
 use mathlib.Core.List.{List}
 use native.Mathlib.Omega.{arith}
-use lib.ListN.{length, get_or, set, length-set}
+use lib.ListN.{get_or, set, length-set}
 use lib.Seq.{sets}
 use Rattle.gates.specs.declared.GateAt.{GateAt}
 use Rattle.gates.specs.Gates.{no_gate}
 use Rattle.gates.specs.Layout.{gate_at, gate_words, gates_of}
 use Rattle.gates.proofs.ListLaws.{closed, closed_moved, closed_last}
-use Rattle.gates.proofs.LayoutLaws.{of_places, gates_said, gates_words_lem, places_long, gate_moved, count_stored}
+use Rattle.gates.proofs.LayoutLaws.{of_places, gates_said, gates_words_lem, gate_moved, count_stored}
 use Rattle.gates.proofs.places.close_up.Goals as goal
 
-pub overflow_sub-left : goal.overflow_sub-left
-overflow_sub-left c = omega arith
-
-pub overflow_cast-last : goal.overflow_cast-last
-overflow_cast-last c = omega arith
-
 pub loop-i-init : goal.loop-i-init
-loop-i-init c = let ws = c.args.ws.now in
-    (c.requires.1, c.requires.0, (gates_of ws).places, gates_said ws, sym (gates_words_lem ws c.requires.0), refl)
-
-pub overflow_add-j : goal.overflow_add-j
-overflow_add-j c = omega arith
-
-pub overflow_mul-i : goal.overflow_mul-i
-overflow_mul-i c = omega arith
-
-pub overflow_mul-j : goal.overflow_mul-j
-overflow_mul-j c = omega arith
-
-pub move_gate-requires : goal.move_gate-requires
-move_gate-requires c = (omega arith, omega arith)
-
-pub loop-i-smaller : goal.loop-i-smaller
-loop-i-smaller c = omega arith
+loop-i-init c = let ws = c.args.gates.now in
+    ((gates_of ws).places, gates_said ws, sym (gates_words_lem ws c.told-gates), refl)
 
 pub loop-i-preserved : goal.loop-i-preserved
-loop-i-preserved c = let n = get_or c.args.ws.now 192 0 in
+loop-i-preserved c = let n = get_or c.args.gates.now 192 0 in
     let i = c.loop-i.i in
-    let (_, _, x, long, e, left) = c.loop-i.invariant in
+    let (x, long, e, left) = c.loop-i.invariant in
     let y = set x i (get_or x (i + 1) no_gate) in
     let k = length-set x i (get_or x (i + 1) no_gate) ∙ long in
-    let q = c.move_gate.ensures ∙ ap (λ (w : List ℕ). sets w (3 * i) (gate_words (gate_at w (3 * (i + 1))))) e
-    ∙ gate_moved x n i (i + 1) (omega arith) (omega arith) in (
-      omega arith,
-      ap length q ∙ places_long y n k,
-      y,
-      k,
-      q,
-      closed_moved no_gate n i x (omega arith) (omega arith) ∙ left,
-    )
-
-pub bounds-ws-192-2 : goal.bounds-ws-192-2
-bounds-ws-192-2 c = omega arith
-
-pub shape_of-ws : goal.shape_of-ws
-shape_of-ws c = length-set c.loop-i.ws 192 _ ∙ c.loop-i.invariant.1 ∙ sym c.requires.0
+    let q = c.put_gate.ensures ∙ ap (λ (g : GateAt). sets c.loop-i.gates (3 * i) (gate_words g)) c.gate_at-next.ensures
+    ∙ ap (λ (w : List ℕ). sets w (3 * i) (gate_words (gate_at w (3 * (i + 1))))) e
+    ∙ gate_moved x n i (i + 1) (omega arith) (omega arith) in
+    (y, k, q, closed_moved no_gate n i x (omega arith) (omega arith) ∙ left)
 
 pub returns : goal.returns
-returns c = let n = get_or c.args.ws.now 192 0 in
-    let (_, _, x, long, e, left) = c.loop-i.invariant in
+returns c = let n = get_or c.args.gates.now 192 0 in
+    let (x, long, e, left) = c.loop-i.invariant in
     let last : n - 1 ≡ c.loop-i.i = omega arith in
     ap (λ (w : List ℕ). set w 192 (n - 1)) e ∙ count_stored x n (n - 1) long
     ∙ ap (λ (y : List GateAt). of_places y (n - 1))

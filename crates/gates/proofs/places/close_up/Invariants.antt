@@ -1,6 +1,4 @@
--- `gates::places::close_up` meets its contract. The invariant: the words are those of a list of gates, of which
--- what is left to move gives the same list.
-use Prim.Native.Nat.{◌-◌, ◌<◌}
+-- The words are those of a list of gates, of which what is left to move gives the same list.
 use mathlib.Core.Path.{◌≡◌}
 use mathlib.Core.List.{List}
 use lib.ListN.{length, get_or}
@@ -11,10 +9,7 @@ use Rattle.gates.proofs.LayoutLaws.{of_places}
 use Rattle.gates.proofs.places.close_up.Given as goal
 
 abbrev pub invariant-loop-i : goal.invariant-loop-i
-invariant-loop-i l = (l.i < get_or l.initial.ws 192 0) × (length l.ws ≡ 193) × (x : List GateAt) × (length x ≡ 64)
-    × (l.ws ≡ of_places x (get_or l.initial.ws 192 0))
-    × (closed (get_or l.initial.ws 192 0) l.i x
-    ≡ closed (get_or l.initial.ws 192 0) l.place (gates_of l.initial.ws).places)
-
-abbrev pub decreases-loop-i : goal.decreases-loop-i
-decreases-loop-i l = get_or l.initial.ws 192 0 - l.i
+invariant-loop-i l = (x : List GateAt) × (length x ≡ 64)
+    × (l.gates ≡ of_places x (get_or l.initial.gates 192 0))
+    × (closed (get_or l.initial.gates 192 0) l.i x
+    ≡ closed (get_or l.initial.gates 192 0) l.place (gates_of l.initial.gates).places)

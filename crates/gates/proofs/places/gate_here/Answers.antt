@@ -1,28 +1,25 @@
--- `gates::places::gate_here` meets its contract. Assumes nothing.
-use mathlib.Core.Path.{◌≡◌, sym, ap, ◌∙◌}
-use native.Mathlib.Omega.{arith}
 use Prim.Native.Nat.{ℕ}
+use mathlib.Core.Path.{sym, ap, ◌∙◌}
+use native.Mathlib.Omega.{arith}
 use lib.ListN.{get_or}
+use Rattle.std.proofs.Common.{Some}
 use Rattle.gates.specs.declared.GateAt.{GateAt}
-use Rattle.gates.specs.declared.Here.TheVariants.{Stands}
-use Rattle.gates.specs.Gates.{no_gate, place_of}
+use Rattle.gates.specs.Gates.{no_gate}
 use Rattle.gates.specs.Layout.{gates_of}
 use Rattle.gates.proofs.GateLaws.{gate_at_lem, no_gate_at}
 use Rattle.gates.proofs.LayoutLaws.{gates_said, gates_at}
 use Rattle.gates.proofs.places.gate_here.Goals as goal
 
-pub returns-then-place-count : goal.returns-then-place-count
-returns-then-place-count c = let a = c.args in
-    let G = gates_of a.ws.now in
-    let n = gates_said a.ws.now in
-    let e : c.place_of-place.result ≡ place_of G a.domain a.address.0 = c.place_of-place.ensures in
-    ap (λ (g : GateAt). Stands g.gate) (c.gate_at-g.ensures ∙ sym (gates_at a.ws.now c.place_of-place.result
-    (omega arith)) ∙ ap (λ (k : ℕ). get_or G.places k no_gate) e)
-    ∙ sym (gate_at_lem G a.domain a.address.0 (omega arith) no_gate (omega arith))
+pub returns-in_err-place : goal.returns-in_err-place
+returns-in_err-place c = let a = c.args in
+    let long = gates_said a.gates.now in
+    rw c.from_residual.ensures (sym (no_gate_at (gates_of a.gates.now) a.domain a.address.0 (omega arith) c.in_err-place.ensures))
 
 pub returns : goal.returns
 returns c = let a = c.args in
-    let G = gates_of a.ws.now in
-    let n = gates_said a.ws.now in
-    let e : c.place_of-place.result ≡ place_of G a.domain a.address.0 = c.place_of-place.ensures in
-    sym (no_gate_at G a.domain a.address.0 (omega arith) (omega arith))
+    let G = gates_of a.gates.now in
+    let long = gates_said a.gates.now in
+    let (e, l) = c.in_ok-place.ensures in
+    ap (λ (g : GateAt). Some g.gate) (c.gate_at.ensures ∙ sym (gates_at a.gates.now _ (omega arith))
+    ∙ ap (λ (k : ℕ). get_or G.places k no_gate) e)
+    ∙ sym (gate_at_lem G a.domain a.address.0 (omega arith) no_gate (omega arith))

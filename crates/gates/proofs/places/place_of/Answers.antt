@@ -1,55 +1,42 @@
--- `gates::places::place_of` meets its contract. The invariant: the search has passed the gates below `i`.
+use Prim.Native.Nat.{ℕ, ◌*◌, ◌≤◌, ◌<◌}
 use mathlib.Core.Path.{◌≡◌, sym, ap, ◌∙◌}
+use mathlib.Core.Bool.{true, false}
+use mathlib.Core.List.{List}
 use native.Mathlib.Omega.{arith}
+use borrow.Author.Tests.{tests}
 use lib.ListN.{get_or}
-use Rattle.gates.specs.Gates.{no_gate, stands_at}
-use Rattle.gates.specs.Layout.{gates_of}
-use Rattle.gates.proofs.ListLaws.{passed_more, passed_hit, passed_all}
+use Rattle.std.proofs.Common.{rules, Option, Some, None, MatchOption}
+use Rattle.std.proofs.lemmas.Iterator.{first_from_Range}
+use Rattle.gates.specs.Gates.{no_gate, stands_at, place_of}
+use Rattle.gates.specs.Layout.{gate_at, gates_of}
+use Rattle.gates.proofs.ListLaws.{before_none, before_first}
 use Rattle.gates.proofs.LayoutLaws.{gates_said, gates_at}
 use Rattle.gates.proofs.places.place_of.Goals as goal
 
-pub overflow_cast-count : goal.overflow_cast-count
-overflow_cast-count c = omega arith
-
-pub loop-i-init : goal.loop-i-init
-loop-i-init c = (omega arith, omega arith)
-
-pub overflow_mul-i : goal.overflow_mul-i
-overflow_mul-i c = omega arith
-
-pub gate_at-g-requires : goal.gate_at-g-requires
-gate_at-g-requires c = omega arith
-
-pub returns-then-here : goal.returns-then-here
-returns-then-here c = let a = c.args in
-    let n = gates_said a.ws.now in
-    sym (passed_hit (stands_at a.domain a.address.0) (gates_of a.ws.now).places
-    (get_or a.ws.now 192 0) no_gate (omega arith)
-    c.loop-i.i (omega arith)
-    (ap (stands_at a.domain a.address.0) (gates_at a.ws.now c.loop-i.i (omega arith) ∙ sym
-    c.gate_at-g.ensures) ∙ sym c.stands_at-here.ensures ∙ c.if-here.true) c.loop-i.invariant.1)
-
-pub overflow_add-i : goal.overflow_add-i
-overflow_add-i c = omega arith
-
-pub loop-i-smaller : goal.loop-i-smaller
-loop-i-smaller c = omega arith
-
-pub loop-i-preserved : goal.loop-i-preserved
-loop-i-preserved c = let a = c.args in
-    let n = gates_said a.ws.now in (
-      omega arith,
-      passed_more (stands_at a.domain a.address.0) (gates_of a.ws.now).places
-          (get_or a.ws.now 192 0) no_gate (omega arith)
-          c.loop-i.i (omega arith)
-          (ap (stands_at a.domain a.address.0) (gates_at a.ws.now c.loop-i.i (omega arith) ∙ sym
-          c.gate_at-g.ensures) ∙ sym c.stands_at-here.ensures ∙ c.if-here.false) c.loop-i.invariant.1,
-    )
+-- The first number whose words say a gate that stands there is its place.
+module _ (ws : List ℕ) (d a : ℕ) (few : get_or ws 192 0 ≤ 64) where
+  first : (r : Option ℕ)
+      → MatchOption r ((k : ℕ) → 0 ≤ k → k < get_or ws 192 0 → stands_at d a (gate_at ws (3 * k)) ≡ false)
+      (λ i. (0 ≤ i) × (i < get_or ws 192 0) × (stands_at d a (gate_at ws (3 * i)) ≡ true)
+      × ((k : ℕ) → 0 ≤ k → k < i → stands_at d a (gate_at ws (3 * k)) ≡ false))
+      → MatchOption r (get_or ws 192 0 ≤ place_of (gates_of ws) d a)
+      (λ k. (k ≡ place_of (gates_of ws) d a) × (k < get_or ws 192 0))
+  first None h =
+      let long = gates_said ws in
+      let e = before_none (stands_at d a) no_gate (get_or ws 192 0) (gates_of ws).places (omega arith)
+      (λ k q. ap (stands_at d a) (gates_at ws k (omega arith)) ∙ h k (omega arith) q) in
+      omega arith
+  first (Some i) h =
+      let long = gates_said ws in
+      let e = before_first (stands_at d a) no_gate (get_or ws 192 0) i (gates_of ws).places (omega arith) h.1
+      (ap (stands_at d a) (gates_at ws i (omega arith)) ∙ h.2)
+      (λ k q. ap (stands_at d a) (gates_at ws k (omega arith)) ∙ h.3 k (omega arith) q) in
+      (sym e, h.1)
 
 pub returns : goal.returns
-returns c = let a = c.args in
-    let n = gates_said a.ws.now in
-    let e : c.loop-i.i ≡ get_or a.ws.now 192 0 = omega arith in
-    sym (passed_all (stands_at a.domain a.address.0) (gates_of a.ws.now).places
-    (get_or a.ws.now 192 0) no_gate (omega arith)
-    (rw e at c.loop-i.invariant.1))
+returns c =
+    let a = c.args in
+    first a.gates.now a.domain a.address.0 c.requires c.find.result
+    (first_from_Range _ _ _ c.find.result (λ i. stands_at a.domain a.address.0 (gate_at a.gates.now (3 * i)) ≡ true)
+    (λ i. stands_at a.domain a.address.0 (gate_at a.gates.now (3 * i)) ≡ false) c.find.ensures.ran
+    (λ x q k. search (rules, tests)) (λ x q k. search (rules, tests)))
