@@ -324,8 +324,3 @@ module _ {s : Shape} {d : ℕ} {paint : Paint} {P : ℕ → ℕ} {h : ℕ} {f : 
   given_two g x l y e k z =
       let (free, owner, S, is_free) = kept_free s d paint G.settled h G.height G.kept in
       both_two free owner S is_free e g x k l y z
-
--- The next place is looked for below the last.
-pub taken_low : {f : ℕ → Bool} {c : ℕ} {s : Shape} {h : ℕ} {e g : Edge} {x : ℕ} → c ≤ places s h
-    → TakenIs f c s h e g (Some x) → x ≤ places s h
-taken_low le k = ⊎_elim (λ y. let z = y.2 in omega arith) (λ y. let z = y.next in let b = y.first.high in omega arith) k

@@ -46,8 +46,8 @@ pub struct Ends {
     pub last: Edge,
 }
 
-// All that the stores of a change need to know: what the words of a plan say. The blocks and pages between the two
-// edges are covered whole; those outside stay.
+// All that the stores of a change need to know, for the contracts: what the lent words of a plan say. The blocks and
+// pages between the two edges are covered whole; those outside stay.
 #[derive(Clone, Copy)]
 pub struct Plan {
     pub domain: u32,
@@ -220,6 +220,7 @@ pub fn plan_change(
     plan[1] = paint.lo;
     plan[2] = paint.hi;
     plan[3] = paint.right;
+    // Of the blocks first, then of the pages.
     for height in (0..2).rev() {
         if !plan_ends(pool, shape, owners, height, domain, paint, plan) {
             return false;

@@ -1,10 +1,9 @@
 -- `plan::plan_ends` meets its contract.
-use Prim.Native.Nat.{ℕ, zero, suc, ◌+◌, ◌-◌, ◌/◌, ◌≤◌, ◌<◌}
+use Prim.Native.Nat.{ℕ, suc, ◌+◌, ◌-◌, ◌/◌, ◌<◌}
 use mathlib.Core.Path.{◌≡◌, sym, subst, ap, ◌∙◌}
 use mathlib.Core.Bool.{Bool, true, false}
 use Rattle.std.specs.Prelude.{Option}
 use mathlib.Core.List.{List}
-use native.Mathlib.Omega.{arith}
 use native.Mathlib.Numerals.{add-one}
 use Rattle.theory.specs.Pool.{words, right_of}
 use Rattle.table.specs.declared.Shape.{Shape}
@@ -15,24 +14,14 @@ use Rattle.plan.specs.Planning.{Regular, first_of, last_of}
 use Rattle.targets.specs.declared.Paint.{Paint}
 use Rattle.places.specs.Count.{heights}
 use Rattle.plan.specs.Edges.{edge_at, TakesPlace}
-use Rattle.plan.proofs.MeetLaws.{end_below}
 use Rattle.plan.proofs.DraftLaws.{words_bytes, pool_root, pool_gives}
-use Rattle.plan.proofs.GiveLaws.{taken_low}
-use Rattle.plan.proofs.LayoutLaws.{last_after, first_low}
 use Rattle.plan.proofs.EndsLaws.{one_planned, first_full, two_planned}
 use Rattle.plan.proofs.plan_ends.Goals as goal
-
-some : (h : ℕ) → 0 < block (suc h) / 4
-some zero = omega arith
-some (suc h) = omega arith
 
 -- How many memory words the blocks have.
 module _ (h : ℕ) {m : ℕ} (e : m ≡ block (h + 1) / 4) where
   long : m ≡ block (suc h) / 4
   long = e ∙ ap (λ k. block k / 4) (add-one h)
-
-  few : 0 < m
-  few = let z = some h in let x = long in omega arith
 
   -- The ends of the region, in blocks.
   module _ (p : Paint) (r : Regular p) (b : h < heights) where
@@ -44,12 +33,6 @@ module _ (h : ℕ) {m : ℕ} (e : m ≡ block (h + 1) / 4) where
 
 -- Where the words of the edges begin.
 module _ (h : ℕ) {f l : ℕ} (x : f ≡ edge_word h true) (y : l ≡ edge_word h false) where
-  follows : f + 3 ≡ l
-  follows = let g = last_after h in omega arith
-
-  lies : f ≤ 10
-  lies = let g = (first_low h).1 in omega arith
-
   -- The first edge is stored once more, where the last edge has its words.
   copied : (m : List ℕ) {n : List ℕ} → n ≡ put_edge m l (edge_in m f)
       → n ≡ put_edge m (edge_word h false) (edge_in m (edge_word h true))
@@ -66,30 +49,13 @@ takes_at : {f : ℕ → Bool} {c : ℕ} {z : Shape} {h i j : ℕ} {l m : List �
     → TakesPlace f c z h j l m r
 takes_at {f} {c} {z} {h} {l = l} {m = m} {r = r} x t = subst (λ k. TakesPlace f c z h k l m r) x t
 
-pub draft_edge-requires : goal.draft_edge-requires
-draft_edge-requires c =
-    let a = c.args in
-    let (low, domain, r) = c.requires.height_lt_heights in
-    let z = lies c.args.height c.edge_index-f.ensures c.edge_index-l.ensures in
-    let domains = c.requires.fits.range in
-    let n = end_below a.paint r a.height low true in
-    record {
-      readable_root = pool_root a.shape a.pool.now a.domain c.requires.fits c.requires.settled domain;
-      height_lt_heights = (low, omega arith, rw (begins c.args.height c.block_words-long.ensures a.paint r low) n, r.right, omega arith);
-    }
+pub draft_edge-requires-clause-readable_root : goal.draft_edge-requires-clause-readable_root
+draft_edge-requires-clause-readable_root c = let (_, domain, _) = c.requires.height_lt_heights in
+    pool_root c.args.shape c.args.pool.now c.args.domain c.requires.fits c.requires.settled domain
 
-pub draft_edge-requires-2 : goal.draft_edge-requires-2
-draft_edge-requires-2 c =
-    let a = c.args in
-    let (low, domain, r) = c.requires.height_lt_heights in
-    let y = follows c.args.height c.edge_index-f.ensures c.edge_index-l.ensures in
-    let z = lies c.args.height c.edge_index-f.ensures c.edge_index-l.ensures in
-    let domains = c.requires.fits.range in
-    let n = end_below a.paint r a.height low false in
-    record {
-      readable_root = pool_root a.shape a.pool.now a.domain c.requires.fits c.requires.settled domain;
-      height_lt_heights = (low, omega arith, rw (ends c.args.height c.block_words-long.ensures a.paint r low) n, r.right, omega arith);
-    }
+pub draft_edge-requires-2-clause-readable_root : goal.draft_edge-requires-2-clause-readable_root
+draft_edge-requires-2-clause-readable_root c = let (_, domain, _) = c.requires.height_lt_heights in
+    pool_root c.args.shape c.args.pool.now c.args.domain c.requires.fits c.requires.settled domain
 
 -- Both edges are one.
 pub returns-then-begin-end : goal.returns-then-begin-end
@@ -130,15 +96,6 @@ returns-in_default c =
     a.plan.now c.draft_edge.new.plan c.told-plan (drafted edge a.plan.now f b (c.draft_edge.ensures _ g)) _ _
     (λ z. c.if-begin-end.false (b ∙ z ∙ sym e)) (drafted edge c.draft_edge.new.plan l e (c.draft_edge-2.ensures _ g))
     (takes_at f c.in_default.ensures)
-
-pub take_place-requires-2 : goal.take_place-requires-2
-take_place-requires-2 c =
-    let y = follows c.args.height c.edge_index-f.ensures c.edge_index-l.ensures in
-    let z = lies c.args.height c.edge_index-f.ensures c.edge_index-l.ensures in
-    record {
-      in_range = c.requires.fits.range;
-      from_bound = (taken_low (omega arith) c.in-Some.ensures.taken, omega arith);
-    }
 
 -- The last edge takes its place after the first.
 pub returns : goal.returns
