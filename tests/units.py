@@ -62,10 +62,6 @@ BARE = {
     ("goleuthan", "give_word", "at"): "a word of the results",
     ("lookaside", "slot_at", "at"): "a word of a lent state",
     ("lookaside", "put_slot", "at"): "a word of a lent state",
-    ("gates", "gate_at", "at"): "a word of a lent state",
-    ("gates", "put_gate", "at"): "a word of a lent state",
-    ("gates", "frame_at", "at"): "a word of a lent state",
-    ("gates", "put_frame", "at"): "a word of a lent state",
 }
 
 # Functions whose name says so and that give a bare number: (crate, function) with what it is.
