@@ -3,6 +3,7 @@ import re
 
 CHANGE, TIDYING, AHEAD = (f"crates/change/src/{name}.rt" for name in ("lib", "tidying", "ahead"))
 FACE, TABLE, CENSUS, PLAN = (f"crates/{name}/src/lib.rt" for name in ("goleuthan", "table", "census", "plan"))
+CALLS = "crates/goleuthan/src/calls.rt"
 BUFFER, STEPS = "crates/lookaside/src/lib.rt", "crates/gates/src/steps.rt"
 OWNERS, REGIONS = (f"crates/owners/src/{name}.rt" for name in ("lib", "calls"))
 MAIN, SERVING = (f"crates/rights_listing/src/{name}.rt" for name in ("main", "serving"))
@@ -16,13 +17,14 @@ NEXT = "guide.next_store(pool, shape, from)"
 PUT = "put(pool, shape, domain, paint, at, value);"
 CHANGED = "make_stores(pool, shape, domain, paint, &guide, allowance)"
 TIDIED = "make_stores(pool, shape, 0, UNPAINTED, &guide, allowance)"
-FRESH = "table::fresh(&mut pool, serving::shape());"
-ZEROED = "pool[first_middle.index()..].fill(0);"
+FRESH = "table::fresh(&mut pool, serving::shape())"
+FILL = "pool[first_middle.index()..].fill(0);"
 LOAD = "let got = load(pool, at, loads);"
 WALK = "let by = decide(pool, shape, domain, address)?;"
 WALK_OF_A_CHECK = "let by = table::decide(pool, shape, domain, address)?;"
+TIDY = "change::tidy(pool, read_shape(shape)?, allowance)"
 BY = "change::change(pool, shape, domain, start, length, right, allowance)"
-MET = "let met = list::place_of(ws, asking, region);"
+MET = "if caller != SUPERVISOR || list::place_of(ws, meets)"
 
 
 def before(path, place, what):
@@ -88,16 +90,18 @@ WRONG = [
     ("lends a plan to be altered once more", "held",
      [before(CHANGE, "    let guide = ByPlan", "plan::put_edge(&mut plan, 4, edge);")]),
     ("fills a part of the pool twice", "below",
-     [before(TABLE, ZEROED, ZEROED.replace("0)", "7)"))]),
+     [before(TABLE, FILL, FILL.replace("0", "7"))]),
+    ("turns a part of the pool round where it is made fresh", "below", [before(TABLE, FILL, "pool[..9].reverse();")]),
+    ("turns the pool round in the one store", "handed on", [before(CHANGE, STORE, "pool.reverse(); pool.reverse();")]),
     ("makes a pool fresh in a tidying", "nobody else", [before(TIDYING, TIDIED, "table::fresh(pool, shape);")]),
-    ("stores in the C face", "above", [before(FACE, "let answer = change::tidy(", "pool[0] = 7;")]),
+    ("stores in the C face", "above", [before(CALLS, TIDY, "pool[0] = 7;")]),
     ("tidies twice in the C face", "above",
-     [before(FACE, "let answer = change::tidy(", "change::tidy(pool, shape, 1);")]),
+     [before(CALLS, TIDY, TIDY + ";")]),
     ("lets a lookup for C write the pool", "above",
      [(FACE, "gol_lookup(\n    pool: &[u32]", "gol_lookup(\n    held: &mut [u32]")]),
     ("changes a word of the program's pool", "above", [before(MAIN, FRESH, "pool[0] = 7;")]),
     ("changes a word where lines are answered", "above",
-     [before(SERVING, "let n = reply(pool, said);\n        len", "pool[0] = 7;")]),
+     [before(SERVING, "len = write_number(out, len,", "pool[0] = 7;")]),
 ]
 
 # What a harmless source does, and the edits that make it.
@@ -132,7 +136,7 @@ WRONG += [
      [(STEPS, "fn frames_below(stack: &[u32;", "fn frames_below(stack: &mut [u32;")]),
     ("makes the change of a caller twice", "above", [before(OWNERS, BY, BY + ";")]),
     ("stores in the pool before the list is asked", "above",
-     [before(OWNERS, "let leave = leave_of(", "pool[0] = 7;")]),
+     [before(OWNERS, "    leave_of(\n        fits,", "pool[0] = 7;")]),
     ("knows the allowance of a caller by another name", "the allowance", [before(OWNERS, BY, "let n = allowance;")]),
     ("writes a word of a list and writes it back before a region is made", "states",
      [before(REGIONS, MET, "let was = ws[0]; ws[0] = 7; ws[0] = was;")]),

@@ -102,7 +102,7 @@ owns_disjoint list caller a o r =
 ends_disjoint : {list : List ℕ} {Done : List ℕ → Type 0} {x : Outcome}
     → ((after : List ℕ) → Done after → Disjoint list → Disjoint after)
     → Ends list Done x → Disjoint list → Disjoint x.list
-ends_disjoint f (kept n h) d = d
+ends_disjoint f (kept k) d = d
 ends_disjoint f (done after m) d = f after m d
 
 module _ (D : ℕ) (list : List ℕ) (caller other start len : ℕ) (disjoint : Disjoint list) where

@@ -7,7 +7,7 @@ use native.Mathlib.Omega.{arith}
 use native.Mathlib.Decide.{dec_lt, ℕ_discrete}
 use Rattle.theory.proofs.Logic.{by_cases}
 use Rattle.owners.specs.declared.Owned.{Owned}
-use Rattle.std.proofs.Common.{Some, None}
+use Rattle.std.proofs.Common.{Some, None, unwrap_or}
 use borrow.Author.Tests.{lt-ltb, le-ltb, ltb-true, ltb-false}
 use lib.Dec.{ltb}
 use Rattle.words.specs.declared.Region.{Region}
@@ -96,6 +96,12 @@ module _ (list : List ℕ) (t : Owned → Bool) where
       (λ z. let s : Some (place_of list t) ≡ None = rw z at e in cc)
       (λ z. ltb-false _ _ z)
 
+  -- It finds the number that a search with a count for none finds.
+  pub found_place : unwrap_or (found list t) (count_of list) ≡ place_of list t
+  found_place = by_cases (ltb (place_of list t) (count_of list))
+      (λ z. rw z)
+      (λ z. rw z (let b = ltb-false _ _ z in let m = place_most in omega arith))
+
 -- A region of the caller's own: it is held, and the caller owns it.
 module _ (list : List ℕ) (caller : ℕ) (a : Region) where
   pub own_some : {k : ℕ} → found_own list caller a ≡ Some k
@@ -109,3 +115,8 @@ module _ (list : List ℕ) (caller : ℕ) (a : Region) where
   own_none e = by_cases (owned_at list caller (place_of list (same_words a)))
       (λ z. let s : Some (place_of list (same_words a)) ≡ None = rw z at e in cc)
       (λ z. z)
+
+-- What the search goes by; and what the calls go by that it serves.
+pub ruleset searching = (found_is, found_not)
+
+pub ruleset searched = (found_some, found_none, own_some, own_none)

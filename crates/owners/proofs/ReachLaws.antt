@@ -8,10 +8,11 @@ use native.Mathlib.Omega.{arith}
 use native.Mathlib.Decide.{ℕ_discrete}
 use borrow.Author.Tests.{ltb-true, leb-true, lt-ltb, le-leb, lt-leb}
 use Rattle.theory.proofs.Logic.{by_cases, and_both}
+use Rattle.std.proofs.Common.{Some, None}
 use Rattle.owners.specs.declared.Owned.{Owned}
-use Rattle.owners.specs.Regions.{region_at, count_of, holds, place_of}
-use Rattle.owners.specs.Reach.{Reaches}
-use Rattle.owners.proofs.PlaceLaws.{place_is}
+use Rattle.owners.specs.Regions.{region_at, count_of, holds}
+use Rattle.owners.specs.Reach.{found, Reaches}
+use Rattle.owners.proofs.PlaceLaws.{found_is, found_not}
 
 -- A word is held or it is not.
 pub held_word : (r : Owned) (w : ℕ) → holds w r ≡ true → (r.lo ≤ w) × (w < r.hi)
@@ -51,22 +52,24 @@ free_above list w until i h =
     one_more list w until until i (omega arith)
     (λ v g b. not_held r v (λ e. let k = (held_word r v e).1 in omega arith))
 
+-- What the reach of a verdict goes by.
+pub ruleset reaching = (free_below, free_above)
+
 -- The region that holds `w` holds the stretch up to its own end.
 pub reach_hit : (list : List ℕ) (w until i : ℕ) → i < count_of list → w < until → (region_at list i).lo ≤ w
     → w < (region_at list i).hi → Free list w until i
-    → Reaches list w (record { place = i; until = min until (region_at list i).hi })
+    → Reaches list w (record { place = Some i; until = min until (region_at list i).hi })
 reach_hit list w until i few h from to f =
     let r = region_at list i in
-    let last = min until r.hi in
-    let same : (v : ℕ) → w ≤ v → v < last → place_of list (holds v) ≡ i = λ v g b.
-    place_is list (holds v) i (omega arith) (λ j l. f j v l g (omega arith))
-    (λ l. word_held r v (omega arith) (omega arith)) in
+    let same : (v : ℕ) → w ≤ v → v < min until r.hi → found list (holds v) ≡ Some i = λ v g b.
+    sym (found_is list (holds v) i few (λ j l. f j v l g (omega arith))
+    (word_held r v (omega arith) (omega arith))) in
     record { place = sym (same w (omega arith) (omega arith)); further = omega arith; same = same }
 
 -- Where none holds `w`, none holds the stretch.
-pub reach_none : (list : List ℕ) (w until i : ℕ) → i ≡ count_of list → w < until → Free list w until i
-    → Reaches list w (record { place = i; until = until })
-reach_none list w until i all h f =
-    let same : (v : ℕ) → w ≤ v → v < until → place_of list (holds v) ≡ i = λ v g b.
-    place_is list (holds v) i (omega arith) (λ j l. f j v l g b) (λ l. absurd (omega arith)) in
+pub reach_none : (list : List ℕ) (w until : ℕ) → w < until → Free list w until (count_of list)
+    → Reaches list w (record { place = None; until = until })
+reach_none list w until h f =
+    let same : (v : ℕ) → w ≤ v → v < until → found list (holds v) ≡ None = λ v g b.
+    sym (found_not list (holds v) (λ j l. f j v l g b)) in
     record { place = sym (same w (omega arith) h); further = h; same = same }

@@ -6,9 +6,10 @@ ghost use Rattle.owners.specs.Calls.{outcome, asked_of, make_of, pass_of, give_o
 ghost use Rattle.owners.specs.Changes.{ChangesBy};
 ghost use Rattle.owners.specs.Reach.{LeaveIs};
 
-use change::Answer;
+use change::Ending;
+use refusals::Refusal;
 use table::Shape;
-use words::{ByteAddr, Rounded};
+use words::ByteAddr;
 
 mod calls; // calls.rt: what the calls do once they are in order
 mod exports; // exports.rt: an export given inside a region's words
@@ -41,16 +42,16 @@ pub struct Owned {
     pub rights: u32,
 }
 
-// The number of the region that a memory word lies in (the count for none), and the first word for which that is not
+// The number of the region that a memory word lies in, if it lies in one, and the first word for which that is not
 // known.
 #[derive(Clone, Copy)]
 pub struct Reach {
-    pub place: usize,
+    pub place: Option<usize>,
     pub until: u32,
 }
 
 // A region more, of words that lie in none: domain 0 makes it.
-#[tactic(auto, using(crate::proofs::CallLaws::asked_counted, crate::proofs::CallLaws::asked_export))]
+#[tactic(auto, using(crate::proofs::CallLaws::asking))]
 pub fn make_region(
     domains: u32,
     regions: &mut [u32],
@@ -58,19 +59,17 @@ pub fn make_region(
     owner: u32,
     start: ByteAddr,
     length: u32,
-) -> u32
+) -> Result<(), Refusal>
     ensures { outcome result regions.new ≡ make_of domains regions.old caller owner start.0
         length }
 {
     let fits = calls::in_range(domains);
-    match calls::ask(fits, regions, domains, caller, owner, 0, start, length) {
-        Rounded::Refused(n) => n,
-        Rounded::Covers(region) => calls::make(regions, caller, owner, region),
-    }
+    let region = calls::ask(fits, regions, domains, caller, owner, 0, start, length)?;
+    calls::make(regions, caller, owner, region)
 }
 
 // A whole region passed on by its owner, which ends its exports.
-#[tactic(auto, using(crate::proofs::CallLaws::asked_counted, crate::proofs::CallLaws::asked_export))]
+#[tactic(auto, using(crate::proofs::CallLaws::asking))]
 pub fn pass_region(
     domains: u32,
     regions: &mut [u32],
@@ -78,19 +77,17 @@ pub fn pass_region(
     owner: u32,
     start: ByteAddr,
     length: u32,
-) -> u32
+) -> Result<(), Refusal>
     ensures { outcome result regions.new ≡ pass_of domains regions.old caller owner start.0
         length }
 {
     let fits = calls::in_range(domains);
-    match calls::ask(fits, regions, domains, caller, owner, 0, start, length) {
-        Rounded::Refused(n) => n,
-        Rounded::Covers(region) => calls::pass(regions, caller, owner, region),
-    }
+    let region = calls::ask(fits, regions, domains, caller, owner, 0, start, length)?;
+    calls::pass(regions, caller, owner, region)
 }
 
 // An export of a right on a whole region, given by its owner to another domain.
-#[tactic(auto, using(crate::proofs::CallLaws::asked_counted, crate::proofs::CallLaws::asked_export))]
+#[tactic(auto, using(crate::proofs::CallLaws::asking))]
 pub fn give_export(
     domains: u32,
     regions: &mut [u32],
@@ -99,17 +96,15 @@ pub fn give_export(
     right: u32,
     start: ByteAddr,
     length: u32,
-) -> u32
+) -> Result<(), Refusal>
     ensures { outcome result regions.new ≡ give_of domains regions.old caller receiver right
         start.0 length }
 {
     let fits = calls::in_range(domains);
-    match calls::ask(
+    let region = calls::ask(
         fits, regions, domains, caller, receiver, right, start, length,
-    ) {
-        Rounded::Refused(n) => n,
-        Rounded::Covers(region) => calls::give(regions, caller, receiver, right, region),
-    }
+    )?;
+    calls::give(regions, caller, receiver, right, region)
 }
 
 // Whether a caller may ask for a change: its region is in order and every word that it covers allows it. What this
@@ -123,19 +118,15 @@ fn leave_of(
     right: u32,
     start: ByteAddr,
     length: u32,
-) -> Result<(), u32>
+) -> Result<(), Refusal>
     ensures { LeaveIs regions.now caller domain right
         (asked_of fits regions.now domains caller domain right start.0 length) result }
 {
-    match calls::ask(fits, regions, domains, caller, domain, right, start, length) {
-        Rounded::Refused(k) => Err(k),
-        Rounded::Covers(region) => {
-            if rules::allowed(regions, caller, domain, right, region) {
-                Ok(())
-            } else {
-                Err(19)
-            }
-        }
+    let region = calls::ask(fits, regions, domains, caller, domain, right, start, length)?;
+    if rules::allowed(regions, caller, domain, right, region) {
+        Ok(())
+    } else {
+        Err(Refusal::NotAllowed)
     }
 }
 
@@ -150,12 +141,12 @@ pub fn change_by(
     length: u32,
     right: u32,
     allowance: u32,
-) -> Answer
+) -> Result<Ending, Refusal>
     ensures { ChangesBy pool.old shape regions.now caller domain start.0 length right
         allowance result pool.new }
 {
     let fits = table::shape_fits(shape, pool.len());
-    match leave_of(
+    leave_of(
         fits,
         regions,
         shape.domains,
@@ -164,8 +155,6 @@ pub fn change_by(
         right,
         start,
         length,
-    ) {
-        Err(k) => Answer::Refused(k),
-        Ok(()) => change::change(pool, shape, domain, start, length, right, allowance),
-    }
+    )?;
+    change::change(pool, shape, domain, start, length, right, allowance)
 }

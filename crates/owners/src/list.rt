@@ -47,7 +47,7 @@ pub(crate) fn put_region(ws: &mut [u32], i: usize, r: Owned)
 }
 
 // The number of the first region held that passes the test. The earlier of two counts because the search goes up.
-#[tactic(auto, using(crate::proofs::PlaceLaws::found_is, crate::proofs::PlaceLaws::found_not))]
+#[tactic(auto, using(crate::proofs::PlaceLaws::searching))]
 pub(crate) fn place_of<F: Fn(Owned) -> bool>(ws: &[u32], passes: F) -> Option<usize>
     ghost test: { AnOwned → Bool }
     requires counted { Counted ws.now }

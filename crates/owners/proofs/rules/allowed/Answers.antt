@@ -3,6 +3,9 @@ use Prim.Native.Nat.{ℕ, ◌≤◌, ◌<◌}
 use mathlib.Core.Bool.{Bool}
 use mathlib.Core.Path.{◌≡◌, refl, sym, ap, ◌∙◌}
 use native.Mathlib.Omega.{arith}
+use Rattle.std.proofs.Common.{unwrap_or}
+use Rattle.owners.specs.Regions.{count_of, holds}
+use Rattle.owners.proofs.PlaceLaws.{found_place}
 use Rattle.owners.specs.Rules.{may_at, may_word}
 use Rattle.owners.proofs.RuleLaws.{every_fails, every_reach, every_none}
 use Rattle.owners.proofs.rules.allowed.Goals as goal
@@ -19,7 +22,8 @@ module _ (c : After-may_at) where
       → asked v ≡ c.may_at.result
   same v g h =
       let a = c.args in
-      ap (λ k. may_at a.ws.now k a.caller a.domain a.right) (c.reach_from-r.ensures.same v g h)
+      ap (λ k. may_at a.ws.now k a.caller a.domain a.right)
+      (sym (found_place a.ws.now (holds v)) ∙ ap (λ x. unwrap_or x (count_of a.ws.now)) (c.reach_from-r.ensures.same v g h))
       ∙ sym c.may_at.ensures
 
 pub loop-w-init : goal.loop-w-init

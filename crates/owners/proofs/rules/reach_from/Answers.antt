@@ -12,5 +12,5 @@ returns-then-w-r-2 c = let a = c.args in
     (omega (arith, lo)) (omega (arith, hi)) c.loop-i.invariant.1)
 
 pub returns : goal.returns
-returns c = reach_none _ c.args.w c.loop-i.until _ (omega arith) c.loop-i.invariant.0
+returns c = reach_none _ c.args.w c.loop-i.until c.loop-i.invariant.0
     (λ j v h. c.loop-i.invariant.1 j v (omega arith))
