@@ -60,7 +60,7 @@ refused address_for_word 'words::PoolWord::index(words::ByteAddr::from(7))' \
 refused word_for_address 'u32::from(words::PoolWord::from(7)) as usize' \
     'unsatisfied-bound]: the trait bound `u32: From<PoolWord>` is not satisfied'
 refused word_beside_address '(words::PoolWord::from(7) == words::ByteAddr::from(7)) as usize' \
-    'mismatched-types]: expected `PoolWord`, found `ByteAddr`'
+    'mismatched-types]: `==` cannot compare `PoolWord` with `ByteAddr`'
 
 # The text of the sources, and of wrong copies of them.
 if counts=$(python3 "$root/tests/units.py"); then

@@ -8,12 +8,10 @@ use mathlib.Core.List.{List, [], ◌∷◌, ◌++◌, append_assoc, append-nil}
 use lib.Dec.{eqb}
 use lib.ListN.{length, drop, length-drop}
 use borrow.Author.Tests.{ne_eqb, lt-leb, le-ltb}
-use Rattle.lines.specs.declared.Parsed.{Parsed}
-use Rattle.lines.specs.declared.Parsed.TheVariants.{NotOfForm}
-use Rattle.lines.specs.declared.Found.TheVariants.{Line, Nothing}
+use Rattle.std.proofs.Common.{Some, None}
 use Rattle.lines.specs.declared.LineSoFar.{LineSoFar}
 use Rattle.lines.specs.declared.Fed.{Fed}
-use Rattle.lines.specs.Forms.{parse_of}
+use Rattle.lines.specs.Forms.{Said, no_form, parse_of}
 use Rattle.lines.specs.Feeds.{blank_line, pushed, said_of, feed_of}
 use Rattle.lines.proofs.CutLaws.{NoMark}
 use Rattle.lines.proofs.HeldLaws.{Held, held_push, held_said}
@@ -21,7 +19,7 @@ use Rattle.lines.proofs.HeldLaws.{Held, held_push, held_said}
 -- Up to a newline: the whole line, of which ds came in earlier chunks, and the place behind the newline.
 pub feed_finds : (ds p rest : List ℕ) (i : ℕ) (t : LineSoFar) → NoMark 10 p → Held ds t
     → feed_of i t (p ++ (10 ∷ rest)) ≡ record {
-      found = Line (parse_of (ds ++ p));
+      found = Some (parse_of (ds ++ p));
       next = i + length p + 1;
       line =
           blank_line;
@@ -35,7 +33,7 @@ feed_finds ds (b ∷ p) rest i t m h =
 
 -- With no newline: nothing yet, and the line so far holds what came.
 pub record Spent (ds p : List ℕ) (i : ℕ) (x : Fed) : Type 0 where
-  pub found : x.found ≡ Nothing
+  pub found : x.found ≡ None
   pub next : x.next ≡ i + length p
   pub held : Held (ds ++ p) x.line
 
@@ -52,30 +50,30 @@ feed_spends ds (b ∷ p) i t m h =
     })
 
 -- A call that finds a line goes on in the chunk, which bounds how often it can be called there.
-moves : (bs : List ℕ) (i : ℕ) (t : LineSoFar) {p : Parsed} → (feed_of i t bs).found ≡ Line p → (i < (feed_of i t bs).next)
+moves : (bs : List ℕ) (i : ℕ) (t : LineSoFar) {p : Said} → (feed_of i t bs).found ≡ Some p → (i < (feed_of i t bs).next)
     × ((feed_of i t bs).next ≤ i + length bs)
 unfolding feed_of
 moves [] i t f = let z : ◌≡◌ {A = ℕ} 0 1 = cc in absurd (omega arith)
 moves (b ∷ bs) i t {p} f = go (λ g. moves bs (i + 1) (pushed t b) g) (eqb b 10) f
   where
     step : Bool → Fed
-    step q = cond q (record { found = Line (said_of t); next = i + 1; line = blank_line })
+    step q = cond q (record { found = Some (said_of t); next = i + 1; line = blank_line })
         (feed_of (i + 1) (pushed t b) bs)
 
-    go : ((feed_of (i + 1) (pushed t b) bs).found ≡ Line p → (i + 1 < (feed_of (i + 1) (pushed t b) bs).next)
+    go : ((feed_of (i + 1) (pushed t b) bs).found ≡ Some p → (i + 1 < (feed_of (i + 1) (pushed t b) bs).next)
         × ((feed_of (i + 1) (pushed t b) bs).next ≤ i + 1 + length bs))
-        → (q : Bool) → (step q).found ≡ Line p → (i < (step q).next) × ((step q).next ≤ i + length (b ∷ bs))
+        → (q : Bool) → (step q).found ≡ Some p → (i < (step q).next) × ((step q).next ≤ i + length (b ∷ bs))
     go ih true g = (omega arith, omega arith)
     go ih false g = (omega (arith, (ih g).0), omega (arith, (ih g).1))
 
-pub feed_moves : (c : List ℕ) (at : ℕ) (t : LineSoFar) {p : Parsed} → (feed_of at t (drop at c)).found ≡ Line p
+pub feed_moves : (c : List ℕ) (at : ℕ) (t : LineSoFar) {p : Said} → (feed_of at t (drop at c)).found ≡ Some p
     → (at < (feed_of at t (drop at c)).next) × ((feed_of at t (drop at c)).next ≤ length c)
 feed_moves c at t f =
     let m = moves (drop at c) at t f in
     (m.0, omega (arith, m.0, m.1, length-drop at c))
 
 -- A length above 60 is too long, and stays so.
-pub over_said : (t : LineSoFar) → 60 < t.len → said_of t ≡ NotOfForm
+pub over_said : (t : LineSoFar) → 60 < t.len → said_of t ≡ no_form
 unfolding said_of
 over_said t h = rw (lt-leb _ _ h)
 

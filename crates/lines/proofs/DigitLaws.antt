@@ -1,11 +1,11 @@
 -- Digits, their tests and the number that they write.
-use Prim.Native.Nat.{ℕ, ◌+◌, ◌*◌, ◌-◌, ◌<◌, ◌≤◌}
+use Prim.Native.Nat.{ℕ, ◌+◌, ◌*◌, ◌-◌, ◌≤◌}
 use native.Mathlib.Omega.{arith}
 use mathlib.Core.Bool.{Bool, true, false, ◌&&◌}
 use mathlib.Core.Path.{◌≡◌, refl}
 use mathlib.Core.List.{List, [], ◌∷◌}
 use lib.Dec.{leb}
-use borrow.Author.Tests.{leb-true, le-leb, lt-leb}
+use borrow.Author.Tests.{leb-true, le-leb}
 use Rattle.lines.specs.Forms.{Digits, value_on, value_of, Number, is_digit, all_digits, is_number}
 
 -- ---- Tests joined by `&&`
@@ -26,14 +26,6 @@ false_true e f = let z : ◌≡◌ {A = ℕ} 0 1 = cc in omega arith
 
 -- ---- A digit
 
-pub digit_below : (b : ℕ) → b < 48 → is_digit b ≡ false
-unfolding is_digit
-digit_below b h = rw (lt-leb 48 b h)
-
-pub digit_above : (b : ℕ) → 48 ≤ b → is_digit b ≡ leb b 57
-unfolding is_digit
-digit_above b h = rw (le-leb 48 b h)
-
 pub digit_bounds : (b : ℕ) → is_digit b ≡ true → (48 ≤ b) × (b ≤ 57)
 unfolding is_digit
 digit_bounds b e = (leb-true 48 b (and_left (leb 48 b) (leb b 57) e), leb-true b 57 (and_right (leb 48 b) (leb b 57) e))
@@ -41,9 +33,6 @@ digit_bounds b e = (leb-true 48 b (and_left (leb 48 b) (leb b 57) e), leb-true b
 pub bounds_digit : (b : ℕ) → 48 ≤ b → b ≤ 57 → is_digit b ≡ true
 unfolding is_digit
 bounds_digit b p q = and_true (le-leb 48 b p) (le-leb b 57 q)
-
-pub digit_not_space : (b : ℕ) → is_digit b ≡ true → b ≡ 32 → ⊥
-digit_not_space b e s = let d = digit_bounds b e in omega arith
 
 -- ---- A number
 

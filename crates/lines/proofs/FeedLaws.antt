@@ -8,13 +8,11 @@ use lib.Dec.{eqb}
 use lib.ListN.{length, drop, length-drop}
 use lib.Seq.{drop-drop}
 use borrow.Author.Tests.{eqb-true, eqb-false}
-use Rattle.lines.specs.declared.Parsed.{Parsed}
-use Rattle.lines.specs.declared.Found.{Found}
-use Rattle.lines.specs.declared.Found.TheVariants.{Line, Nothing}
+use Rattle.std.proofs.Common.{Option, Some, None}
 use Rattle.lines.specs.declared.LineSoFar.{LineSoFar}
 use Rattle.lines.specs.declared.Fed.{Fed}
 use Rattle.lines.specs.Cuts.{cut_at, lines_of}
-use Rattle.lines.specs.Forms.{parse_of}
+use Rattle.lines.specs.Forms.{Said, parse_of}
 use Rattle.lines.specs.Feeds.{blank_line, pushed, said_of, feed_of, last_of, Feeding}
 use Rattle.lines.specs.Feeds.Feeding.{found, spent, last, ended}
 use Rattle.lines.proofs.CutLaws.{NoMark, no_mark_append, cut_piece, cut_open}
@@ -22,12 +20,12 @@ use Rattle.lines.proofs.HeldLaws.{Held, held_blank, held_push, held_said, held_n
 use Rattle.lines.proofs.CallLaws.{feed_moves}
 
 -- The answers at the end of an input: one or none.
-unfoldable told_last : Found → List Parsed
-told_last (Line p) = p ∷ []
-told_last Nothing = []
+unfoldable told_last : Option Said → List Said
+told_last (Some p) = p ∷ []
+told_last None = []
 
 -- The answers to all that is left of an input, byte by byte.
-unfoldable told : LineSoFar → List ℕ → List Parsed
+unfoldable told : LineSoFar → List ℕ → List Said
 told t [] = told_last (last_of t)
 told t (b ∷ bs) = cond (eqb b 10) (said_of t ∷ told blank_line bs) (told (pushed t b) bs)
 
@@ -55,12 +53,12 @@ drop_tail : (i : ℕ) (c : List ℕ) {b : ℕ} {bs : List ℕ} → drop i c ≡ 
 drop_tail i c e = sym (drop-drop 1 i c) ∙ ap (drop 1) e
 
 -- What goes on from a line that was found, and from none.
-unfoldable on_found : Found → List Parsed → List Parsed → List Parsed
-on_found (Line p) more none = p ∷ more
-on_found Nothing more none = none
+unfoldable on_found : Option Said → List Said → List Said → List Said
+on_found (Some p) more none = p ∷ more
+on_found None more none = none
 
 -- The answers from a call's own on: behind the line that it found, or behind the chunk.
-unfoldable answers_from : List ℕ → List ℕ → Fed → List Parsed
+unfoldable answers_from : List ℕ → List ℕ → Fed → List Said
 answers_from c rest x = on_found x.found (told x.line (drop x.next c ++ rest)) (told x.line rest)
 
 call_told : (c rest bs : List ℕ) (i : ℕ) (t : LineSoFar) → drop i c ≡ bs → told t (bs ++ rest)
@@ -71,7 +69,7 @@ call_told c rest (b ∷ bs) i t e = go (call_told c rest bs (i + 1) (pushed t b)
   where
     go : told (pushed t b) (bs ++ rest) ≡ answers_from c rest (feed_of (i + 1) (pushed t b) bs) → (q : Bool)
         → cond q (said_of t ∷ told blank_line (bs ++ rest)) (told (pushed t b) (bs ++ rest))
-        ≡ answers_from c rest (cond q (record { found = Line (said_of t); next = i + 1; line = blank_line })
+        ≡ answers_from c rest (cond q (record { found = Some (said_of t); next = i + 1; line = blank_line })
         (feed_of (i + 1) (pushed t b) bs))
     go ih true = rw (drop_tail i c e)
     go ih false = ih
@@ -86,11 +84,11 @@ unfolding left_of flatten
 left_next [] = refl
 left_next (c ∷ cs) = refl
 
-feeding_told : {cs : List (List ℕ)} {at : ℕ} {t : LineSoFar} {ps : List Parsed} → Feeding cs at t ps → ps
+feeding_told : {cs : List (List ℕ)} {at : ℕ} {t : LineSoFar} {ps : List Said} → Feeding cs at t ps → ps
     ≡ told t (left_of cs at)
 unfolding left_of told told_last answers_from on_found
 feeding_told (found {c = c} {cs = cs} {at = at} {t = t} {p = p} f g) =
-    ap (λ (x : List Parsed). p ∷ x) (feeding_told g)
+    ap (λ (x : List Said). p ∷ x) (feeding_told g)
     ∙ (sym (ap (answers_from c (flatten cs)) f) ∙ sym (call_told c (flatten cs) (drop at c) at t refl))
 feeding_told (spent {c = c} {cs = cs} {at = at} {t = t} {u = u} f g) =
     (feeding_told g ∙ ap (told u) (left_next cs))
@@ -99,7 +97,7 @@ feeding_told (last e) = rw e
 feeding_told (ended e) = rw e
 
 -- The answers that a caller gets are those of the input's lines, however it is cut into chunks.
-pub feeding_lines : {chunks : List (List ℕ)} {ps : List Parsed} → Feeding chunks 0 blank_line ps → ps
+pub feeding_lines : {chunks : List (List ℕ)} {ps : List Said} → Feeding chunks 0 blank_line ps → ps
     ≡ map parse_of (lines_of (flatten chunks))
 unfolding NoMark
 feeding_lines {chunks} g =
@@ -117,14 +115,14 @@ feed_chunk (suc k) c cs others at t h = go (λ n u g. feed_chunk k c cs others n
     x : Fed
     x = feed_of at t (drop at c)
 
-    with_found : Found → Fed
+    with_found : Option Said → Fed
     with_found f = record { found = f; next = x.next; line = x.line }
 
-    answers : {f : Found} → x.found ≡ f → answers_from c (flatten cs) (with_found f) ≡ told t (drop at c ++ flatten cs)
+    answers : {f : Option Said} → x.found ≡ f → answers_from c (flatten cs) (with_found f) ≡ told t (drop at c ++ flatten cs)
     answers e = sym (call_told c (flatten cs) (drop at c) at t refl
-        ∙ ap (λ (f : Found). answers_from c (flatten cs) (with_found f)) e)
+        ∙ ap (λ (f : Option Said). answers_from c (flatten cs) (with_found f)) e)
 
-    nearer : (p : Parsed) → x.found ≡ Line p → length (drop x.next c) < k
+    nearer : (p : Said) → x.found ≡ Some p → length (drop x.next c) < k
     nearer p e = omega (
       arith,
       (feed_moves c at t e).0,
@@ -135,20 +133,20 @@ feed_chunk (suc k) c cs others at t h = go (λ n u g. feed_chunk k c cs others n
     )
 
     go : ((n : ℕ) (u : LineSoFar) → length (drop n c) < k → Feeding (c ∷ cs) n u (told u (drop n c ++ flatten cs)))
-        → (f : Found) → x.found ≡ f → Feeding (c ∷ cs) at t (told t (drop at c ++ flatten cs))
-    go ih (Line p) e =
-        subst (λ (ps : List Parsed). Feeding (c ∷ cs) at t ps) (answers e)
+        → (f : Option Said) → x.found ≡ f → Feeding (c ∷ cs) at t (told t (drop at c ++ flatten cs))
+    go ih (Some p) e =
+        subst (λ (ps : List Said). Feeding (c ∷ cs) at t ps) (answers e)
         (found (ap with_found e) (ih x.next x.line (nearer p e)))
-    go ih Nothing e = subst (λ (ps : List Parsed). Feeding (c ∷ cs) at t ps) (answers e)
+    go ih None e = subst (λ (ps : List Said). Feeding (c ∷ cs) at t ps) (answers e)
         (spent (ap with_found e) (others x.line))
 
 feed_chunks : (cs : List (List ℕ)) (t : LineSoFar) → Feeding cs 0 t (told t (flatten cs))
 unfolding told told_last flatten
 feed_chunks [] t = go (last_of t) refl
   where
-    go : (f : Found) → last_of t ≡ f → Feeding [] 0 t (told_last (last_of t))
-    go (Line p) e = rw e (last e)
-    go Nothing e = rw e (ended e)
+    go : (f : Option Said) → last_of t ≡ f → Feeding [] 0 t (told_last (last_of t))
+    go (Some p) e = rw e (last e)
+    go None e = rw e (ended e)
 feed_chunks (c ∷ cs) t = feed_chunk (suc (length c)) c cs (feed_chunks cs) 0 t (omega arith)
 
 -- There is such a run of calls for every input and every way to cut it.

@@ -1,22 +1,21 @@
 -- A line says a request exactly where it has the form, and then one request only.
 use Prim.Native.Nat.{ℕ}
 use native.Mathlib.Omega.{arith}
-use mathlib.Core.Bool.{Bool, true, false, cond}
+use mathlib.Core.Bool.{Bool, true, false, cond, ◌&&◌}
 use mathlib.Core.Logic.{◌↔◌}
 use mathlib.Core.Path.{◌≡◌, refl, sym, ap, ◌∙◌, subst}
 use mathlib.Core.List.{List, [], ◌∷◌, ◌++◌}
 use lib.Dec.{leb}
 use lib.ListN.{length}
-use borrow.Author.Tests.{le-leb, leb-true}
-use Rattle.lines.specs.declared.Parsed.{Parsed}
-use Rattle.lines.specs.declared.Parsed.TheVariants.{Request, NotOfForm}
+use borrow.Author.Tests.{le-leb, leb-true, eqb-true, ne_eqb}
+use Rattle.std.proofs.Common.{Ok, Err}
+use Rattle.std.specs.List.{join_with_byte}
+use Rattle.lines.specs.declared.Request.{Request}
 use Rattle.lines.specs.Cuts.{onto, cut_at, words_of}
-use Rattle.lines.specs.Forms.{Digits, value_of, Number, OfForm, is_number, is_s, all_numbers, is_request, request_of}
+use Rattle.lines.specs.Forms.{Said, asks, no_form, Digits, value_of, Number, OfForm, is_s, all_numbers, is_request, request_of}
 use Rattle.lines.specs.Forms.{parse_of, numbers_of}
-use Rattle.lines.specs.Inner.{number_then, no_more, numbers_then, four_numbers}
-use Rattle.lines.proofs.DigitLaws.{number_is, is_number_lem}
-use Rattle.lines.proofs.ChainLaws.{s_then, s_word, parse_chain}
-use Rattle.lines.proofs.CutLaws.{NoMark, cut_piece, cut_last, joined, words_joined}
+use Rattle.lines.proofs.DigitLaws.{and_left, and_right, false_true, number_is, is_number_lem}
+use Rattle.lines.proofs.CutLaws.{NoMark, cut_piece, cut_last, words_joined}
 
 -- ---- A line of the form is read
 
@@ -39,7 +38,7 @@ form_words f =
       cut_last 32 f.right (digits_no_space f.right f.right_is.digits),
     )
 
-pub form_parses : {line : List ℕ} {d s l r : ℕ} → OfForm line d s l r → parse_of line ≡ Request d s l r
+pub form_parses : {line : List ℕ} {d s l r : ℕ} → OfForm line d s l r → parse_of line ≡ asks d s l r
 unfolding parse_of is_request is_s all_numbers request_of
 form_parses {line} {d} {s} {l} {r} f =
     rw (
@@ -57,102 +56,122 @@ form_parses {line} {d} {s} {l} {r} f =
 
 -- ---- A line that is read has the form
 
-not_request : {d s l r : ℕ} → NotOfForm ≡ Request d s l r → ⊥
+-- What is asked for tells the four numbers.
+asked_same : {x y : Request} → ◌≡◌ {A = Said} (Ok x) (Ok y)
+    → (x.domain ≡ y.domain) × (x.start ≡ y.start) × (x.length ≡ y.length) × (x.right ≡ y.right)
+asked_same {x} {y} e =
+    let f : x ≡ y = cc in
+    (ap (λ z. z.domain) f, ap (λ z. z.start) f, ap (λ z. z.length) f, ap (λ z. z.right) f)
+
+not_request : {d s l r : ℕ} → no_form ≡ asks d s l r → ⊥
 not_request e = let z : ◌≡◌ {A = ℕ} 0 1 = cc in omega arith
 
 -- A test that let a request through.
-cond_request : (t : Bool) (said : Parsed) {d s l r : ℕ} → cond t said NotOfForm ≡ Request d s l r → (t ≡ true)
-    × (said ≡ Request d s l r)
+cond_request : (t : Bool) (said : Said) {d s l r : ℕ} → cond t said no_form ≡ asks d s l r → (t ≡ true)
+    × (said ≡ asks d s l r)
 cond_request true said e = (refl, e)
 cond_request false said e = absurd (not_request e)
 
--- A number that was read on from.
-record Read (ws : List (List ℕ)) (next : ℕ → List (List ℕ) → Parsed) (said : Parsed) : Type 0 where
-  word : List ℕ
-  rest : List (List ℕ)
-  split : ws ≡ word ∷ rest
-  number : Number word (value_of word)
-  went : next (value_of word) rest ≡ said
+s_word : (w : List ℕ) → is_s w ≡ true → w ≡ 83 ∷ []
+unfolding is_s
+s_word [] e = absurd (false_true refl e)
+s_word (b ∷ []) e = ap (λ (x : ℕ). x ∷ []) (eqb-true b 83 e)
+s_word (b ∷ c ∷ w) e = absurd (false_true
+    (ne_eqb (length (b ∷ c ∷ w)) 1 (λ z. omega arith)) (and_left _ _ e))
 
-then_reads : (ws : List (List ℕ)) (next : ℕ → List (List ℕ) → Parsed) {d s l r : ℕ} → number_then ws next
-    ≡ Request d s l r → Read ws next (Request d s l r)
-unfolding number_then
-then_reads [] next e = absurd (not_request e)
-then_reads (w ∷ ws) next e =
-    let g = cond_request (is_number w) (next (value_of w) ws) e in
-    record { word = w; rest = ws; split = refl; number = is_number_lem w g.0; went = g.1 }
+-- Words that ask are five, `S` and four numbers.
+record Five (ws : List (List ℕ)) : Type 0 where
+  domain : List ℕ
+  start : List ℕ
+  extent : List ℕ
+  right : List ℕ
+  words : ws ≡ (83 ∷ []) ∷ domain ∷ start ∷ extent ∷ right ∷ []
+  domain_is : Number domain (value_of domain)
+  start_is : Number start (value_of start)
+  length_is : Number extent (value_of extent)
+  right_is : Number right (value_of right)
 
-more_ends : (ws : List (List ℕ)) (said : Parsed) {d s l r : ℕ} → no_more ws said ≡ Request d s l r → (ws ≡ [])
-    × (said ≡ Request d s l r)
-unfolding no_more
-more_ends [] said e = (refl, e)
-more_ends (w ∷ ws) said e = absurd (not_request e)
-
-s_reads : (ws : List (List ℕ)) {d s l r : ℕ} → s_then ws ≡ Request d s l r → (rest : List (List ℕ))
-    × (ws ≡ (83 ∷ []) ∷ rest) × (four_numbers rest ≡ Request d s l r)
-unfolding s_then
-s_reads [] e = absurd (not_request e)
-s_reads (w ∷ ws) e =
-    let g = cond_request (is_s w) (four_numbers ws) e in
-    (ws, ap (λ (x : List ℕ). x ∷ ws) (s_word w g.0), g.1)
+five_words : (ws : List (List ℕ)) → is_request ws ≡ true → Five ws
+unfolding is_request all_numbers
+five_words [] e = absurd (false_true refl e)
+five_words (s ∷ []) e = absurd (false_true refl e)
+five_words (s ∷ d ∷ []) e = absurd (false_true refl e)
+five_words (s ∷ d ∷ a ∷ []) e = absurd (false_true refl e)
+five_words (s ∷ d ∷ a ∷ l ∷ []) e = absurd (false_true refl e)
+five_words (s ∷ d ∷ a ∷ l ∷ r ∷ []) e =
+    let first = and_left _ _ e in
+    let d₁ = and_right _ _ e in
+    let a₁ = and_right _ _ d₁ in
+    let l₁ = and_right _ _ a₁ in
+    let r₁ = and_right _ _ l₁ in
+    record {
+      domain = d;
+      start = a;
+      extent = l;
+      right = r;
+      words = ap (λ (w : List ℕ). w ∷ d ∷ a ∷ l ∷ r ∷ []) (s_word s first);
+      domain_is = is_number_lem d (and_left _ _ d₁);
+      start_is = is_number_lem a (and_left _ _ a₁);
+      length_is = is_number_lem l (and_left _ _ l₁);
+      right_is = is_number_lem r (and_left _ _ r₁);
+    }
+five_words (s ∷ d ∷ a ∷ l ∷ r ∷ x ∷ ws) e = absurd (false_true
+    (ne_eqb (length (s ∷ d ∷ a ∷ l ∷ r ∷ x ∷ ws)) 5 (λ z. omega arith)) (and_left _ _ e))
 
 number_as : (w : List ℕ) {v : ℕ} → value_of w ≡ v → Number w (value_of w) → Number w v
 number_as w e n = subst (λ (x : ℕ). Number w x) e n
 
-pub parse_form : (line : List ℕ) {d s l r : ℕ} → parse_of line ≡ Request d s l r → OfForm line d s l r
-unfolding numbers_then joined
+pub parse_form : (line : List ℕ) {d s l r : ℕ} → parse_of line ≡ asks d s l r → OfForm line d s l r
+unfolding parse_of request_of
 parse_form line {d} {s} {l} {r} e =
-    let g = cond_request (leb (length line) 60) (s_then (words_of line)) (sym (parse_chain line) ∙ e) in
-    let g₀ = s_reads (words_of line) g.1 in
-    let g₁ = then_reads g₀.0 _ g₀.2 in
-    let g₂ = then_reads g₁.rest _ g₁.went in
-    let g₃ = then_reads g₂.rest _ g₂.went in
-    let g₄ = then_reads g₃.rest _ g₃.went in
-    let g₅ = more_ends g₄.rest _ g₄.went in
-    let same : Request (value_of g₁.word) (value_of g₂.word) (value_of g₃.word) (value_of g₄.word)
-    ≡ Request d s l r = g₅.1 in
-    let words : words_of line ≡ (83 ∷ []) ∷ g₁.word ∷ g₂.word ∷ g₃.word ∷ g₄.word ∷ [] =
-    cc (g₀.1, g₁.split, g₂.split, g₃.split, g₄.split, g₅.0) in
+    let g = cond_request (leb (length line) 60 && is_request (words_of line)) (Ok (request_of (words_of line))) e in
+    let f = five_words (words_of line) (and_right (leb (length line) 60) _ g.0) in
+    let same : asks (value_of f.domain) (value_of f.start) (value_of f.extent) (value_of f.right) ≡ asks d s l r =
+    rw f.words at g.1 in
+    let (domain, start, extent, right) = asked_same same in
     record {
-      domain = g₁.word;
-      start = g₂.word;
-      extent = g₃.word;
-      right = g₄.word;
-      bytes = sym (words_joined line) ∙ ap joined words;
-      domain_is = number_as g₁.word (cc) g₁.number;
-      start_is = number_as g₂.word (cc) g₂.number;
-      length_is = number_as g₃.word (cc) g₃.number;
-      right_is = number_as g₄.word (cc) g₄.number;
-      short = leb-true _ _ g.0;
+      domain = f.domain;
+      start = f.start;
+      extent = f.extent;
+      right = f.right;
+      bytes = sym (words_joined line) ∙ ap (join_with_byte 32) f.words;
+      domain_is = number_as f.domain domain f.domain_is;
+      start_is = number_as f.start start f.start_is;
+      length_is = number_as f.extent extent f.length_is;
+      right_is = number_as f.right right f.right_is;
+      short = leb-true _ _ (and_left (leb (length line) 60) (is_request (words_of line)) g.0);
     }
 
 -- ---- Exactly
 
-pub request_exactly : (line : List ℕ) (d s l r : ℕ) → (parse_of line ≡ Request d s l r) ↔ OfForm line d s l r
+pub request_exactly : (line : List ℕ) (d s l r : ℕ) → (parse_of line ≡ asks d s l r) ↔ OfForm line d s l r
 request_exactly line d s l r = (parse_form line, form_parses)
 
 pub one_request : {line : List ℕ} {d s l r d' s' l' r' : ℕ} → OfForm line d s l r → OfForm line d' s' l' r'
     → (d ≡ d') × (s ≡ s') × (l ≡ l') × (r ≡ r')
 one_request f g =
-    let e = form_parses f in
-    let h = form_parses g in
-    ((cc), (cc), (cc), (cc))
+    asked_same (sym (form_parses f) ∙ form_parses g)
 
-pub refused_exactly : (line : List ℕ) → (parse_of line ≡ NotOfForm) ↔ ((d s l r : ℕ) → OfForm line d s l r → ⊥)
+pub refused_exactly : (line : List ℕ) → (parse_of line ≡ no_form) ↔ ((d s l r : ℕ) → OfForm line d s l r → ⊥)
 refused_exactly line = ((λ e d s l r f. not_request (sym e ∙ form_parses f)), (λ none. go none (parse_of line) refl))
   where
-    go : ((d s l r : ℕ) → OfForm line d s l r → ⊥) → (said : Parsed) → parse_of line ≡ said → said ≡ NotOfForm
-    go none (Request d s l r) e = absurd (none d s l r (parse_form line e))
-    go none NotOfForm e = refl
+    go : ((d s l r : ℕ) → OfForm line d s l r → ⊥) → (said : Said) → parse_of line ≡ said → said ≡ no_form
+    go none (Ok x) e = absurd (none x.domain x.start x.length x.right (parse_form line e))
+    go none (Err x) e = refl
 
 -- The same in the paper's numbers.
-numbers_request : (said : Parsed) {d s l r : ℕ} → numbers_of said ≡ 0 ∷ d ∷ s ∷ l ∷ r ∷ [] → said ≡ Request d s l r
-numbers_request (Request d' s' l' r') e = cc
-numbers_request NotOfForm e = let z : ◌≡◌ {A = ℕ} 99 0 = cc in absurd (omega arith)
+numbers_request : (said : Said) {d s l r : ℕ} → numbers_of said ≡ 0 ∷ d ∷ s ∷ l ∷ r ∷ [] → said ≡ asks d s l r
+numbers_request (Ok x) {d} {s} {l} {r} e =
+    let p : x.domain ≡ d = cc in
+    let q : x.start ≡ s = cc in
+    let o : x.length ≡ l = cc in
+    let n : x.right ≡ r = cc in
+    λ i. asks (p i) (q i) (o i) (n i)
+numbers_request (Err x) e = let z : ◌≡◌ {A = ℕ} 99 0 = cc in absurd (omega arith)
 
-numbers_refused : (said : Parsed) → numbers_of said ≡ 99 ∷ 0 ∷ 0 ∷ 0 ∷ 0 ∷ [] → said ≡ NotOfForm
-numbers_refused (Request d s l r) e = let z : ◌≡◌ {A = ℕ} 0 99 = cc in absurd (omega arith)
-numbers_refused NotOfForm e = refl
+numbers_refused : (said : Said) → numbers_of said ≡ 99 ∷ 0 ∷ 0 ∷ 0 ∷ 0 ∷ [] → said ≡ no_form
+numbers_refused (Ok x) e = let z : ◌≡◌ {A = ℕ} 0 99 = cc in absurd (omega arith)
+numbers_refused (Err x) e = refl
 
 pub request_numbers : (line : List ℕ) (d s l r : ℕ) → (numbers_of (parse_of line) ≡ 0 ∷ d ∷ s ∷ l ∷ r ∷ []) ↔ OfForm
     line d s l r

@@ -9,12 +9,16 @@ use mathlib.Core.List.{List, [], ◌∷◌, ◌++◌}
 use lib.Dec.{ltb}
 use lib.ListN.{length, take, set, length-append, length-set}
 use lib.Seq.{take-suc-set}
-use borrow.Author.Tests.{ltb-true, ltb-false, le-leb, ne_eqb}
-use Rattle.lines.specs.declared.Found.TheVariants.{Line, Nothing}
+use borrow.Author.Tests.{ltb-true, ltb-false, le-leb, lt-leb, ne_eqb}
+use Rattle.std.proofs.Common.{Some, None}
 use Rattle.lines.specs.declared.LineSoFar.{LineSoFar}
-use Rattle.lines.specs.Forms.{parse_of}
+use Rattle.lines.specs.Forms.{no_form, parse_of}
 use Rattle.lines.specs.Feeds.{blank_line, pushed, said_of, last_of}
-use Rattle.lines.proofs.WordLaws.{parse_long}
+
+-- A line over 60 bytes long is not of the form.
+parse_long : (s : List ℕ) → 60 < length s → parse_of s ≡ no_form
+unfolding parse_of
+parse_long s h = rw (lt-leb _ _ h)
 
 pub record Short (ds : List ℕ) (t : LineSoFar) : Type 0 where
   pub fits : length ds ≤ 60
@@ -80,7 +84,7 @@ held_said ds t h =
     (λ (l : Long ds t). rw l.len (sym (parse_long ds l.over)))
     h.what
 
-pub held_none : (t : LineSoFar) → Held [] t → last_of t ≡ Nothing
+pub held_none : (t : LineSoFar) → Held [] t → last_of t ≡ None
 unfolding last_of
 held_none t h =
     ⊎_elim
@@ -88,7 +92,7 @@ held_none t h =
     (λ (l : Long [] t). absurd (omega (arith, l.over)))
     h.what
 
-pub held_last : (b : ℕ) (ds : List ℕ) (t : LineSoFar) → Held (b ∷ ds) t → last_of t ≡ Line (parse_of (b ∷ ds))
+pub held_last : (b : ℕ) (ds : List ℕ) (t : LineSoFar) → Held (b ∷ ds) t → last_of t ≡ Some (parse_of (b ∷ ds))
 unfolding last_of
 held_last b ds t h = rw (ne_eqb _ _ begun, held_said (b ∷ ds) t h)
   where

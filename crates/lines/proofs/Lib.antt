@@ -2,13 +2,12 @@
 -- input.
 pub mod DigitLaws
 pub mod ReadLaws
-pub mod ChainLaws
 pub mod WordLaws
 pub mod CutLaws
-pub mod FormLaws
 pub mod LineLaws
 pub mod StepLaws
 pub mod HeldLaws
 pub mod CallLaws
 pub mod FeedLaws
 pub mod Examples
+pub mod FormLaws

@@ -6,20 +6,20 @@ use mathlib.Core.List.{List}
 use lib.ListN.{length, drop, get_or, set, drop_of_length-le}
 use lib.Seq.{drop-cons}
 use borrow.Author.Tests.{lt-ltb, le-ltb, eq-eqb, ne_eqb}
-use Rattle.lines.specs.declared.Parsed.{Parsed}
-use Rattle.lines.specs.declared.Found.TheVariants.{Line, Nothing}
+use Rattle.std.proofs.Common.{Some, None}
 use Rattle.lines.specs.declared.LineSoFar.{LineSoFar}
 use Rattle.lines.specs.declared.Fed.{Fed}
-use Rattle.lines.specs.Feeds.{blank_line, pushed, said_of, feed_of, last_of}
+use Rattle.lines.specs.Forms.{Said}
+use Rattle.lines.specs.Feeds.{blank_line, pushed, said_of, feed_of}
 
 module _ (chunk : List ℕ) (t : LineSoFar) (i : ℕ) where
-  pub feed_end : length chunk ≤ i → feed_of i t (drop i chunk) ≡ record { found = Nothing; next = i; line = t }
+  pub feed_end : length chunk ≤ i → feed_of i t (drop i chunk) ≡ record { found = None; next = i; line = t }
   unfolding feed_of
   feed_end h = rw (drop_of_length-le chunk h)
 
   module _ (h : i < length chunk) where
-    pub feed_newline : get_or chunk i 0 ≡ 10 → {p : Parsed} {u : LineSoFar} → p ≡ said_of t → u ≡ blank_line
-        → ◌≡◌ {A = Fed} (record { found = Line p; next = i + 1; line = u }) (feed_of i t (drop i chunk))
+    pub feed_newline : get_or chunk i 0 ≡ 10 → {p : Said} {u : LineSoFar} → p ≡ said_of t → u ≡ blank_line
+        → ◌≡◌ {A = Fed} (record { found = Some p; next = i + 1; line = u }) (feed_of i t (drop i chunk))
     unfolding feed_of
     feed_newline e f g = rw (drop-cons chunk i 0 h, eq-eqb _ _ e, f, g)
 
@@ -35,11 +35,5 @@ module _ (chunk : List ℕ) (t : LineSoFar) (i : ℕ) where
       unfolding feed_of pushed
       feed_full k = rw (drop-cons chunk i 0 h, ne_eqb _ _ n, le-ltb _ _ k, add-one i)
 
-module _ (t : LineSoFar) where
-  pub last_none : t.len ≡ 0 → last_of t ≡ Nothing
-  unfolding last_of
-  last_none e = rw (eq-eqb _ _ e)
-
-  pub last_begun : (t.len ≡ 0 → ⊥) → last_of t ≡ Line (said_of t)
-  unfolding last_of
-  last_begun n = rw (ne_eqb _ _ n)
+-- What the feed goes by.
+pub ruleset feeding = (feed_end, feed_newline, feed_room, feed_full)

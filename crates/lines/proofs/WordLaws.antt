@@ -1,148 +1,174 @@
--- A line read word by word: what the words from a place on say.
-use Prim.Native.Nat.{ℕ, zero, suc, ◌+◌, ◌-◌, ◌<◌, ◌≤◌}
+-- The words of a line taken one after the other, and what so many words ask for.
+use Prim.Native.Nat.{ℕ, ◌<◌}
 use native.Mathlib.Omega.{arith}
-use native.Mathlib.Nat.{zero-add}
-use mathlib.Core.Bool.{Bool, true, false, cond}
-use mathlib.Core.Path.{◌≡◌, refl, ◌∙◌}
-use mathlib.Core.List.{List, [], ◌∷◌}
-use lib.Dec.{leb, eqb}
-use lib.ListN.{length, drop, get_or, set}
-use borrow.Author.Tests.{le-leb, lt-leb, leb-true, leb-false, ne_eqb}
-use Rattle.lines.specs.declared.Word.{Word}
-use Rattle.lines.specs.declared.Word.TheVariants.{Value, NoNumber}
-use Rattle.lines.specs.declared.Parsed.{Parsed}
-use Rattle.lines.specs.declared.Parsed.TheVariants.{NotOfForm}
+use mathlib.Core.Bool.{Bool, true, false, cond, ◌&&◌}
+use mathlib.Core.Path.{◌≡◌, refl, ap, ◌∙◌}
+use mathlib.Core.List.{List, [], ◌∷◌, ◌++◌, append_assoc, append-nil}
+use lib.Dec.{eqb}
+use lib.ListN.{length, get_or, length-append}
+use borrow.Author.Tests.{ne_eqb, eq-eqb}
+use denote.Ref.{Bor}
+use denote.Param.Members.{Mut}
+use Rattle.std.proofs.Common.{Option, Some, None}
+use Rattle.std.specs.List.{slice_split, onto_first}
+use Rattle.std.specs.Slice.Iter as slice
+use Rattle.std.specs.declared.slice.Split.{Split}
+use Rattle.std.specs.Fn.{CalledAt}
+use Rattle.std.proofs.lemmas.Iterator.{YieldsList}
+use Rattle.std.proofs.lemmas.Iterator.Splits.{YieldsList-from_slice_split}
+use Rattle.lines.specs.declared.Request.{Request}
 use Rattle.lines.specs.Cuts.{onto, cut_at, words_of}
-use Rattle.lines.specs.Forms.{is_number, is_s, parse_of}
-use Rattle.lines.specs.Inner.{word_at, number_at, words_from, number_then, no_more, asked_by, numbers_then, four_numbers}
-use Rattle.lines.proofs.ChainLaws.{s_then, s_not_long, s_not_other, neither, parse_chain}
-use Rattle.lines.proofs.ReadLaws.{word_past, number_none}
+use Rattle.lines.specs.Forms.{is_number, all_numbers, is_s, is_request, request_of, value_of}
+use Rattle.lines.specs.Inner.{number_of, asked_of}
 
--- ---- One word, and those after it
+-- Words are what a line is split into at each space.
+onto_same : (b : ℕ) (ps : List (List ℕ)) → onto b ps ≡ onto_first b ps
+unfolding onto
+onto_same b [] = refl
+onto_same b (p ∷ ps) = refl
 
-pub words_cut : (bs : List ℕ) → words_of bs ≡ word_at bs ∷ words_from (length (word_at bs) + 1) bs
-unfolding cut_at onto word_at words_from
-words_cut [] = refl
-words_cut (b ∷ bs) = go (words_cut bs) (eqb b 32)
-  where
-    go : words_of bs ≡ word_at bs ∷ words_from (length (word_at bs) + 1) bs → (t : Bool)
-        → cond t ([] ∷ words_of bs) (onto b (words_of bs)) ≡ cond t [] (b ∷ word_at bs) ∷ words_from
-        (length (cond t [] (b ∷ word_at bs)) + 1) (b ∷ bs)
-    go ih true = refl
-    go ih false =
-        let e : length (b ∷ word_at bs) + 1 ≡ suc (length (word_at bs) + 1) = omega arith in
-        rw (ih, e)
+pub words_split : (line : List ℕ) → words_of line ≡ slice_split (λ b. eqb b 32) line
+unfolding cut_at
+words_split [] = refl
+words_split (b ∷ bs) = rw (words_split bs, onto_same)
 
-pub words_step : (at : ℕ) (s : List ℕ) → at ≤ length s → words_from at s ≡ word_at (drop at s) ∷ words_from
-    (at + length (word_at (drop at s)) + 1) s
-unfolding words_from
-words_step zero s h = words_cut s ∙ rw zero-add
-words_step (suc at) [] h = absurd (omega arith)
-words_step (suc at) (b ∷ bs) h =
-    let e : suc at + length (word_at (drop at bs)) + 1 ≡ suc (at + length (word_at (drop at bs)) + 1) = omega arith in
-    rw e (words_step at bs (omega arith))
+-- ---- Words taken one after the other
 
-pub words_past : (at : ℕ) (s : List ℕ) → length s < at → words_from at s ≡ []
-unfolding words_from
-words_past zero s h = absurd (omega arith)
-words_past (suc at) [] h = refl
-words_past (suc at) (b ∷ bs) h = words_past at bs (omega arith)
+-- The words of which the first were taken, with those that are left.
+pub record Taken {S : Type 0} (steps : S → Option (Bor (List ℕ)) → S → Type 0) (ws front : List (List ℕ)) (s : S)
+    : Type 0 where
+  pub rest : List (List ℕ)
+  pub all : ws ≡ front ++ rest
+  pub left : YieldsList steps (λ x. x.now) s rest
 
--- ---- What a word says
+module _ {S : Type 0} {steps : S → Option (Bor (List ℕ)) → S → Type 0} where
+  taken_none : {ws : List (List ℕ)} {s : S} → YieldsList steps (λ x. x.now) s ws → Taken steps ws [] s
+  taken_none {ws} y = record { rest = ws; all = refl; left = y }
 
-value_cond : (t : Bool) {v n w m : ℕ} → cond t (Value w m) NoNumber ≡ Value v n → (t ≡ true) × (w ≡ v) × (m ≡ n)
-value_cond true e = (refl, (cc), (cc))
-value_cond false e = let z : ◌≡◌ {A = ℕ} 0 1 = cc in absurd (omega arith)
-
-none_cond : (t : Bool) (w m : ℕ) → cond t (Value w m) NoNumber ≡ NoNumber → t ≡ false
-none_cond true w m e = let z : ◌≡◌ {A = ℕ} 0 1 = cc in absurd (omega arith)
-none_cond false w m e = refl
-
-none_value : {x : Word} {v n : ℕ} → x ≡ NoNumber → x ≡ Value v n → ⊥
-none_value e f = let z : ◌≡◌ {A = ℕ} 0 1 = cc in omega arith
-
-module _ (s : List ℕ) (at : ℕ) (next : ℕ → List (List ℕ) → Parsed) where
-  then_value : {v n : ℕ} → number_at s at ≡ Value v n → number_then (words_from at s) next ≡ next v (words_from n s)
-  unfolding number_at number_then
-  then_value {v} {n} e = go (leb at (length s)) refl
+  pub taken_more : {ws front : List (List ℕ)} {s : S} → Taken steps ws front s → (x : Bor (List ℕ)) (t : S)
+      → steps s (Some x) t → Taken steps ws (front ++ (x.now ∷ [])) t
+  taken_more {ws} {front} {s} k x t y = go k.rest k.all k.left
     where
-      go : (t : Bool) → leb at (length s) ≡ t → number_then (words_from at s) next ≡ next v (words_from n s)
-      go true f =
-          let i = value_cond (is_number (word_at (drop at s))) e in
-          rw (words_step at s (leb-true _ _ f), i.0, i.1, i.2)
-      go false f = absurd (none_value (number_none s at (word_past s at (omega (arith, leb-false at (length s) f)))) e)
+      go : (rest : List (List ℕ)) → ws ≡ front ++ rest → YieldsList steps (λ x. x.now) s rest
+          → Taken steps ws (front ++ (x.now ∷ [])) t
+      go [] e l = absurd (l.runs x t y)
+      go (w ∷ rest) e l =
+          let p = l.runs.1 x t y in
+          record { rest = rest; all = rw (append_assoc, p.0) e; left = record { runs = p.1 } }
 
-  then_none : number_at s at ≡ NoNumber → number_then (words_from at s) next ≡ NotOfForm
-  unfolding number_at number_then
-  then_none e = go (leb at (length s)) refl
+  pub taken_all : {ws front : List (List ℕ)} {s : S} → Taken steps ws front s → (t : S) → steps s None t → ws ≡ front
+  taken_all {ws} {front} {s} k t y = go k.rest k.all k.left
     where
-      go : (t : Bool) → leb at (length s) ≡ t → number_then (words_from at s) next ≡ NotOfForm
-      go true f = rw (words_step at s (leb-true _ _ f), none_cond (is_number (word_at (drop at s))) _ _ e)
-      go false f = rw (words_past at s (leb-false _ _ f))
+      go : (rest : List (List ℕ)) → ws ≡ front ++ rest → YieldsList steps (λ x. x.now) s rest → ws ≡ front
+      go [] e l = e ∙ append-nil front
+      go (w ∷ rest) e l = absurd (l.runs.0 t y)
 
--- ---- Four words, one after the other, and no more
+-- A line is split at its spaces, and its first word taken.
+pub taken_first : {F : Type 0} {g : Mut F (Bor ℕ × Unit {0}) Bool} {f : F} (line : List ℕ) (s t : Split ℕ F)
+    (x : Bor (List ℕ)) → slice.split_steps g s (Some x) t → slice.split_rest s ≡ line → slice.split_done s ≡ false
+    → slice.split_callee s ≡ f → ((y : ℕ) (b : Bool) (q : F) → CalledAt g f y b q → (q ≡ f) × (b ≡ eqb y 32))
+    → Taken (slice.split_steps g) (words_of line) (x.now ∷ []) t
+taken_first {g = g} line s t x step rest done closure tests =
+    rw (words_split line) (taken_more (taken_none (YieldsList-from_slice_split {s = s} g (λ b. eqb b 32) line rest done closure tests)) x t step)
 
-module _ (s : List ℕ) (at k : ℕ) (vs : List ℕ) where
-  left_of_lem : k < 4 → 4 - k ≡ suc (4 - (k + 1))
-  left_of_lem h = omega arith
+-- ---- What they ask for
 
-  pub numbers_value : {v n : ℕ} → k < 4 → number_at s at ≡ Value v n → numbers_then (4 - k) k vs (words_from at s)
-      ≡ numbers_then (4 - (k + 1)) (k + 1) (set vs k v) (words_from n s)
-  unfolding numbers_then
-  numbers_value h e = rw (left_of_lem h) (then_value s at _ e)
+-- Fewer words than five or more ask for nothing ..
+asked_other : (ws : List (List ℕ)) → (length ws ≡ 5 → ⊥) → asked_of ws ≡ None
+unfolding asked_of is_request
+asked_other ws n = rw (ne_eqb (length ws) 5 n)
 
-  pub numbers_none : k < 4 → number_at s at ≡ NoNumber → numbers_then (4 - k) k vs (words_from at s) ≡ NotOfForm
-  unfolding numbers_then
-  numbers_none h e = rw (left_of_lem h) (then_none s at _ e)
+none_of : (a b : Bool) (x : Option Request) → b ≡ false → cond (a && b) x None ≡ None
+none_of true b x e = rw e
+none_of false b x e = refl
 
-  pub numbers_more : 4 ≤ k → at ≤ length s → numbers_then (4 - k) k vs (words_from at s) ≡ NotOfForm
-  unfolding numbers_then no_more
-  numbers_more h m = let none : 4 - k ≡ 0 = omega arith in rw (none, words_step at s m)
+asked_not_s : (w : List ℕ) (ws : List (List ℕ)) → is_s w ≡ false → asked_of (w ∷ ws) ≡ None
+unfolding asked_of is_request
+asked_not_s w ws e = none_of (eqb (length (w ∷ ws)) 5) (is_s w && all_numbers ws) _ (rw e)
 
-  pub numbers_end : 4 ≤ k → length s < at → numbers_then (4 - k) k vs (words_from at s) ≡ asked_by vs
-  unfolding numbers_then no_more
-  numbers_end h m = let none : 4 - k ≡ 0 = omega arith in rw (none, words_past at s m)
-
--- ---- The line's start
-
-pub parse_long : (s : List ℕ) → 60 < length s → parse_of s ≡ NotOfForm
-parse_long s h = rw (parse_chain s, lt-leb _ _ h)
-
-parse_words : (s : List ℕ) → s_then (words_of s) ≡ NotOfForm → parse_of s ≡ NotOfForm
-parse_words s e = parse_chain s ∙ neither (leb (length s) 60) e
-
-parse_not_s : (s : List ℕ) → is_s (word_at s) ≡ false → parse_of s ≡ NotOfForm
-unfolding s_then
-parse_not_s s e = parse_words s (rw (words_cut s, e))
-
-pub parse_short : (s : List ℕ) → length s < 2 → parse_of s ≡ NotOfForm
-unfolding s_then cut_at onto is_s numbers_then number_then
-parse_short [] h = parse_words [] refl
-parse_short (a ∷ []) h = parse_words (a ∷ []) (go (eqb a 32))
+bad_number : (front : List (List ℕ)) (w : List ℕ) (ws : List (List ℕ)) → is_number w ≡ false
+    → all_numbers (front ++ (w ∷ ws)) ≡ false
+unfolding all_numbers
+bad_number [] w ws e = rw e
+bad_number (v ∷ front) w ws e = rw (bad_number front w ws e) (go (is_number v))
   where
-    go : (t : Bool) → s_then (cond t ([] ∷ [] ∷ []) ((a ∷ []) ∷ [])) ≡ NotOfForm
+    go : (t : Bool) → (t && false) ≡ false
     go true = refl
-    go false = neither (is_s (a ∷ [])) refl
-parse_short (a ∷ b ∷ s) h = absurd (omega arith)
+    go false = refl
 
-pub parse_other : (s : List ℕ) → 0 < length s → (get_or s 0 0 ≡ 83 → ⊥) → parse_of s ≡ NotOfForm
-unfolding word_at is_s
-parse_other [] h n = absurd (omega arith)
-parse_other (a ∷ s) h n = parse_not_s (a ∷ s) (go (eqb a 32))
+none_is : (w : List ℕ) → None ≡ number_of w → is_number w ≡ false
+none_is w e = go (is_number w) e
   where
-    go : (t : Bool) → is_s (cond t [] (a ∷ word_at s)) ≡ false
+    go : (t : Bool) → None ≡ cond t (Some (value_of w)) None → t ≡ false
+    go true e = cc
+    go false e = refl
+
+some_is : (w : List ℕ) {v : ℕ} → Some v ≡ number_of w → (is_number w ≡ true) × (value_of w ≡ v)
+some_is w {v} e = go (is_number w) e
+  where
+    go : (t : Bool) → Some v ≡ cond t (Some (value_of w)) None → (t ≡ true) × (value_of w ≡ v)
+    go true e = (refl, (cc))
+    go false e = cc
+
+asked_bad : (s : List ℕ) (front : List (List ℕ)) (w : List ℕ) (ws : List (List ℕ)) → None ≡ number_of w
+    → asked_of (s ∷ (front ++ (w ∷ ws))) ≡ None
+unfolding asked_of is_request
+asked_bad s front w ws e =
+    let n = bad_number front w ws (none_is w e) in
+    none_of (eqb (length (s ∷ (front ++ (w ∷ ws)))) 5) (is_s s && all_numbers (front ++ (w ∷ ws))) _
+    (rw n (go (is_s s)))
+  where
+    go : (t : Bool) → (t && false) ≡ false
     go true = refl
-    go false = s_not_other a (word_at s) n
+    go false = refl
 
-pub parse_glued : (s : List ℕ) → 1 < length s → get_or s 0 0 ≡ 83 → (get_or s 1 0 ≡ 32 → ⊥) → parse_of s ≡ NotOfForm
-unfolding word_at
-parse_glued [] h e n = absurd (omega arith)
-parse_glued (a ∷ []) h e n = absurd (omega arith)
-parse_glued (a ∷ b ∷ s) h e n = parse_not_s (a ∷ b ∷ s) (rw (e, ne_eqb _ _ n) (s_not_long 83 b (word_at s)))
+asked_five : (s d a l r : List ℕ) {vd va vl vr : ℕ} → is_s s ≡ true → Some vd ≡ number_of d → Some va ≡ number_of a
+    → Some vl ≡ number_of l → Some vr ≡ number_of r
+    → asked_of (s ∷ d ∷ a ∷ l ∷ r ∷ []) ≡ Some (record { domain = vd; start = va; length = vl; right = vr })
+unfolding asked_of is_request all_numbers request_of
+asked_five s d a l r e f g h i =
+    let (d₁, d₂) = some_is d f in
+    let (a₁, a₂) = some_is a g in
+    let (l₁, l₂) = some_is l h in
+    let (r₁, r₂) = some_is r i in
+    rw (e, d₁, a₁, l₁, r₁, d₂, a₂, l₂, r₂)
 
-pub parse_begun : (s : List ℕ) → length s ≤ 60 → 1 < length s → get_or s 0 0 ≡ 83 → get_or s 1 0 ≡ 32 → parse_of s
-    ≡ four_numbers (words_from 2 s)
-unfolding s_then cut_at onto is_s words_from
-parse_begun [] m h e f = absurd (omega arith)
-parse_begun (a ∷ []) m h e f = absurd (omega arith)
-parse_begun (a ∷ b ∷ s) m h e f = parse_chain (a ∷ b ∷ s) ∙ rw (le-leb _ _ m, e, f)
+pub not_s_length : (w : List ℕ) → (length w ≡ 1 → ⊥) → is_s w ≡ false
+unfolding is_s
+not_s_length w n = rw (ne_eqb (length w) 1 n)
+
+pub not_s_byte : (w : List ℕ) → (get_or w 0 0 ≡ 83 → ⊥) → is_s w ≡ false
+unfolding is_s
+not_s_byte w n = go (eqb (length w) 1)
+  where
+    go : (t : Bool) → (t && eqb (get_or w 0 0) 83) ≡ false
+    go true = ne_eqb (get_or w 0 0) 83 n
+    go false = refl
+
+pub s_is : (w : List ℕ) → length w ≡ 1 → get_or w 0 0 ≡ 83 → is_s w ≡ true
+unfolding is_s
+s_is w e f = rw (eq-eqb _ _ e, eq-eqb _ _ f)
+
+module _ {S : Type 0} {steps : S → Option (Bor (List ℕ)) → S → Type 0} {ws : List (List ℕ)} {t : S} where
+  -- A line of fewer words than five, or more, asks for nothing ..
+  pub none_few : {front : List (List ℕ)} → Taken steps ws front t → (u : S) → steps t None u → length front < 5
+      → asked_of ws ≡ None
+  none_few k u e h = rw (taken_all k u e) (asked_other _ (λ z. omega arith))
+
+  pub none_many : {front : List (List ℕ)} → Taken steps ws front t → 5 < length front → asked_of ws ≡ None
+  none_many {front} k h = asked_other ws (λ z. omega (arith, ap length k.all, length-append front k.rest))
+
+  -- .. nor does one of which the first word is not `S` ..
+  pub none_not_s : {w : List ℕ} → Taken steps ws (w ∷ []) t → is_s w ≡ false → asked_of ws ≡ None
+  none_not_s {w} k e = rw k.all (asked_not_s w k.rest e)
+
+  -- .. or another is no number.
+  pub none_bad : (s : List ℕ) (front : List (List ℕ)) (w : List ℕ) → Taken steps ws ((s ∷ front) ++ (w ∷ [])) t
+      → None ≡ number_of w → asked_of ws ≡ None
+  none_bad s front w k e = ap asked_of (k.all ∙ append_assoc (s ∷ front) (w ∷ []) k.rest) ∙ asked_bad s front w k.rest e
+
+  -- One of five words of the form asks.
+  pub some_five : {s d a l r : List ℕ} {vd va vl vr : ℕ} → Taken steps ws (s ∷ d ∷ a ∷ l ∷ r ∷ []) t → (u : S)
+      → steps t None u → is_s s ≡ true → Some vd ≡ number_of d → Some va ≡ number_of a → Some vl ≡ number_of l
+      → Some vr ≡ number_of r → asked_of ws ≡ Some (record { domain = vd; start = va; length = vl; right = vr })
+  some_five k u e z f g h i = rw (taken_all k u e) (asked_five _ _ _ _ _ z f g h i)

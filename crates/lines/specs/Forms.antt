@@ -1,9 +1,21 @@
 -- What a line says: `S domain start length right`, single spaces, decimal digits, numbers at most 4294967295, at most
 -- 60 bytes.
-use Rattle.std.specs.Prelude.{ℕ, ◌+◌, ◌*◌, ◌-◌, ◌<◌, ◌≤◌, Bool, true, false, cond, ◌&&◌, ◌≡◌, List, [], ◌∷◌, ◌++◌, leb, eqb, length, get_or, drop}
-use Rattle.lines.specs.declared.Parsed.{Parsed}
-use Rattle.lines.specs.declared.Parsed.TheVariants.{Request, NotOfForm}
+use Rattle.std.specs.Prelude.{ℕ, ◌+◌, ◌*◌, ◌-◌, ◌<◌, ◌≤◌, Bool, true, false, cond, ◌&&◌, ◌≡◌, List, [], ◌∷◌, ◌++◌, Result, Ok, Err, leb, eqb, length, get_or, drop}
+use Rattle.lines.specs.declared.Request.{Request}
+use Rattle.lines.specs.declared.NotOfForm.{NotOfForm}
 use Rattle.lines.specs.Cuts.{words_of}
+
+-- What a line is read as: a request, or not of the form.
+abbrev pub Said : Type 0
+Said = Result Request NotOfForm
+
+-- A line that asks for four numbers.
+abbrev pub asks : ℕ → ℕ → ℕ → ℕ → Said
+asks d s l r = Ok (record { domain = d; start = s; length = l; right = r })
+
+-- A line that is not of the form.
+abbrev pub no_form : Said
+no_form = Err (record {})
 
 -- ---- The form, in words.
 
@@ -71,15 +83,19 @@ unfoldable pub is_request : List (List ℕ) → Bool
 is_request ws = eqb (length ws) 5 && (is_s (get_or ws 0 []) && all_numbers (drop 1 ws))
 
 -- What five such words ask for.
-unfoldable pub request_of : List (List ℕ) → Parsed
-request_of ws = Request (value_of (get_or ws 1 [])) (value_of (get_or ws 2 [])) (value_of (get_or ws 3 []))
-    (value_of (get_or ws 4 []))
+unfoldable pub request_of : List (List ℕ) → Request
+request_of ws = record {
+  domain = value_of (get_or ws 1 []);
+  start = value_of (get_or ws 2 []);
+  length = value_of (get_or ws 3 []);
+  right = value_of (get_or ws 4 []);
+}
 
 -- What a line says, given its bytes without the newline.
-unfoldable pub parse_of : List ℕ → Parsed
-parse_of line = cond (leb (length line) 60 && is_request (words_of line)) (request_of (words_of line)) NotOfForm
+unfoldable pub parse_of : List ℕ → Said
+parse_of line = cond (leb (length line) 60 && is_request (words_of line)) (Ok (request_of (words_of line))) no_form
 
 -- The paper's number for each case, and the values beside it: 99 and zeros where there is no request.
-abbrev pub numbers_of : Parsed → List ℕ
-numbers_of (Request domain start extent right) = 0 ∷ domain ∷ start ∷ extent ∷ right ∷ []
-numbers_of NotOfForm = 99 ∷ 0 ∷ 0 ∷ 0 ∷ 0 ∷ []
+abbrev pub numbers_of : Said → List ℕ
+numbers_of (Ok r) = 0 ∷ r.domain ∷ r.start ∷ r.length ∷ r.right ∷ []
+numbers_of (Err e) = 99 ∷ 0 ∷ 0 ∷ 0 ∷ 0 ∷ []

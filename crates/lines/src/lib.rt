@@ -5,153 +5,105 @@
 #![tactic(auto)]
 
 ghost use Rattle.std.specs.Prelude.{◌≡◌, drop};
-ghost use Rattle.lines.specs.Forms.{is_digit, parse_of};
-ghost use Rattle.lines.specs.Inner.{number_at, words_from, four_numbers};
+ghost use Rattle.lines.specs.Forms.{parse_of};
+ghost use Rattle.lines.specs.Inner.{number_of, asked_of};
+ghost use Rattle.lines.specs.Cuts.{words_of};
 ghost use Rattle.lines.specs.Feeds.{blank_line, said_of, feed_of, last_of};
+
+use std::error::Error;
+use std::fmt;
 
 const ROOM: usize = 60;
 
 const TOO_LONG: usize = ROOM + 1;
 
-const MOST: u64 = 4294967295;
-
-// What a line says. One that is over 60 bytes long is not of the form either; the program answers both with 99.
-#[derive(Drop)]
-pub enum Parsed {
-    Request {
-        domain: u32,
-        start: u32,
-        length: u32,
-        right: u32,
-    },
-    NotOfForm,
+// What a line asks for.
+#[derive(Clone, Copy, Debug, PartialEq, Eq)]
+pub struct Request {
+    pub domain: u32,
+    pub start: u32,
+    pub length: u32,
+    pub right: u32,
 }
 
+// A line that asks for nothing. One that is over 60 bytes long is not of the form either; the program answers both
+// with 99.
+#[derive(Clone, Copy, Debug, PartialEq, Eq)]
+pub struct NotOfForm;
+
+impl fmt::Display for NotOfForm {
+    fn fmt<W: fmt::Write>(&self, f: &mut fmt::Formatter<W>) -> fmt::Result {
+        write!(f, "the line is not of the form")
+    }
+}
+
+impl Error for NotOfForm {}
+
 // The line whose end has not come yet. Every value means something: no line has begun where `len` is 0, and the line is
-// too long where it is above 60.
-#[derive(Drop)]
+// too long where it is above 60. It is no `ArrayVec`, of which a promise can name the items but not the value: `feed`
+// promises which line so far it hands back.
+#[derive(Clone, Copy)]
 pub struct LineSoFar {
     pub bytes: [u8; 60],
     pub len: usize,
 }
 
-// A whole line, or none.
-#[derive(Drop)]
-pub enum Found {
-    Line(Parsed),
-    Nothing,
-}
-
-// What came of a chunk: with a line, `next` is the place to go on from; with none, the chunk is used up.
-#[derive(Drop)]
+// What came of a chunk: with what a whole line says, `next` is the place to go on from; with none, the chunk is used up.
+#[derive(Clone, Copy)]
 pub struct Fed {
-    pub found: Found,
+    pub found: Option<Result<Request, NotOfForm>>,
     pub next: usize,
     pub line: LineSoFar,
 }
 
-// A word of a line that is a number, with the place where the next word would begin.
-#[derive(Drop)]
-enum Word {
-    Value(u32, usize),
-    NoNumber,
-}
-
-fn is_digit(b: u8) -> bool
-    ensures { result ≡ is_digit b }
+// The number that a word writes. It is bounded at each digit, so that leading zeros cost nothing and no sum wraps.
+#[tactic(auto, using(crate::proofs::ReadLaws::reading))]
+fn number(word: &[u8]) -> Option<u32>
+    ensures { result ≡ number_of word.now }
 {
-    b'0' <= b && b <= b'9'
-}
-
-fn wide(b: u8) -> u64
-    ensures { result ≡ b }
-{
-    b as u64
-}
-
-// The number at `at`, up to a space or the line's end. It is bounded at each digit, so that leading zeros cost
-// nothing and no sum wraps.
-fn number(line: &[u8], at: usize) -> Word
-    ensures { result ≡ number_at line.now at }
-{
-    if line.len() <= at {
-        return Word::NoNumber;
+    if word.is_empty() {
+        return None;
     }
-    if !is_digit(line[at]) {
-        return Word::NoNumber;
-    }
-    let mut value: u64 = 0;
-    let mut i = at;
-    while i < line.len() {
-        let b = line[i];
-        if b == b' ' {
-            let worth = value as u32;
-            let next = i + 1;
-            return Word::Value(worth, next);
+    let mut value: u32 = 0;
+    for b in word {
+        if !b.is_ascii_digit() {
+            return None;
         }
-        if !is_digit(b) {
-            return Word::NoNumber;
-        }
-        let digit = wide(b) - 48;
-        value = value * 10 + digit;
-        if MOST < value {
-            return Word::NoNumber;
-        }
-        i += 1;
+        let digit = u32::from(*b - b'0');
+        value = value.checked_mul(10)?.checked_add(digit)?;
     }
-    let worth = value as u32;
-    let next = i + 1;
-    Word::Value(worth, next)
+    Some(value)
 }
 
-// Four numbers from `at` on, and nothing behind them: the last one's next place is past the end.
-fn request(line: &[u8], at: usize) -> Parsed
-    ensures { result ≡ four_numbers (words_from at line.now) }
+// The request that a line makes: `S` and four numbers, each after one space, and nothing behind them.
+fn request_in(line: &[u8]) -> Option<Request>
+    ensures { result ≡ asked_of (words_of line.now) }
 {
-    let mut values = [0u32; 4];
-    let mut place = at;
-    let mut k = 0;
-    while k < 4 {
-        let Word::Value(value, next) = number(line, place) else {
-            return Parsed::NotOfForm;
-        };
-        values[k] = value;
-        place = next;
-        k += 1;
-    }
-    if place <= line.len() {
-        return Parsed::NotOfForm;
-    }
-    let domain = values[0];
-    let start = values[1];
-    let length = values[2];
-    let right = values[3];
-    Parsed::Request {
-        domain,
-        start,
-        length,
-        right,
+    let mut words = line.split(|b| *b == b' ');
+    let [b'S'] = words.next()? else {
+        return None;
+    };
+    let request = Request {
+        domain: number(words.next()?)?,
+        start: number(words.next()?)?,
+        length: number(words.next()?)?,
+        right: number(words.next()?)?,
+    };
+    match words.next() {
+        None => Some(request),
+        Some(_) => None,
     }
 }
 
 // What a line says, given without its newline.
-pub fn parse(line: &[u8]) -> Parsed
+#[tactic(auto, unfolding(crate::specs::Forms::parse_of, crate::specs::Inner::asked_of))]
+pub fn parse(line: &[u8]) -> Result<Request, NotOfForm>
     ensures { result ≡ parse_of line.now }
 {
-    let n = line.len();
-    if n > ROOM {
-        return Parsed::NotOfForm;
+    if line.len() > ROOM {
+        return Err(NotOfForm);
     }
-    if n < 2 {
-        return Parsed::NotOfForm;
-    }
-    if line[0] != b'S' {
-        return Parsed::NotOfForm;
-    }
-    if line[1] != b' ' {
-        return Parsed::NotOfForm;
-    }
-    request(line, 2)
+    request_in(line).ok_or(NotOfForm)
 }
 
 // No byte has come.
@@ -159,63 +111,58 @@ pub fn blank_line() -> LineSoFar
     ensures { result ≡ blank_line }
 {
     LineSoFar {
-        bytes: [0u8; 60],
+        bytes: [0; 60],
         len: 0,
     }
 }
 
 // What a line says if it ends here.
-fn said(bytes: [u8; 60], len: usize) -> Parsed
-    ensures { result ≡ said_of (record { bytes = bytes; len = len }) }
+#[tactic(auto, unfolding(crate::specs::Feeds::said_of))]
+fn said(line: &LineSoFar) -> Result<Request, NotOfForm>
+    ensures { result ≡ said_of line.now }
 {
-    if len <= ROOM {
-        return parse(&bytes[..len]);
+    if line.len <= ROOM {
+        parse(&line.bytes[..line.len])
+    } else {
+        Err(NotOfForm)
     }
-    Parsed::NotOfForm
 }
 
 // Takes the bytes of a chunk from `from` on, up to a newline or the chunk's end.
-pub fn feed(chunk: &[u8], from: usize, line: LineSoFar) -> Fed
+#[tactic(auto, using(crate::proofs::StepLaws::feeding))]
+pub fn feed(chunk: &[u8], from: usize, mut line: LineSoFar) -> Fed
     ensures { result ≡ feed_of from line (drop from chunk.now) }
 {
-    let mut bytes = line.bytes;
-    let mut len = line.len;
-    let mut i = from;
-    while i < chunk.len() {
-        let b = chunk[i];
-        i += 1;
-        if b == b'\n' {
-            let parsed = said(bytes, len);
-            let blank = blank_line();
+    for i in from..chunk.len() {
+        if chunk[i] == b'\n' {
             return Fed {
-                found: Found::Line(parsed),
-                next: i,
-                line: blank,
+                found: Some(said(&line)),
+                next: i + 1,
+                line: blank_line(),
             };
         }
-        if len < ROOM {
-            bytes[len] = b;
-            len += 1;
+        if line.len < ROOM {
+            line.bytes[line.len] = chunk[i];
+            line.len += 1;
         } else {
-            len = TOO_LONG;
+            line.len = TOO_LONG;
         }
     }
     Fed {
-        found: Found::Nothing,
-        next: i,
-        line: LineSoFar { bytes, len },
+        found: None,
+        next: from.max(chunk.len()),
+        line,
     }
 }
 
 // At the end of the input: a line that has begun counts without a newline.
-pub fn last_line(line: LineSoFar) -> Found
+#[tactic(auto, unfolding(crate::specs::Feeds::last_of))]
+pub fn last_line(line: LineSoFar) -> Option<Result<Request, NotOfForm>>
     ensures { result ≡ last_of line }
 {
-    let bytes = line.bytes;
-    let len = line.len;
-    if len == 0 {
-        return Found::Nothing;
+    if line.len == 0 {
+        None
+    } else {
+        Some(said(&line))
     }
-    let parsed = said(bytes, len);
-    Found::Line(parsed)
 }

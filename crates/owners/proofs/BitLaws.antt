@@ -3,63 +3,37 @@
 use Prim.Native.Nat.{ℕ, zero, suc, ◌+◌, ◌*◌, ◌/◌, ◌%◌, ◌^◌, ◌≤◌, ◌<◌}
 use mathlib.Core.Path.{◌≡◌, refl, sym, ap, ◌∙◌}
 use native.Mathlib.Omega.{arith}
-use native.Mathlib.Nat.{mul_left_comm, pow-succ', div-div-eq-div-mul, mod-le, div-mul-le_self, mul-le-mul_right}
+use native.Mathlib.Nat.{zero-mul, one-mul, mul_left_comm, pow-succ', mod-le, div-mul-le_self, mul-le-mul_right}
 use lib.Dec.{eqb}
-use lib.Pow.{pow_mono}
 use borrow.Author.Tests.{eqb-true, eqb-false}
+use Rattle.std.specs.Int.{bit_at}
+use Rattle.std.specs.Int.Bits.{bit_and, bit_or, or_add_and}
+use Rattle.std.proofs.lemmas.Nat.Bits.{and_pow, bit_at-lt, bit_at_or, bit_at-pow_same, bit_at-pow_other}
+use Rattle.std.proofs.lemmas.Nat.{shl_whole}
 use Rattle.words.specs.Rights.{right_at}
 use Rattle.words.proofs.RightsLaws.{right_quarter}
 use Rattle.owners.specs.Calls.{with_bit, with_right}
 use Rattle.theory.proofs.Logic.{by_cases}
 
--- Bit k of a number.
-abbrev pub bit_at : ℕ → ℕ → ℕ
-bit_at g k = g / 2 ^ k % 2
-
-two : (n : ℕ) → 2 ^ suc n ≡ 2 * 2 ^ n
-two n = pow-succ' 2 n
-
-bit_half : (g k : ℕ) → bit_at (g / 2) k ≡ bit_at g (suc k)
-bit_half g k = ap (λ y. y % 2) (div-div-eq-div-mul g 2 (2 ^ k) ∙ ap (λ x. g / x) (sym (two k)))
-
--- A bit that is not set leaves room for it.
-pub bit_fits : (n k g : ℕ) → k < n → g < 2 ^ n → (bit_at g k ≡ 1 → ⊥) → g + 2 ^ k < 2 ^ n
-bit_fits zero k g h b e = absurd (omega arith)
-bit_fits (suc n) zero g h b e = let p = two n in let z : g / 1 % 2 ≡ 0 = omega arith in omega arith
-bit_fits (suc n) (suc k) g h b e =
-    let p = two n in
-    let q = two k in
-    let i = bit_fits n k (g / 2) (omega arith) (omega arith) (λ z. e (sym (bit_half g k) ∙ z)) in
-    omega arith
-
-bit_added : (k g : ℕ) → (bit_at g k ≡ 1 → ⊥) → bit_at (g + 2 ^ k) k ≡ 1
-bit_added zero g e = omega arith
-bit_added (suc k) g e =
-    let q = two k in
-    let d : (g + 2 ^ suc k) / 2 ≡ g / 2 + 2 ^ k = omega arith in
-    sym (bit_half (g + 2 ^ suc k) k) ∙ ap (λ x. bit_at x k) d ∙ bit_added k (g / 2) (λ z. e (sym (bit_half g k) ∙ z))
-
-bit_others : (k j g : ℕ) → (j ≡ k → ⊥) → (bit_at g k ≡ 1 → ⊥) → bit_at (g + 2 ^ k) j ≡ bit_at g j
-bit_others zero zero g n e = absurd (n refl)
-bit_others zero (suc j) g n e =
-    let d : (g + 1) / 2 ≡ g / 2 = omega arith in
-    sym (bit_half (g + 1) j) ∙ ap (λ x. bit_at x j) d ∙ bit_half g j
-bit_others (suc k) zero g n e = let q = two k in omega arith
-bit_others (suc k) (suc j) g n e =
-    let q = two k in
-    let d : (g + 2 ^ suc k) / 2 ≡ g / 2 + 2 ^ k = omega arith in
-    sym (bit_half (g + 2 ^ suc k) j) ∙ ap (λ x. bit_at x j) d
-    ∙ bit_others k j (g / 2) (λ z. n (ap suc z)) (λ z. e (sym (bit_half g k) ∙ z)) ∙ bit_half g j
+-- A bit is set by `|`: where it is set already nothing changes, and else its value is added.
+pub or_bit : (g k : ℕ) → bit_or g (2 ^ k) ≡ with_bit g k
+or_bit g k =
+    let sum = or_add_and g (2 ^ k) in
+    let there = and_pow g k in
+    by_cases (eqb (bit_at g k) 1)
+    (λ e. rw e (let h = eqb-true (bit_at g k) 1 e in
+    let t : bit_and g (2 ^ k) ≡ 2 ^ k = there ∙ ap (λ b. b * 2 ^ k) h ∙ one-mul (2 ^ k) in omega arith))
+    (λ e. rw e (let n = eqb-false (bit_at g k) 1 e in
+    let z : bit_at g k ≡ 0 = omega (arith, bit_at-lt g k) in
+    let t : bit_and g (2 ^ k) ≡ 0 = there ∙ ap (λ b. b * 2 ^ k) z ∙ zero-mul (2 ^ k) in omega arith))
 
 pub with_bit_set : (g k : ℕ) → bit_at (with_bit g k) k ≡ 1
-with_bit_set g k = by_cases (eqb (bit_at g k) 1)
-    (λ e. rw e (eqb-true (bit_at g k) 1 e))
-    (λ e. rw e (bit_added k g (eqb-false (bit_at g k) 1 e)))
+with_bit_set g k = ap (λ x. bit_at x k) (sym (or_bit g k))
+    ∙ omega (arith, bit_at_or g (2 ^ k) k, bit_at-pow_same k, bit_at-lt g k)
 
 pub with_bit_other : (g k j : ℕ) → (j ≡ k → ⊥) → bit_at (with_bit g k) j ≡ bit_at g j
-with_bit_other g k j n = by_cases (eqb (bit_at g k) 1)
-    (λ e. rw e)
-    (λ e. rw e (bit_others k j g n (eqb-false (bit_at g k) 1 e)))
+with_bit_other g k j n = ap (λ x. bit_at x j) (sym (or_bit g k))
+    ∙ omega (arith, bit_at_or g (2 ^ k) j, bit_at-pow_other k j n)
 
 four : (n : ℕ) → 2 ^ (2 * suc n) ≡ 4 * 2 ^ (2 * n)
 four n =
@@ -132,10 +106,6 @@ with_right_here w k q l = replaced_here k w (with_right w k q) q l (with_right_r
 pub with_right_other : (w k j q : ℕ) → (j ≡ k → ⊥) → q < 4 → right_at (with_right w k q) j ≡ right_at w j
 with_right_other w k j q n l = replaced_other k j w (with_right w k q) q n l (with_right_replaced w k q)
 
--- A right in its place fits.
-pub right_small : (k q : ℕ) → k < 16 → q < 4 → q * 2 ^ (2 * k) < 4294967296
-right_small k q h l =
-    let p : 2 ^ (2 * k) ≤ 2 ^ 30 = pow_mono {i = 2 * k} {j = 30} (omega arith) in
-    let m : q ≤ 3 = omega arith in
-    let r = mul-le-mul_right (2 ^ (2 * k)) m in
-    omega arith
+-- A right shifted to its place loses no bit in a word of 32.
+pub shifted_right : (k q : ℕ) → k < 16 → q < 4 → q * 2 ^ (2 * k) % 4294967296 ≡ q * 2 ^ (2 * k)
+shifted_right k q h l = shl_whole q 2 (2 * k) 32 l (omega arith)

@@ -4,17 +4,16 @@ use Prim.Native.Nat.{ℕ}
 use mathlib.Core.Path.{◌≡◌, refl, ap}
 use mathlib.Core.Logic.{◌≢◌, ◌⊎◌, inl, inr, ⊎_elim}
 use mathlib.Core.List.{List}
-use native.Mathlib.Omega.{arith}
 use lib.ListN.{length}
 use Rattle.words.specs.Region.{region_of}
 use Rattle.words.specs.declared.Region.{Region}
-use Rattle.words.specs.declared.Rounded.{Rounded}
-use Rattle.words.specs.declared.Rounded.TheVariants.{Covers, Refused as NoRegion}
+use Rattle.std.proofs.Common.{Result, Ok, Err}
+use Rattle.refusals.specs.declared.Refusal.{Refusal}
+use Rattle.refusals.specs.declared.Refusal.TheVariants.{NotAllowed}
 use Rattle.table.specs.declared.Shape.{Shape}
 use Rattle.table.specs.Shape.{fits_of}
 use Rattle.table.proofs.ShapeLaws.{test_fits}
-use Rattle.change.specs.declared.Answer.{Answer}
-use Rattle.change.specs.declared.Answer.TheVariants.{Refused}
+use Rattle.change.specs.declared.Ending.{Ending}
 use Rattle.change.specs.Answers.{Asked, Changes}
 use Rattle.change.proofs.ChangesLaws.{one_change, change_refused_kept}
 use Rattle.change.proofs.TidiesLaws.{Agree}
@@ -24,7 +23,7 @@ use Rattle.owners.proofs.CallLaws.{asked_in_order}
 
 -- The request of a change by a caller that comes to its region is in order up to 5, as the supervisor's own is ..
 module _ (p : List ℕ) (s : Shape) (list : List ℕ) (caller d start len r : ℕ) {g : Region}
-    (e : asked_by p s list caller d start len r ≡ Covers g) where
+    (e : asked_by p s list caller d start len r ≡ Ok g) where
   pub by_asked : Asked p s d start len r g
   by_asked =
       let o = asked_in_order (fits_of s (length p)) list s.domains caller d r start len g e in
@@ -36,67 +35,67 @@ module _ (p : List ℕ) (s : Shape) (list : List ℕ) (caller d start len r : �
       }
 
   -- .. and its region is that of its start and length.
-  pub asked_region : region_of start len ≡ Covers g
+  pub asked_region : region_of start len ≡ Ok g
   asked_region = by_asked.region
 
 -- What comes of a change by a caller: it is allowed, and is as the supervisor's own; or it is refused, and the pool is
 -- as it came.
-pub by_either : {p list q : List ℕ} {s : Shape} {caller d start len r n : ℕ} {c : Answer}
+pub by_either : {p list q : List ℕ} {s : Shape} {caller d start len r n : ℕ} {c : Result Ending Refusal}
     → ChangesBy p s list caller d start len r n c q
-    → ((g : Region) × (asked_by p s list caller d start len r ≡ Covers g) × Allowed list caller d r g
-    × Changes p s d start len r n c q) ⊎ ((k : ℕ) × (c ≡ Refused k) × (q ≡ p))
+    → ((g : Region) × (asked_by p s list caller d start len r ≡ Ok g) × Allowed list caller d r g
+    × Changes p s d start len r n c q) ⊎ ((k : Refusal) × (c ≡ Err k) × (q ≡ p))
 by_either (not_asked k e) = inr (k, refl, refl)
-by_either (not_allowed g e f) = inr (19, refl, refl)
+by_either (not_allowed g e f) = inr (NotAllowed, refl, refl)
 by_either (allowed g e f x) = inl (g, e, f, x)
 
 -- The same in short.
-pub by_changes : {p list q : List ℕ} {s : Shape} {caller d start len r n : ℕ} {c : Answer}
+pub by_changes : {p list q : List ℕ} {s : Shape} {caller d start len r n : ℕ} {c : Result Ending Refusal}
     → ChangesBy p s list caller d start len r n c q
-    → Changes p s d start len r n c q ⊎ ((k : ℕ) × (c ≡ Refused k) × (q ≡ p))
+    → Changes p s d start len r n c q ⊎ ((k : Refusal) × (c ≡ Err k) × (q ≡ p))
 by_changes x = ⊎_elim (λ (_, _, _, y). inl y) inr (by_either x)
 
 -- One that was done or cut was allowed: every word that it covers allows it.
-pub by_allowed : {p list q : List ℕ} {s : Shape} {caller d start len r n : ℕ} {c : Answer}
-    → ChangesBy p s list caller d start len r n c q → ((k : ℕ) → c ≢ Refused k)
-    → (g : Region) × (region_of start len ≡ Covers g) × Allowed list caller d r g
+pub by_allowed : {p list q : List ℕ} {s : Shape} {caller d start len r n : ℕ} {c : Result Ending Refusal}
+    → ChangesBy p s list caller d start len r n c q → ((k : Refusal) → c ≢ Err k)
+    → (g : Region) × (region_of start len ≡ Ok g) × Allowed list caller d r g
 by_allowed (not_asked k e) f = absurd (f k refl)
-by_allowed (not_allowed g e n) f = absurd (f 19 refl)
+by_allowed (not_allowed g e n) f = absurd (f NotAllowed refl)
 by_allowed {p} {list} {s = s} {caller} {d} {start} {len} {r} (allowed g e o x) f =
     (g, asked_region p s list caller d start len r e, o)
 
 -- Every refusal of a change by a caller leaves the pool as it came.
-pub by_refused_kept : {p list q : List ℕ} {s : Shape} {caller d start len r n k : ℕ}
-    → ChangesBy p s list caller d start len r n (Refused k) q → q ≡ p
+pub by_refused_kept : {p list q : List ℕ} {s : Shape} {caller d start len r n : ℕ} {k : Refusal}
+    → ChangesBy p s list caller d start len r n (Err k) q → q ≡ p
 by_refused_kept x = go x refl
   where
-    go : {p list q : List ℕ} {s : Shape} {caller d start len r n k : ℕ} {c : Answer}
-        → ChangesBy p s list caller d start len r n c q → c ≡ Refused k → q ≡ p
+    go : {p list q : List ℕ} {s : Shape} {caller d start len r n : ℕ} {k : Refusal} {c : Result Ending Refusal}
+        → ChangesBy p s list caller d start len r n c q → c ≡ Err k → q ≡ p
     go (not_asked k e) z = refl
     go (not_allowed g e f) z = refl
     go (allowed g e f y) z = change_refused_kept y z
 
 -- A request comes to one region, or to one refusal.
-one_asked : {a : Rounded} {g h : Region} → a ≡ Covers g → a ≡ Covers h → g ≡ h
+one_asked : {a : Result Region Refusal} {g h : Region} → a ≡ Ok g → a ≡ Ok h → g ≡ h
 one_asked e f = cc
 
-one_unasked : {a : Rounded} {k m : ℕ} → a ≡ NoRegion k → a ≡ NoRegion m → k ≡ m
+one_unasked : {a : Result Region Refusal} {k m : Refusal} → a ≡ Err k → a ≡ Err m → k ≡ m
 one_unasked e f = cc
 
-not_both : {a : Rounded} {g : Region} {k : ℕ} → a ≡ Covers g → a ≡ NoRegion k → ⊥
-not_both e f = let z : ◌≡◌ {A = ℕ} 0 1 = cc in omega arith
+not_both : {a : Result Region Refusal} {g : Region} {k : Refusal} → a ≡ Ok g → a ≡ Err k → ⊥
+not_both e f = cc
 
 -- One that is in order and allowed is as the supervisor's own.
-pub allowed_changes : {p list q : List ℕ} {s : Shape} {caller d start len r n : ℕ} {g : Region} {c : Answer}
-    → asked_by p s list caller d start len r ≡ Covers g → Allowed list caller d r g
+pub allowed_changes : {p list q : List ℕ} {s : Shape} {caller d start len r n : ℕ} {g : Region} {c : Result Ending Refusal}
+    → asked_by p s list caller d start len r ≡ Ok g → Allowed list caller d r g
     → ChangesBy p s list caller d start len r n c q → Changes p s d start len r n c q
 allowed_changes e o (not_asked k f) = absurd (not_both e f)
 allowed_changes e o (not_allowed g f n) = absurd (n (rw (one_asked e f) at o))
 allowed_changes e o (allowed g f u x) = x
 
 -- One outcome for each input.
-pub one_change_by : {p list : List ℕ} {s : Shape} {caller d start len r n : ℕ} {a b : Answer} {x y : List ℕ}
+pub one_change_by : {p list : List ℕ} {s : Shape} {caller d start len r n : ℕ} {a b : Result Ending Refusal} {x y : List ℕ}
     → ChangesBy p s list caller d start len r n a x → ChangesBy p s list caller d start len r n b y → Agree a x b y
-one_change_by (not_asked k e) (not_asked m f) = (ap Refused (one_unasked e f), refl)
+one_change_by (not_asked k e) (not_asked m f) = (ap Err (one_unasked e f), refl)
 one_change_by (not_asked k e) (not_allowed g f n) = absurd (not_both f e)
 one_change_by (not_asked k e) (allowed g f o x) = absurd (not_both f e)
 one_change_by (not_allowed g e n) (not_asked m f) = absurd (not_both e f)

@@ -1,56 +1,38 @@
 -- A list whose regions are disjoint stays so: through making, passing on and giving an export. A region made shares no
 -- word with one held, and one stored over another holds the same words.
-use Prim.Native.Nat.{ℕ, ◌≤◌, ◌<◌}
+use Prim.Native.Nat.{ℕ, ◌≤◌, ◌<◌, min, max}
 use mathlib.Core.Path.{◌≡◌, refl, sym, ap, ◌∙◌}
 use mathlib.Core.Bool.{true, false, ◌&&◌, true≢false}
 use mathlib.Core.List.{List}
 use native.Mathlib.Omega.{arith}
 use native.Mathlib.Decide.{dec_lt, ℕ_discrete}
-use borrow.Author.Tests.{eqb-true, ltb-true, ltb-false, lt-ltb}
+use borrow.Author.Tests.{eqb-true, ltb-true, lt-ltb}
 use lib.Dec.{ltb, leb}
 use lib.ListN.{length}
-use Rattle.theory.proofs.Logic.{by_cases, and_both}
+use Rattle.theory.proofs.Logic.{and_both}
 use Rattle.words.specs.declared.Region.{Region}
 use Rattle.owners.specs.declared.Owned.{Owned}
 use Rattle.owners.specs.Regions.{list_long, max_regions, region_at, count_of, holds, place_of, Disjoint}
-use Rattle.owners.specs.Calls.{Outcome, lesser, greater, meets, same_words, fresh_region, put_at, added, with_export}
+use Rattle.owners.specs.Calls.{Outcome, meets, same_words, fresh_region, put_at, added, with_export}
 use Rattle.owners.specs.Calls.{make_of, pass_of, give_of}
 use Rattle.owners.proofs.PlaceLaws.{place_at, place_before}
-use Rattle.owners.proofs.ReachLaws.{held_word, word_held, lesser_above}
+use Rattle.owners.proofs.ReachLaws.{held_word, word_held}
 use Rattle.owners.proofs.CallLaws.{owned_held}
 use Rattle.owners.proofs.StoreLaws.{put_same, put_other, put_count, added_count, added_last, added_other}
 use Rattle.owners.proofs.OutcomeLaws.{Ends, kept, done, Made, Owns, make_ends, pass_ends}
 use Rattle.owners.proofs.OutcomeLaws.{give_ends}
 
-greater_below : (a b w : ℕ) → a ≤ w → b ≤ w → greater a b ≤ w
-greater_below a b w g h = by_cases (ltb a b) (λ e. rw e h) (λ e. rw e g)
-
 -- Regions meet exactly where they share a word.
 pub apart_word : (a : Region) (r : Owned) (w : ℕ) → meets a r ≡ false → a.lo ≤ w → w < a.hi → holds w r ≡ true → ⊥
 apart_word a r w m g h e =
     let p = held_word r w e in
-    let lo = greater_below a.lo r.lo w g p.0 in
-    let hi = lesser_above w a.hi r.hi h p.1 in
-    true≢false (sym (lt-ltb (greater a.lo r.lo) (lesser a.hi r.hi) (omega arith)) ∙ m)
+    true≢false (sym (lt-ltb (max a.lo r.lo) (min a.hi r.hi) (omega arith)) ∙ m)
 
 pub shared_word : (a : Region) (r : Owned) → meets a r ≡ true
     → (w : ℕ) × (a.lo ≤ w) × (w < a.hi) × (holds w r ≡ true)
 shared_word a r m =
-    let w = greater a.lo r.lo in
-    let b = ltb-true w (lesser a.hi r.hi) m in
-    let p : (a.lo ≤ w) × (r.lo ≤ w) = by_cases (ltb a.lo r.lo)
-    (λ e. let h = ltb-true a.lo r.lo e in rw e (omega arith, omega arith))
-    (λ e. let h = ltb-false a.lo r.lo e in rw e (omega arith, omega arith)) in
-    let q : (w < a.hi) × (w < r.hi) = by_cases (ltb a.hi r.hi)
-    (λ e.
-    let h = ltb-true a.hi r.hi e in
-    let z : lesser a.hi r.hi ≡ a.hi = rw e in
-    (omega arith, omega arith))
-    (λ e.
-    let h = ltb-false a.hi r.hi e in
-    let z : lesser a.hi r.hi ≡ r.hi = rw e in
-    (omega arith, omega arith)) in
-    (w, p.0, q.0, word_held r w p.1 q.1)
+    let b = ltb-true (max a.lo r.lo) (min a.hi r.hi) m in
+    (max a.lo r.lo, omega arith, omega arith, word_held r (max a.lo r.lo) (omega arith) (omega arith))
 
 -- A region that meets none has none of their words.
 pub apart_all : (list : List ℕ) (a : Region) → count_of list ≤ place_of list (meets a) → (j w : ℕ) → j < count_of list
@@ -120,7 +102,7 @@ owns_disjoint list caller a o r =
 ends_disjoint : {list : List ℕ} {Done : List ℕ → Type 0} {x : Outcome}
     → ((after : List ℕ) → Done after → Disjoint list → Disjoint after)
     → Ends list Done x → Disjoint list → Disjoint x.list
-ends_disjoint f (kept n h) d = d
+ends_disjoint f (kept k) d = d
 ends_disjoint f (done after m) d = f after m d
 
 module _ (D : ℕ) (list : List ℕ) (caller other start len : ℕ) (disjoint : Disjoint list) where

@@ -9,7 +9,7 @@ use Rattle.words.specs.Region.{region_of}
 use Rattle.owners.specs.declared.Owned.{Owned}
 use Rattle.owners.specs.Regions.{region_at, count_of, first_from, holds, place_of}
 use Rattle.owners.specs.Rules.{no_greater, exports, may_in, may_word, every_word, allowed_of}
-use Rattle.owners.specs.Calls.{owned_words, asked_of, made, passed, gave, make_of, pass_of, give_of}
+use Rattle.owners.specs.Calls.{numbers, owned_words, asked_of, made, passed, gave, make_of, pass_of, give_of}
 
 -- A list with no regions.
 abbrev none : List ℕ
@@ -112,17 +112,17 @@ many = replicate 320 0 ++ 65 ∷ []
 abbrev full : List ℕ
 full = replicate 320 0 ++ 64 ∷ []
 
-makes_refused : (make_of 5 (replicate 320 0) 4 9 0 0).refusal ∷ (make_of 5 many 4 9 0 0).refusal
-    ∷ (make_of 4 many 4 9 0 0).refusal ∷ (make_of 4 full 4 9 0 0).refusal ∷ (make_of 4 full 1 3 4294967294 0).refusal
-    ∷ (make_of 4 full 1 3 4294967292 5).refusal ∷ (make_of 4 full 1 3 4294967292 4).refusal
-    ∷ (make_of 4 full 0 3 4294967292 4).refusal ∷ [] ≡ 101 ∷ 1 ∷ 18 ∷ 2 ∷ 4 ∷ 5 ∷ 19 ∷ 20 ∷ []
+makes_refused : (numbers (make_of 5 (replicate 320 0) 4 9 0 0)).refusal ∷ (numbers (make_of 5 many 4 9 0 0)).refusal
+    ∷ (numbers (make_of 4 many 4 9 0 0)).refusal ∷ (numbers (make_of 4 full 4 9 0 0)).refusal ∷ (numbers (make_of 4 full 1 3 4294967294 0)).refusal
+    ∷ (numbers (make_of 4 full 1 3 4294967292 5)).refusal ∷ (numbers (make_of 4 full 1 3 4294967292 4)).refusal
+    ∷ (numbers (make_of 4 full 0 3 4294967292 4)).refusal ∷ [] ≡ 101 ∷ 1 ∷ 18 ∷ 2 ∷ 4 ∷ 5 ∷ 19 ∷ 20 ∷ []
 unfolding asked_of region_of made first_from
 makes_refused = refl
 
 -- Giving refuses 3 after 2 and before 4; and 19 for words of no region, for another's, and for the caller itself.
-gives_refused : (give_of 4 two 1 4 4 4096 0).refusal ∷ (give_of 4 two 1 3 4 4096 0).refusal
-    ∷ (give_of 4 two 1 3 3 4096 0).refusal ∷ (give_of 4 two 1 3 3 4096 12).refusal ∷ (give_of 4 two 2 3 3 4096 16).refusal
-    ∷ (give_of 4 two 1 1 3 4096 16).refusal ∷ (give_of 4 two 1 3 3 4096 16).refusal ∷ []
+gives_refused : (numbers (give_of 4 two 1 4 4 4096 0)).refusal ∷ (numbers (give_of 4 two 1 3 4 4096 0)).refusal
+    ∷ (numbers (give_of 4 two 1 3 3 4096 0)).refusal ∷ (numbers (give_of 4 two 1 3 3 4096 12)).refusal ∷ (numbers (give_of 4 two 2 3 3 4096 16)).refusal
+    ∷ (numbers (give_of 4 two 1 1 3 4096 16)).refusal ∷ (numbers (give_of 4 two 1 3 3 4096 16)).refusal ∷ []
     ≡ 2 ∷ 3 ∷ 4 ∷ 19 ∷ 19 ∷ 19 ∷ 0 ∷ []
 unfolding asked_of region_of made first_from gave
 gives_refused = refl

@@ -4,10 +4,11 @@ use mathlib.Core.Path.{◌≡◌, ap}
 use mathlib.Core.Bool.{true, ◌&&◌}
 use borrow.Author.Tests.{lt-ltb, eq-eqb}
 use lib.Dec.{eqb, ltb}
+use Rattle.std.specs.Int.{bit_at}
 use Rattle.owners.specs.declared.Owned.{Owned}
 use Rattle.owners.specs.Rules.{export_domains, exports, export_of}
 use Rattle.owners.specs.Calls.{with_bit, with_export}
-use Rattle.owners.proofs.BitLaws.{bit_at, with_bit_set, with_bit_other, with_right_here, with_right_other}
+use Rattle.owners.proofs.BitLaws.{with_bit_set, with_bit_other, with_right_here, with_right_other}
 
 module _ (r : Owned) (d q : ℕ) where
   pub export_given : d < export_domains → exports (with_export r d q) d ≡ true

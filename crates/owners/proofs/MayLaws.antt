@@ -8,8 +8,9 @@ use mathlib.Core.List.{List}
 use lib.Dec.{eqb, ltb}
 use borrow.Author.Tests.{eq-eqb, ne_eqb, ltb-true}
 use Rattle.theory.proofs.Logic.{by_cases}
-use Rattle.words.specs.declared.Rounded.{Rounded}
-use Rattle.words.specs.declared.Rounded.TheVariants.{Covers, Refused}
+use Rattle.std.proofs.Common.{Result, Ok, Err}
+use Rattle.refusals.specs.declared.Refusal.{Refusal}
+use Rattle.words.specs.declared.Region.{Region}
 use Rattle.owners.specs.declared.Owned.{Owned}
 use Rattle.owners.specs.Regions.{region_at, count_of, holds, place_of}
 use Rattle.owners.specs.Rules.{exports, no_greater, export_of, may_in, may_at, may_word}
@@ -59,24 +60,24 @@ module _ (list : List ℕ) (k : ℕ) (other : k ≢ 0) where
     unfolding made
     makes_nothing D owner start len = go (asked_of (in_range D) list D k owner 0 start len)
       where
-        go : (x : Rounded) → (answered list (made list k owner) x).list ≡ list
-        go (Refused n) = refl
-        go (Covers a) = rw (ne_eqb k 0 other)
+        go : (x : Result Region Refusal) → (answered list (made list k owner) x).list ≡ list
+        go (Err k) = refl
+        go (Ok a) = rw (ne_eqb k 0 other)
 
     -- .. passes none on ..
     pub passes_nothing : (D owner start len : ℕ) → (pass_of D list k owner start len).list ≡ list
     unfolding passed
     passes_nothing D owner start len = go (asked_of (in_range D) list D k owner 0 start len)
       where
-        go : (x : Rounded) → (answered list (passed list k owner) x).list ≡ list
-        go (Refused n) = refl
-        go (Covers a) = rw (owned_none (place_of list (same_words a)))
+        go : (x : Result Region Refusal) → (answered list (passed list k owner) x).list ≡ list
+        go (Err k) = refl
+        go (Ok a) = rw (owned_none (place_of list (same_words a)))
 
     -- .. and gives no export: each is refused, and the list stays as it was.
     pub gives_nothing : (D receiver right start len : ℕ) → (give_of D list k receiver right start len).list ≡ list
     unfolding gave
     gives_nothing D receiver right start len = go (asked_of (in_range D) list D k receiver right start len)
       where
-        go : (x : Rounded) → (answered list (gave list k receiver right) x).list ≡ list
-        go (Refused n) = refl
-        go (Covers a) = rw (owned_none (place_of list (same_words a)))
+        go : (x : Result Region Refusal) → (answered list (gave list k receiver right) x).list ≡ list
+        go (Err k) = refl
+        go (Ok a) = rw (owned_none (place_of list (same_words a)))

@@ -2,8 +2,8 @@
 -- the call makes.
 use Prim.Native.Nat.{ℕ, ◌≤◌, ◌<◌}
 use mathlib.Core.Path.{◌≡◌, refl, sym}
-use mathlib.Core.Logic.{◌≢◌, ⊎_elim}
-use mathlib.Core.Bool.{Bool, true}
+use mathlib.Core.Logic.{◌≢◌}
+use mathlib.Core.Bool.{true}
 use mathlib.Core.List.{List}
 use native.Mathlib.Omega.{arith}
 use borrow.Author.Tests.{eqb-true, eqb-false, ltb-true, ltb-false}
@@ -11,24 +11,25 @@ use lib.Dec.{eqb, ltb}
 use lib.ListN.{length}
 use Rattle.theory.proofs.Logic.{by_cases}
 use Rattle.words.specs.declared.Region.{Region}
-use Rattle.words.specs.declared.Rounded.{Rounded}
-use Rattle.words.specs.declared.Rounded.TheVariants.{Covers, Refused}
+use Rattle.std.proofs.Common.{Result, Ok, Err}
+use Rattle.refusals.specs.declared.Refusal.{Refusal}
+use Rattle.refusals.specs.declared.Refusal.TheVariants.{NotAllowed, RegionsFull}
 use Rattle.owners.specs.Regions.{max_regions, list_long, count_of, region_at, place_of}
-use Rattle.owners.specs.Calls.{Outcome, outcome, asked_of, in_range, answered, meets, same_words, owned_at}
+use Rattle.owners.specs.Calls.{Outcome, outcome, refusal_number, in_range, answered, meets, same_words, owned_at}
 use Rattle.owners.specs.Calls.{fresh_region, put_at, added, with_export, made, passed, gave, make_of, pass_of, give_of}
-use Rattle.owners.proofs.CallLaws.{InOrder, asked_in_order, asked_number, make_not_zero, make_meets}
+use Rattle.owners.proofs.CallLaws.{InOrder, asked_in_order, make_not_zero, make_meets}
 use Rattle.owners.proofs.CallLaws.{make_full, make_adds}
 use Rattle.owners.proofs.CallLaws.{pass_not, pass_goes, give_not, give_self, give_goes}
 
 -- Refused, with the list as it came; or done.
 pub data Ends (list : List ℕ) (Done : List ℕ → Type 0) : Outcome → Type 0 where
-  kept : (n : ℕ) → 0 < n → Ends list Done (outcome n list)
-  done : (after : List ℕ) → Done after → Ends list Done (outcome 0 after)
+  kept : (k : Refusal) → Ends list Done (outcome (Err k) list)
+  done : (after : List ℕ) → Done after → Ends list Done (outcome (Ok tt) after)
 
 -- The list is as it came wherever a refusal is answered.
-pub refused_kept : {list : List ℕ} {Done : List ℕ → Type 0} {x : Outcome} → Ends list Done x → x.refusal ≢ 0
-    → x.list ≡ list
-refused_kept (kept n h) r = refl
+pub refused_kept : {list : List ℕ} {Done : List ℕ → Type 0} {x : Outcome} → Ends list Done x
+    → refusal_number x.answer ≢ 0 → x.list ≡ list
+refused_kept (kept k) r = refl
 refused_kept (done after d) r = absurd (r refl)
 
 -- A region was made: domain 0 asked for words that lie in none, and there was room.
@@ -61,25 +62,17 @@ pub record Gave (list : List ℕ) (caller receiver right : ℕ) (after : List �
   pub now_is : after ≡ put_at list (place_of list (same_words words))
       (with_export (region_at list (place_of list (same_words words))) receiver right)
 
--- A refusal is never 0.
-asked_refusal : (fits : Bool) (list : List ℕ) (D caller other right start len k : ℕ)
-    → asked_of fits list D caller other right start len ≡ Refused k → 0 < k
-asked_refusal fits list D caller other right start len k e =
-    ⊎_elim (λ (lo, hi). lo) (λ w. ⊎_elim (λ z. omega arith) (λ z. omega arith) w)
-    (asked_number fits list D caller other right start len k e)
-
 -- What is answered ends so where what is done with a region in order does.
-answered_ends : {list : List ℕ} {Done : List ℕ → Type 0} (f : Region → Outcome) (x : Rounded)
-    → ((k : ℕ) → x ≡ Refused k → 0 < k) → ((a : Region) → x ≡ Covers a → Ends list Done (f a))
-    → Ends list Done (answered list f x)
-answered_ends f (Refused k) r d = kept k (r k refl)
-answered_ends f (Covers a) r d = d a refl
+answered_ends : {list : List ℕ} {Done : List ℕ → Type 0} (f : Region → Outcome) (x : Result Region Refusal)
+    → ((a : Region) → x ≡ Ok a → Ends list Done (f a)) → Ends list Done (answered list f x)
+answered_ends f (Err k) d = kept k
+answered_ends f (Ok a) d = d a refl
 
 module _ (list : List ℕ) (Done : List ℕ → Type 0) where
-  ends_refused : (n : ℕ) → 0 < n → (x : Outcome) → outcome n list ≡ x → Ends list Done x
-  ends_refused n h x e = rw (sym e) (kept n h)
+  ends_refused : (k : Refusal) → (x : Outcome) → outcome (Err k) list ≡ x → Ends list Done x
+  ends_refused k x e = rw (sym e) (kept k)
 
-  ends_done : (after : List ℕ) → Done after → (x : Outcome) → outcome 0 after ≡ x → Ends list Done x
+  ends_done : (after : List ℕ) → Done after → (x : Outcome) → outcome (Ok tt) after ≡ x → Ends list Done x
   ends_done after d x e = rw (sym e) (done after d)
 
 module _ (D : ℕ) (list : List ℕ) (caller other start len : ℕ) where
@@ -97,10 +90,10 @@ module _ (D : ℕ) (list : List ℕ) (caller other start len : ℕ) where
       let p = place_of list (meets a) in
       by_cases (eqb caller 0)
       (λ z. by_cases (ltb p (count_of list))
-      (λ m. ends_refused list End 19 (omega arith) _
+      (λ m. ends_refused list End NotAllowed _
       (make_meets list caller other a (eqb-true caller 0 z) (ltb-true p (count_of list) m)))
       (λ m. by_cases (eqb (count_of list) max_regions)
-      (λ f. ends_refused list End 20 (omega arith) _ (make_full list caller other a (eqb-true caller 0 z)
+      (λ f. ends_refused list End RegionsFull _ (make_full list caller other a (eqb-true caller 0 z)
       (ltb-false p (count_of list) m) (eqb-true (count_of list) max_regions f)))
       (λ f. ends_done list End (added list (fresh_region other a))
       (record {
@@ -112,7 +105,7 @@ module _ (D : ℕ) (list : List ℕ) (caller other start len : ℕ) where
         now_is = refl;
       }) _ (make_adds list caller other a (eqb-true caller 0 z) (ltb-false p (count_of list) m)
       (eqb-false (count_of list) max_regions f)))))
-      (λ z. ends_refused list End 19 (omega arith) _ (make_not_zero list caller other a (eqb-false caller 0 z)))
+      (λ z. ends_refused list End NotAllowed _ (make_not_zero list caller other a (eqb-false caller 0 z)))
 
   passed_ends : (a : Region) → Right 0 a → Ends list (Passed list caller other) (passed list caller other a)
   passed_ends a o =
@@ -120,7 +113,7 @@ module _ (D : ℕ) (list : List ℕ) (caller other start len : ℕ) where
       by_cases (owned_at list caller (place_of list (same_words a)))
       (λ e. ends_done list End _ (record { words = a; owns = owns 0 a o e; now_is = refl }) _
       (pass_goes list caller other a e))
-      (λ e. ends_refused list End 19 (omega arith) _ (pass_not list caller other a e))
+      (λ e. ends_refused list End NotAllowed _ (pass_not list caller other a e))
 
   gave_ends : (right : ℕ) (a : Region) → Right right a
       → Ends list (Gave list caller other right) (gave list caller other right a)
@@ -128,7 +121,7 @@ module _ (D : ℕ) (list : List ℕ) (caller other start len : ℕ) where
       let End = Gave list caller other right in
       by_cases (owned_at list caller (place_of list (same_words a)))
       (λ e. by_cases (eqb other caller)
-      (λ s. ends_refused list End 19 (omega arith) _ (give_self list caller other right a e (eqb-true other caller s)))
+      (λ s. ends_refused list End NotAllowed _ (give_self list caller other right a e (eqb-true other caller s)))
       (λ s. ends_done list End _ (record {
         words = a;
         owns = owns right a o e;
@@ -136,31 +129,31 @@ module _ (D : ℕ) (list : List ℕ) (caller other start len : ℕ) where
         low = o.low;
         now_is = refl;
       }) _ (give_goes list caller other right a e (eqb-false other caller s))))
-      (λ e. ends_refused list End 19 (omega arith) _ (give_not list caller other right a e))
+      (λ e. ends_refused list End NotAllowed _ (give_not list caller other right a e))
 
   -- The outcomes of the three calls, for every list and every number handed in.
   pub make_ends : Ends list (Made list caller other) (make_of D list caller other start len)
-  make_ends = answered_ends (made list caller other) _ (asked_refusal (in_range D) list D caller other 0 start len)
+  make_ends = answered_ends (made list caller other) _
       (λ a e. made_ends a (asked_in_order (in_range D) list D caller other 0 start len a e))
 
   pub pass_ends : Ends list (Passed list caller other) (pass_of D list caller other start len)
-  pass_ends = answered_ends (passed list caller other) _ (asked_refusal (in_range D) list D caller other 0 start len)
+  pass_ends = answered_ends (passed list caller other) _
       (λ a e. passed_ends a (asked_in_order (in_range D) list D caller other 0 start len a e))
 
   pub give_ends : (right : ℕ) → Ends list (Gave list caller other right) (give_of D list caller other right start len)
   give_ends right =
-      answered_ends (gave list caller other right) _ (asked_refusal (in_range D) list D caller other right start len)
+      answered_ends (gave list caller other right) _
       (λ a e. gave_ends right a (asked_in_order (in_range D) list D caller other right start len a e))
 
   -- A refused call leaves the list as it came.
-  pub make_refused_kept : (make_of D list caller other start len).refusal ≢ 0
+  pub make_refused_kept : refusal_number (make_of D list caller other start len).answer ≢ 0
       → (make_of D list caller other start len).list ≡ list
   make_refused_kept = refused_kept make_ends
 
-  pub pass_refused_kept : (pass_of D list caller other start len).refusal ≢ 0
+  pub pass_refused_kept : refusal_number (pass_of D list caller other start len).answer ≢ 0
       → (pass_of D list caller other start len).list ≡ list
   pass_refused_kept = refused_kept pass_ends
 
-  pub give_refused_kept : (right : ℕ) → (give_of D list caller other right start len).refusal ≢ 0
+  pub give_refused_kept : (right : ℕ) → refusal_number (give_of D list caller other right start len).answer ≢ 0
       → (give_of D list caller other right start len).list ≡ list
   give_refused_kept right = refused_kept (give_ends right)

@@ -1,28 +1,18 @@
 -- Laws of the reach of a verdict: what a region holds, what is left of a stretch once it is passed, and the first
 -- region of every word of the stretch.
-use Prim.Native.Nat.{ℕ, ◌+◌, ◌≤◌, ◌<◌}
+use Prim.Native.Nat.{ℕ, ◌+◌, ◌≤◌, ◌<◌, min}
 use mathlib.Core.Path.{◌≡◌, sym}
 use mathlib.Core.Bool.{true, false}
 use mathlib.Core.List.{List}
 use native.Mathlib.Omega.{arith}
 use native.Mathlib.Decide.{ℕ_discrete}
-use borrow.Author.Tests.{ltb-true, ltb-false, leb-true, lt-ltb, le-leb, lt-leb}
-use lib.Dec.{ltb}
+use borrow.Author.Tests.{ltb-true, leb-true, lt-ltb, le-leb, lt-leb}
 use Rattle.theory.proofs.Logic.{by_cases, and_both}
+use Rattle.std.proofs.Common.{Some, None}
 use Rattle.owners.specs.declared.Owned.{Owned}
-use Rattle.owners.specs.Regions.{region_at, count_of, holds, place_of}
-use Rattle.owners.specs.Calls.{lesser}
-use Rattle.owners.specs.Reach.{Reaches}
-use Rattle.owners.proofs.PlaceLaws.{place_is}
-
-lesser_left : (a b : ℕ) → lesser a b ≤ a
-lesser_left a b = by_cases (ltb a b) (λ e. rw e (omega arith)) (λ e. rw e (ltb-false a b e))
-
-lesser_right : (a b : ℕ) → lesser a b ≤ b
-lesser_right a b = by_cases (ltb a b) (λ e. rw e (let h = ltb-true a b e in omega arith)) (λ e. rw e (omega arith))
-
-pub lesser_above : (w a b : ℕ) → w < a → w < b → w < lesser a b
-lesser_above w a b g h = by_cases (ltb a b) (λ e. rw e g) (λ e. rw e h)
+use Rattle.owners.specs.Regions.{region_at, count_of, holds}
+use Rattle.owners.specs.Reach.{found, Reaches}
+use Rattle.owners.proofs.PlaceLaws.{found_is, found_not}
 
 -- A word is held or it is not.
 pub held_word : (r : Owned) (w : ℕ) → holds w r ≡ true → (r.lo ≤ w) × (w < r.hi)
@@ -48,11 +38,10 @@ one_more list w until last i below here f j v h g b = elim (ℕ_discrete j i) [
 
 -- One that begins above `w` ends the stretch where it begins ..
 pub free_below : (list : List ℕ) (w until i : ℕ) → Free list w until i
-    → Free list w (lesser (region_at list i).lo until) (i + 1)
+    → Free list w (min until (region_at list i).lo) (i + 1)
 free_below list w until i =
     let r = region_at list i in
-    let left = lesser_left r.lo until in
-    one_more list w until (lesser r.lo until) i (lesser_right r.lo until)
+    one_more list w until (min until r.lo) i (omega arith)
     (λ v g b. rw (lt-leb r.lo v (omega arith)))
 
 -- .. and one that ends at or below it leaves the stretch.
@@ -63,25 +52,24 @@ free_above list w until i h =
     one_more list w until until i (omega arith)
     (λ v g b. not_held r v (λ e. let k = (held_word r v e).1 in omega arith))
 
+-- What the reach of a verdict goes by.
+pub ruleset reaching = (free_below, free_above)
+
 -- The region that holds `w` holds the stretch up to its own end.
 pub reach_hit : (list : List ℕ) (w until i : ℕ) → i < count_of list → w < until → (region_at list i).lo ≤ w
     → w < (region_at list i).hi → Free list w until i
-    → Reaches list w (record { place = i; until = lesser (region_at list i).hi until })
+    → Reaches list w (record { place = Some i; until = min until (region_at list i).hi })
 reach_hit list w until i few h from to f =
     let r = region_at list i in
-    let last = lesser r.hi until in
-    let same : (v : ℕ) → w ≤ v → v < last → place_of list (holds v) ≡ i = λ v g b.
-    let left = lesser_left r.hi until in
-    let right = lesser_right r.hi until in
-    place_is list (holds v) i (omega arith) (λ j l. f j v l g (omega arith))
-    (λ l. word_held r v (omega arith) (omega arith)) in
-    let above = lesser_above w r.hi until to h in
-    record { place = sym (same w (omega arith) above); further = above; same = same }
+    let same : (v : ℕ) → w ≤ v → v < min until r.hi → found list (holds v) ≡ Some i = λ v g b.
+    sym (found_is list (holds v) i few (λ j l. f j v l g (omega arith))
+    (word_held r v (omega arith) (omega arith))) in
+    record { place = sym (same w (omega arith) (omega arith)); further = omega arith; same = same }
 
 -- Where none holds `w`, none holds the stretch.
-pub reach_none : (list : List ℕ) (w until i : ℕ) → i ≡ count_of list → w < until → Free list w until i
-    → Reaches list w (record { place = i; until = until })
-reach_none list w until i all h f =
-    let same : (v : ℕ) → w ≤ v → v < until → place_of list (holds v) ≡ i = λ v g b.
-    place_is list (holds v) i (omega arith) (λ j l. f j v l g b) (λ l. absurd (omega arith)) in
+pub reach_none : (list : List ℕ) (w until : ℕ) → w < until → Free list w until (count_of list)
+    → Reaches list w (record { place = None; until = until })
+reach_none list w until h f =
+    let same : (v : ℕ) → w ≤ v → v < until → found list (holds v) ≡ None = λ v g b.
+    sym (found_not list (holds v) (λ j l. f j v l g b)) in
     record { place = sym (same w (omega arith) h); further = h; same = same }

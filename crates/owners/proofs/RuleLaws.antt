@@ -6,14 +6,9 @@ use mathlib.Core.Bool.{Bool, true, false, true≢false}
 use mathlib.Core.List.{List}
 use native.Mathlib.Omega.{arith}
 use native.Mathlib.Decide.{dec_lt, ℕ_discrete}
-use borrow.Author.Tests.{ltb-true}
 use Rattle.theory.proofs.Logic.{and_both}
 use Rattle.words.specs.declared.Region.{Region}
-use Rattle.owners.specs.declared.Owned.{Owned}
-use Rattle.owners.specs.Rules.{export_domains, exports, every_word, may_word, Allowed, allowed_of}
-
-pub export_below : (r : Owned) (k : ℕ) → exports r k ≡ true → k < export_domains
-export_below r k e = ltb-true k export_domains (and_both _ _ e).0
+use Rattle.owners.specs.Rules.{every_word, may_word, Allowed, allowed_of}
 
 module _ (t : ℕ → Bool) where
   -- The words from `w` up to `end`.

@@ -1,37 +1,51 @@
 -- The calls on the list of owned regions: what making, passing on and giving an export answer, and the list that they
 -- leave.
-use Rattle.std.specs.Prelude.{ℕ, ◌+◌, ◌-◌, ◌*◌, ◌/◌, ◌%◌, ◌^◌, Bool, cond, not, ◌&&◌, ◌||◌, List, [], ◌∷◌, length, set, eqb, leb, ltb}
+use Rattle.std.specs.Prelude.{ℕ, ◌+◌, ◌-◌, ◌*◌, ◌/◌, ◌%◌, ◌^◌, Bool, min, max, cond, not, ◌&&◌, ◌||◌, List, [], ◌∷◌, Result, Ok, Err, ⊤, length, set, eqb, leb, ltb}
 use Rattle.std.proofs.lemmas.List.Edits.{sets}
-use Rattle.rows.specs.Lent.{wrong_length}
+use Rattle.refusals.specs.declared.Refusal.{Refusal}
+use Rattle.refusals.specs.declared.Refusal.TheVariants.{NoShape, NoDomain, NoRight, BadState, NotAllowed, RegionsFull}
+use Rattle.refusals.specs.declared.Refusal.TheVariants.{WrongLength}
+use Rattle.refusals.specs.Refusals.{number}
 use Rattle.words.specs.declared.Region.{Region}
-use Rattle.words.specs.declared.Rounded.{Rounded}
-use Rattle.words.specs.declared.Rounded.TheVariants.{Covers, Refused}
 use Rattle.words.specs.Rights.{right_at}
 use Rattle.words.specs.Region.{region_of}
 use Rattle.table.specs.Shape.{max_domains}
-use Rattle.owners.specs.declared.Act.{Act}
-use Rattle.owners.specs.declared.Act.TheVariants.{Make, Pass, Give}
 use Rattle.owners.specs.declared.Owned.{Owned}
 use Rattle.owners.specs.Regions.{max_regions, list_long, count_place, count_of, region_at, place_of}
 use Rattle.owners.specs.Rules.{supervisor}
 
--- What a call hands back: the refusal, 0 for none, and the list that it leaves.
+-- What a call hands back, that it is done or why it is refused, and the list that it leaves.
 pub record Outcome : Type 0 where
+  pub answer : Result ⊤ Refusal
+  pub list : List ℕ
+
+abbrev pub outcome : Result ⊤ Refusal → List ℕ → Outcome
+outcome a list = record { answer = a; list = list }
+
+-- The paper's number for what is handed back, 0 for done; and the list.
+pub record Numbers : Type 0 where
   pub refusal : ℕ
   pub list : List ℕ
 
-abbrev pub outcome : ℕ → List ℕ → Outcome
-outcome n list = record { refusal = n; list = list }
+abbrev pub told : ℕ → List ℕ → Numbers
+told n list = record { refusal = n; list = list }
+
+abbrev pub refusal_number : Result ⊤ Refusal → ℕ
+refusal_number (Ok _) = 0
+refusal_number (Err k) = number k
+
+abbrev pub numbers : Outcome → Numbers
+numbers x = told (refusal_number x.answer) x.list
 
 -- The words of the region that a call asks for; or what is refused up to 5, in the paper's order, with `fits` telling
 -- whether 1 is in order. `other` is the second domain that the call names.
-unfoldable pub asked_of : Bool → List ℕ → ℕ → ℕ → ℕ → ℕ → ℕ → ℕ → Rounded
+unfoldable pub asked_of : Bool → List ℕ → ℕ → ℕ → ℕ → ℕ → ℕ → ℕ → Result Region Refusal
 asked_of fits list D caller other right start len =
-    cond (not (eqb (length list) list_long)) (Refused wrong_length)
-    (cond (not fits) (Refused 1)
-    (cond (ltb max_regions (count_of list)) (Refused 18)
-    (cond (not (ltb caller D && ltb other D)) (Refused 2)
-    (cond (ltb 3 right) (Refused 3)
+    cond (not (eqb (length list) list_long)) (Err WrongLength)
+    (cond (not fits) (Err NoShape)
+    (cond (ltb max_regions (count_of list)) (Err BadState)
+    (cond (not (ltb caller D && ltb other D)) (Err NoDomain)
+    (cond (ltb 3 right) (Err NoRight)
     (region_of start len)))))
 
 -- Where no pool is taken, 1 is D's range.
@@ -39,20 +53,13 @@ abbrev pub in_range : ℕ → Bool
 in_range D = leb 1 D && leb D max_domains
 
 -- What comes of the region asked for; a refusal leaves the list as it came.
-abbrev pub answered : List ℕ → (Region → Outcome) → Rounded → Outcome
-answered list f (Refused n) = outcome n list
-answered list f (Covers a) = f a
-
--- The lesser and the greater of two numbers.
-abbrev pub lesser : ℕ → ℕ → ℕ
-lesser a b = cond (ltb a b) a b
-
-abbrev pub greater : ℕ → ℕ → ℕ
-greater a b = cond (ltb a b) b a
+abbrev pub answered : List ℕ → (Region → Outcome) → Result Region Refusal → Outcome
+answered list f (Err k) = outcome (Err k) list
+answered list f (Ok a) = f a
 
 -- A region asked for and one held share a word: the later beginning is below the earlier end.
 abbrev pub meets : Region → Owned → Bool
-meets a r = ltb (greater a.lo r.lo) (lesser a.hi r.hi)
+meets a r = ltb (max a.lo r.lo) (min a.hi r.hi)
 
 -- Exactly the words of the region asked for.
 abbrev pub same_words : Region → Owned → Bool
@@ -99,50 +106,36 @@ with_export r d q = record {
 -- Making a region: 19 for a caller other than domain 0 and for a region that meets one held, 20 where 64 are held.
 unfoldable pub made : List ℕ → ℕ → ℕ → Region → Outcome
 made list caller owner a =
-    cond (not (eqb caller supervisor) || ltb (place_of list (meets a)) (count_of list)) (outcome 19 list)
-    (cond (eqb (count_of list) max_regions) (outcome 20 list)
-    (outcome 0 (added list (fresh_region owner a))))
+    cond (not (eqb caller supervisor) || ltb (place_of list (meets a)) (count_of list)) (outcome (Err NotAllowed) list)
+    (cond (eqb (count_of list) max_regions) (outcome (Err RegionsFull) list)
+    (outcome (Ok tt) (added list (fresh_region owner a))))
 
 -- Passing a region on: 19 where none of exactly these words is held, or the earliest is not the caller's. Its exports
 -- end.
 unfoldable pub passed : List ℕ → ℕ → ℕ → Region → Outcome
 passed list caller owner a =
     let k = place_of list (same_words a) in
-    cond (owned_at list caller k) (outcome 0 (put_at list k (fresh_region owner a))) (outcome 19 list)
+    cond (owned_at list caller k) (outcome (Ok tt) (put_at list k (fresh_region owner a))) (outcome (Err NotAllowed) list)
 
 -- Giving an export: 19 as in passing on, and for a receiver that is the caller.
 unfoldable pub gave : List ℕ → ℕ → ℕ → ℕ → Region → Outcome
 gave list caller receiver right a =
     let k = place_of list (same_words a) in
     cond (owned_at list caller k && not (eqb receiver caller))
-    (outcome 0 (put_at list k (with_export (region_at list k) receiver right)))
-    (outcome 19 list)
+    (outcome (Ok tt) (put_at list k (with_export (region_at list k) receiver right)))
+    (outcome (Err NotAllowed) list)
 
--- What a call does with the region that it asks for.
-abbrev pub done_of : Act → List ℕ → ℕ → ℕ → Region → Outcome
-done_of Make list caller owner a = made list caller owner a
-done_of Pass list caller owner a = passed list caller owner a
-done_of (Give right) list caller receiver a = gave list caller receiver right a
-
--- The right that it names; making and passing on name none, and 0 is in order.
-abbrev pub right_named : Act → ℕ
-right_named Make = 0
-right_named Pass = 0
-right_named (Give right) = right
-
--- What a call on the list answers and leaves. `other` is the owner or receiver that it names.
-abbrev pub call_of : Act → ℕ → List ℕ → ℕ → ℕ → ℕ → ℕ → Outcome
-call_of act D list caller other start len =
-    answered list (done_of act list caller other) (asked_of (in_range D) list D caller other (right_named act) start len)
-
--- What making a region answers and leaves.
+-- What making a region answers and leaves. It names no right, and 0 is in order.
 abbrev pub make_of : ℕ → List ℕ → ℕ → ℕ → ℕ → ℕ → Outcome
-make_of D list caller owner start len = call_of Make D list caller owner start len
+make_of D list caller owner start len =
+    answered list (made list caller owner) (asked_of (in_range D) list D caller owner 0 start len)
 
--- What passing a region on answers and leaves.
+-- What passing a region on answers and leaves. It names no right either.
 abbrev pub pass_of : ℕ → List ℕ → ℕ → ℕ → ℕ → ℕ → Outcome
-pass_of D list caller owner start len = call_of Pass D list caller owner start len
+pass_of D list caller owner start len =
+    answered list (passed list caller owner) (asked_of (in_range D) list D caller owner 0 start len)
 
 -- What giving an export answers and leaves.
 abbrev pub give_of : ℕ → List ℕ → ℕ → ℕ → ℕ → ℕ → ℕ → Outcome
-give_of D list caller receiver right start len = call_of (Give right) D list caller receiver start len
+give_of D list caller receiver right start len =
+    answered list (gave list caller receiver right) (asked_of (in_range D) list D caller receiver right start len)

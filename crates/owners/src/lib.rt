@@ -6,9 +6,10 @@ ghost use Rattle.owners.specs.Calls.{outcome, asked_of, make_of, pass_of, give_o
 ghost use Rattle.owners.specs.Changes.{ChangesBy};
 ghost use Rattle.owners.specs.Reach.{LeaveIs};
 
-use change::Answer;
+use change::Ending;
+use refusals::Refusal;
 use table::Shape;
-use words::{ByteAddr, Rounded};
+use words::ByteAddr;
 
 mod calls; // calls.rt: what the calls do once they are in order
 mod exports; // exports.rt: an export given inside a region's words
@@ -41,37 +42,16 @@ pub struct Owned {
     pub rights: u32,
 }
 
-// What a call on the list is to do with the region that it names.
-#[derive(Clone, Copy)]
-pub enum Act {
-    Make,
-    Pass,
-    Give(u32),
-}
-
-// What is asked of a region held, beside one that a call names: whether it is of the same words, or shares one.
-#[derive(Clone, Copy)]
-pub enum Asking {
-    Same,
-    Meeting,
-}
-
-// Whether a caller may have a change made; if not, the number of the refusal.
-#[derive(Clone, Copy)]
-pub enum Leave {
-    Given,
-    Refused(u32),
-}
-
-// The number of the region that a memory word lies in (the count for none), and the first word for which that is not
+// The number of the region that a memory word lies in, if it lies in one, and the first word for which that is not
 // known.
 #[derive(Clone, Copy)]
 pub struct Reach {
-    pub place: usize,
+    pub place: Option<usize>,
     pub until: u32,
 }
 
 // A region more, of words that lie in none: domain 0 makes it.
+#[tactic(auto, using(crate::proofs::CallLaws::asking))]
 pub fn make_region(
     domains: u32,
     regions: &mut [u32],
@@ -79,15 +59,17 @@ pub fn make_region(
     owner: u32,
     start: ByteAddr,
     length: u32,
-) -> u32
+) -> Result<(), Refusal>
     ensures { outcome result regions.new ≡ make_of domains regions.old caller owner start.0
         length }
 {
-    let act = Act::Make;
-    calls::call(act, domains, regions, caller, owner, start, length)
+    let fits = calls::in_range(domains);
+    let region = calls::ask(fits, regions, domains, caller, owner, 0, start, length)?;
+    calls::make(regions, caller, owner, region)
 }
 
 // A whole region passed on by its owner, which ends its exports.
+#[tactic(auto, using(crate::proofs::CallLaws::asking))]
 pub fn pass_region(
     domains: u32,
     regions: &mut [u32],
@@ -95,15 +77,17 @@ pub fn pass_region(
     owner: u32,
     start: ByteAddr,
     length: u32,
-) -> u32
+) -> Result<(), Refusal>
     ensures { outcome result regions.new ≡ pass_of domains regions.old caller owner start.0
         length }
 {
-    let act = Act::Pass;
-    calls::call(act, domains, regions, caller, owner, start, length)
+    let fits = calls::in_range(domains);
+    let region = calls::ask(fits, regions, domains, caller, owner, 0, start, length)?;
+    calls::pass(regions, caller, owner, region)
 }
 
 // An export of a right on a whole region, given by its owner to another domain.
+#[tactic(auto, using(crate::proofs::CallLaws::asking))]
 pub fn give_export(
     domains: u32,
     regions: &mut [u32],
@@ -112,12 +96,15 @@ pub fn give_export(
     right: u32,
     start: ByteAddr,
     length: u32,
-) -> u32
+) -> Result<(), Refusal>
     ensures { outcome result regions.new ≡ give_of domains regions.old caller receiver right
         start.0 length }
 {
-    let act = Act::Give(right);
-    calls::call(act, domains, regions, caller, receiver, start, length)
+    let fits = calls::in_range(domains);
+    let region = calls::ask(
+        fits, regions, domains, caller, receiver, right, start, length,
+    )?;
+    calls::give(regions, caller, receiver, right, region)
 }
 
 // Whether a caller may ask for a change: its region is in order and every word that it covers allows it. What this
@@ -131,20 +118,15 @@ fn leave_of(
     right: u32,
     start: ByteAddr,
     length: u32,
-) -> Leave
+) -> Result<(), Refusal>
     ensures { LeaveIs regions.now caller domain right
         (asked_of fits regions.now domains caller domain right start.0 length) result }
 {
-    let asked = calls::ask(fits, regions, domains, caller, domain, right, start, length);
-    match asked {
-        Rounded::Refused(k) => Leave::Refused(k),
-        Rounded::Covers(region) => {
-            let allowed = rules::allowed(regions, caller, domain, right, region);
-            if !allowed {
-                return Leave::Refused(19);
-            }
-            Leave::Given
-        }
+    let region = calls::ask(fits, regions, domains, caller, domain, right, start, length)?;
+    if rules::allowed(regions, caller, domain, right, region) {
+        Ok(())
+    } else {
+        Err(Refusal::NotAllowed)
     }
 }
 
@@ -159,16 +141,20 @@ pub fn change_by(
     length: u32,
     right: u32,
     allowance: u32,
-) -> Answer
+) -> Result<Ending, Refusal>
     ensures { ChangesBy pool.old shape regions.now caller domain start.0 length right
         allowance result pool.new }
 {
-    let n = pool.len();
-    let fits = table::shape_fits(shape, n);
-    let domains = shape.domains;
-    let leave = leave_of(fits, regions, domains, caller, domain, right, start, length);
-    match leave {
-        Leave::Refused(k) => Answer::Refused(k),
-        Leave::Given => change::change(pool, shape, domain, start, length, right, allowance),
-    }
+    let fits = table::shape_fits(shape, pool.len());
+    leave_of(
+        fits,
+        regions,
+        shape.domains,
+        caller,
+        domain,
+        right,
+        start,
+        length,
+    )?;
+    change::change(pool, shape, domain, start, length, right, allowance)
 }

@@ -6,11 +6,10 @@ use mathlib.Core.List.{List, [], ◌∷◌, ◌++◌, append_assoc, append-nil}
 use lib.ListN.{length, take, drop}
 use lib.Seq.{length-take-le}
 use borrow.Author.Tests.{eq-eqb}
-use Rattle.lines.specs.declared.Parsed.{Parsed}
-use Rattle.lines.specs.declared.Found.{Found}
-use Rattle.lines.specs.declared.Found.TheVariants.{Line, Nothing}
+use Rattle.std.proofs.Common.{Option, Some, None}
 use Rattle.lines.specs.declared.LineSoFar.{LineSoFar}
 use Rattle.lines.specs.declared.Fed.{Fed}
+use Rattle.lines.specs.Forms.{Said}
 use Rattle.lines.specs.Feeds.{feed_of, last_of}
 use Rattle.lines.proofs.CallLaws.{feed_moves}
 use Rattle.rights_listing.specs.declared.serving.Served.{Served}
@@ -51,10 +50,10 @@ text_one ns n = text_more 1 0 n ns ∙ ap (λ b. text 1 ns ++ (numeral n ++ b �
 
 module _ {c : List ℕ} {t₀ : LineSoFar} {p₀ out₀ p out : List ℕ} {t : LineSoFar} {at len : ℕ}
     (g : Going c t₀ p₀ out₀ p out t at len) {r : Fed} (e : r ≡ feed_of at t (drop at c)) where
-  fed : {f : Found} → r.found ≡ f → feed_of at t (drop at c) ≡ record { found = f; next = r.next; line = r.line }
+  fed : {f : Option Said} → r.found ≡ f → feed_of at t (drop at c) ≡ record { found = f; next = r.next; line = r.line }
   fed z = sym e ∙ ap (λ f. record { found = f; next = r.next; line = r.line }) z
 
-  pub going_ends : 11 * length c ≤ length out₀ → r.found ≡ Nothing
+  pub going_ends : 11 * length c ≤ length out₀ → r.found ≡ None
       → ServesChunk c t₀ p₀ (record { len = len; line = r.line }) p out
   going_ends h z =
       let l = g.inside in
@@ -68,7 +67,7 @@ module _ {c : List ℕ} {t₀ : LineSoFar} {p₀ out₀ p out : List ℕ} {t : L
         inside = (i, sym (length-take-le len out i));
       }
 
-  module _ {said : Parsed} (z : r.found ≡ Line said) where
+  module _ {said : Said} (z : r.found ≡ Some said) where
     pub going_moves : (at < r.next) × (r.next ≤ length c)
     going_moves = rw (← e) at (feed_moves c at t (ap (λ f. f.found) (sym e) ∙ z))
 
@@ -89,7 +88,7 @@ module _ {c : List ℕ} {t₀ : LineSoFar} {p₀ out₀ p out : List ℕ} {t : L
         }
 
 -- The end of the input.
-pub last_none : {t : LineSoFar} {p out : List ℕ} → last_of t ≡ Nothing → ServesLast t p 0 p out
+pub last_none : {t : LineSoFar} {p out : List ℕ} → last_of t ≡ None → ServesLast t p 0 p out
 last_none {out = out} e = record {
   numbers = [];
   last = none e;
@@ -97,7 +96,7 @@ last_none {out = out} e = record {
   inside = (omega arith, refl);
 }
 
-pub last_one : (out : List ℕ) {t : LineSoFar} {p q last : List ℕ} {said : Parsed} {k m : ℕ} → last_of t ≡ Line said
+pub last_one : (out : List ℕ) {t : LineSoFar} {p q last : List ℕ} {said : Said} {k m : ℕ} → last_of t ≡ Some said
     → Serves p said k q → m ≤ length last → take m last ≡ take 0 out ++ (numeral k ++ 10 ∷ [])
     → ServesLast t p m q last
 last_one out {last = last} {k = k} {m = m} e s i w = record {
@@ -110,15 +109,15 @@ last_one out {last = last} {k = k} {m = m} e s i w = record {
 -- ---- One outcome.
 
 -- A line is found or none is.
-line_not_nothing : {f : Found} {said : Parsed} → f ≡ Nothing → f ≡ Line said → ⊥
+line_not_nothing : {f : Option Said} {said : Said} → f ≡ None → f ≡ Some said → ⊥
 line_not_nothing e z = let y : ◌≡◌ {A = ℕ} 0 1 = cc in omega arith
 
 -- A line found says one thing.
-same_line : {f : Found} {said told : Parsed} → f ≡ Line said → f ≡ Line told → said ≡ told
+same_line : {f : Option Said} {said told : Said} → f ≡ Some said → f ≡ Some told → said ≡ told
 same_line e z = cc
 
 -- A feed has one outcome.
-same_fed : {f : Fed} {g h : Found} {n m : ℕ} {t u : LineSoFar} → f ≡ record { found = g; next = n; line = t }
+same_fed : {f : Fed} {g h : Option Said} {n m : ℕ} {t u : LineSoFar} → f ≡ record { found = g; next = n; line = t }
     → f ≡ record { found = h; next = m; line = u } → (g ≡ h) × (n ≡ m) × (t ≡ u)
 same_fed e z = let y = sym e ∙ z in (ap (λ f. f.found) y, ap (λ f. f.next) y, ap (λ f. f.line) y)
 

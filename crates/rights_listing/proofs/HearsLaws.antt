@@ -4,25 +4,25 @@ use native.Mathlib.Omega.{arith}
 use mathlib.Core.Path.{◌≡◌, refl, ◌∙◌}
 use mathlib.Core.List.{List, [], ◌∷◌, ◌++◌, append_assoc, map, flatten}
 use lib.ListN.{length, length-append}
-use Rattle.lines.specs.declared.Parsed.{Parsed}
 use Rattle.lines.specs.declared.LineSoFar.{LineSoFar}
 use Rattle.lines.specs.Cuts.{lines_of}
-use Rattle.lines.specs.Forms.{parse_of}
+use Rattle.lines.specs.Forms.{Said, parse_of}
 use Rattle.lines.specs.Feeds.{blank_line, Feeding}
 use Rattle.lines.specs.Feeds as feeds
 use Rattle.lines.proofs.FeedLaws.{feeding_lines}
-use Rattle.rights_listing.specs.declared.Came.TheVariants.{Chunk as AChunk, End, NotRead, NotWritten}
-use Rattle.rights_listing.specs.declared.Heard.{Heard}
-use Rattle.rights_listing.specs.declared.Ending.TheVariants.{TooLong, NoInput, NoOutput}
+use Rattle.std.specs.Prelude.{⊤, IfErr}
+use Rattle.std.proofs.Common.{true, false, Result, Ok, Err}
+use Rattle.rights_listing.specs.declared.Stopped.{Stopped}
+use Rattle.rights_listing.specs.declared.Stopped.TheVariants.{TooLong, NoInput, NoOutput}
 use Rattle.rights_listing.specs.declared.serving.Served.{Served}
-use Rattle.rights_listing.specs.Serves.{Replies, Chunk, ServesChunk, Last, Hears}
+use Rattle.rights_listing.specs.Serves.{Replies, Chunk, ServesChunk, Last, ServesLast, Hears}
 use Rattle.rights_listing.specs.Serves.{HearsOnce, HearsLast, Chunks, most_chunks, HearsAll}
 use Rattle.rights_listing.specs.Serves as serves
 use Rattle.rights_listing.proofs.ServesLaws.{one_replies}
 
 -- What was heard, as what was said and how it was answered.
 record Answered (cs : List (List ℕ)) (at : ℕ) (t : LineSoFar) (p ns q : List ℕ) : Type 0 where
-  said : List Parsed
+  said : List Said
   fed : Feeding cs at t said
   replies : Replies p said ns q
 
@@ -64,68 +64,57 @@ chunks_then (serves.more {c = c} {cs = cs} {ks = ks} {ns = ms} g s k) h =
 -- A chunk of `n` bytes was served; its answers were written, or not.
 module _ {c p q out : List ℕ} {t : LineSoFar} {r : Served} {n : ℕ} (s : ServesChunk c t p r q out) (l : n ≡ length c)
     (e : n ≡ 0 → ⊥) where
-  pub hears_chunk : HearsOnce t p (record { line = r.line; came = AChunk }) q
+  pub hears_chunk : HearsOnce t p (Ok true) r.line q
   hears_chunk = serves.chunk {c = c} (omega arith) s.chunk
 
-  pub hears_unwritten : HearsOnce t p (record { line = r.line; came = NotWritten }) q
+  pub hears_unwritten : HearsOnce t p (Err NoOutput) r.line q
   hears_unwritten = serves.not_written {c = c} (omega arith) s.chunk
 
--- What was heard of the turns that there are, while `turns` of them are left.
-pub record Hearing (p₀ : List ℕ) (t : LineSoFar) (p : List ℕ) (turns : ℕ) : Type 0 where
+-- The end of the input was served; its answer was written, or not.
+module _ {p q out : List ℕ} {t : LineSoFar} {n : ℕ} (s : ServesLast t p n q out) where
+  pub hears_last : (r : Result ⊤ Stopped) → IfErr r (λ e. e ≡ NoOutput) → HearsLast t p r q
+  hears_last (Ok x) h = serves.last_written s.last
+  hears_last (Err e) h = rw h (serves.last_not_written s.last)
+
+-- What was heard in `n` turns.
+pub record Hearing (p₀ : List ℕ) (t : LineSoFar) (p : List ℕ) (n : ℕ) : Type 0 where
   pub chunks : List (List ℕ)
   pub numbers : List ℕ
   pub heard : Chunks blank_line p₀ chunks numbers t p
-  pub many : length chunks + turns ≡ most_chunks
+  pub many : length chunks ≡ n
   pub long : length p ≡ length p₀
 
 -- Nothing was heard yet.
-pub hearing_begins : {p : List ℕ} {t : LineSoFar} → t ≡ blank_line → Hearing p t p most_chunks
-hearing_begins e = record { chunks = []; numbers = []; heard = rw e serves.none; many = omega arith; long = refl }
+pub hearing_begins : {p : List ℕ} {t : LineSoFar} → t ≡ blank_line → Hearing p t p 0
+hearing_begins e = record { chunks = []; numbers = []; heard = rw e serves.none; many = refl; long = refl }
 
 -- The turns ran out.
-pub hearing_out : {p q : List ℕ} {t : LineSoFar} {turns : ℕ} → Hearing p t q turns → turns ≡ 0 → HearsAll p TooLong q
-hearing_out h e = let m = h.many in serves.too_long h.heard (omega arith)
+pub hearing_out : {p q : List ℕ} {t : LineSoFar} {n : ℕ} → Hearing p t q n → n ≡ most_chunks
+    → HearsAll p (Err TooLong) q
+hearing_out h e = serves.too_long h.heard (h.many ∙ e)
 
--- Two outcomes of a reading are never the same, or 0 would be 1.
-never : ◌≡◌ {A = ℕ} 0 1 → ⊥
-never e = omega arith
-
-module _ {p₀ p : List ℕ} {t : LineSoFar} {turns : ℕ} (g : Hearing p₀ t p turns) where
+module _ {p₀ p : List ℕ} {t : LineSoFar} {n : ℕ} (g : Hearing p₀ t p n) where
   -- A chunk more.
   heard_more : {c q ks : List ℕ} {u : LineSoFar} → 0 < length c → Chunk c 0 t p ks u q
       → Chunks blank_line p₀ (g.chunks ++ c ∷ []) (g.numbers ++ ks) u q
   heard_more s k = serves.more g.heard s k
 
-  -- A chunk came, and its answers were written: a turn less is left.
-  pub hearing_on : {r : Heard} {q : List ℕ} → HearsOnce t p r q → r.came ≡ AChunk → 0 < turns → length q ≡ length p
-      → Hearing p₀ r.line q (turns - 1)
-  hearing_on serves.nothing e h l = absurd (never (cc))
-  hearing_on serves.not_read e h l = absurd (never (cc))
-  hearing_on (serves.not_written s k) e h l = absurd (never (cc))
-  hearing_on (serves.chunk {c = c} s k) e h l =
+  -- A chunk came, and its answers were written: a turn more.
+  pub hearing_on : {u : LineSoFar} {q : List ℕ} → HearsOnce t p (Ok true) u q → length q ≡ length p
+      → Hearing p₀ u q (n + 1)
+  hearing_on (serves.chunk {c = c} s k) l =
       let m = g.many in
       let z = length-append g.chunks (c ∷ []) in
       record { chunks = _; numbers = _; heard = heard_more s k; many = omega arith; long = l ∙ g.long }
 
-  -- No more could be read.
-  pub hearing_not_read : {r : Heard} {q : List ℕ} → HearsOnce t p r q → r.came ≡ NotRead → HearsAll p₀ NoInput q
-  hearing_not_read serves.nothing e = absurd (never (cc))
-  hearing_not_read serves.not_read e = serves.no_input g.heard
-  hearing_not_read (serves.not_written s k) e = absurd (never (cc))
-  hearing_not_read (serves.chunk s k) e = absurd (never (cc))
-
-  -- A chunk came, and its answers could not be written.
-  pub hearing_not_written : {r : Heard} {q : List ℕ} → HearsOnce t p r q → r.came ≡ NotWritten
-      → HearsAll p₀ NoOutput q
-  hearing_not_written serves.nothing e = absurd (never (cc))
-  hearing_not_written serves.not_read e = absurd (never (cc))
-  hearing_not_written (serves.not_written s k) e = serves.no_output (heard_more s k)
-  hearing_not_written (serves.chunk s k) e = absurd (never (cc))
+  -- It stopped: no more could be read, or the answers not be written.
+  pub hearing_stops : {e : Stopped} {u : LineSoFar} {q : List ℕ} → HearsOnce t p (Err e) u q → HearsAll p₀ (Err e) q
+  hearing_stops serves.not_read = serves.no_input g.heard
+  hearing_stops (serves.not_written s k) = serves.no_output (heard_more s k)
 
   -- The input came to its end.
-  pub hearing_ends : {r : Heard} {q z : List ℕ} → HearsOnce t p r q → r.came ≡ End → (h : HearsLast r.line q z)
-      → Hears (g.chunks ++ []) blank_line p₀ (g.numbers ++ h.numbers) z
-  hearing_ends serves.nothing e h = chunks_then g.heard (serves.ended h.last)
-  hearing_ends serves.not_read e h = absurd (never (cc))
-  hearing_ends (serves.not_written s k) e h = absurd (never (cc))
-  hearing_ends (serves.chunk s k) e h = absurd (never (cc))
+  pub hearing_ends : {u : LineSoFar} {q z : List ℕ} {r : Result ⊤ Stopped} → HearsOnce t p (Ok false) u q
+      → HearsLast u q r z → HearsAll p₀ r z
+  hearing_ends serves.nothing (serves.last_written l) = serves.whole_input (chunks_then g.heard (serves.ended l))
+  hearing_ends serves.nothing (serves.last_not_written l) =
+      serves.no_last_output (chunks_then g.heard (serves.ended l))

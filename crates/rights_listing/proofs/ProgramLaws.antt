@@ -13,7 +13,7 @@ use Rattle.table.proofs.FreshWordLaws.{fresh_settled}
 use Rattle.change.specs.declared.Answer.{Answer}
 use Rattle.change.specs.Answers.{Changes}
 use Rattle.change.specs.Answers as answers
-use Rattle.lines.specs.declared.Parsed.{Parsed}
+use Rattle.lines.specs.Forms.{Said}
 use Rattle.lines.specs.Feeds.{blank_line}
 use Rattle.listing.specs.Runs.{memory_words}
 use Rattle.listing.specs.Listing.{word_right}
@@ -76,7 +76,7 @@ good_change g (answers.in_order x o (answers.cut t q z)) =
     absurd (never_cut refl (answers.in_order x o (answers.cut t q z)))
 
 -- and so do all the lines.
-good_replies : {p q : List ℕ} {said : List Parsed} {ns : List ℕ} → Good p → Replies p said ns q → Good q
+good_replies : {p q : List ℕ} {said : List Said} {ns : List ℕ} → Good p → Replies p said ns q → Good q
 good_replies g serves.none = g
 good_replies g (serves.next not_of_form r) = good_replies g r
 good_replies g (serves.next (request c) r) = good_replies (good_change g c) r

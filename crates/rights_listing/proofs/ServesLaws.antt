@@ -15,8 +15,9 @@ use Rattle.change.specs.Answers.{numbers, Changes}
 use Rattle.change.specs.Answers as answers
 use Rattle.change.proofs.AnswerLaws.{done_cut, refused_cut, same_number}
 use Rattle.change.proofs.ChangesLaws.{one_change}
-use Rattle.lines.specs.declared.Parsed.{Parsed}
-use Rattle.lines.specs.declared.Parsed.TheVariants.{Request, NotOfForm}
+use Rattle.std.proofs.Common.{Err}
+use Rattle.lines.specs.declared.NotOfForm.{NotOfForm}
+use Rattle.lines.specs.Forms.{Said, asks, no_form}
 use Rattle.rights_listing.specs.Serves.{whole, suffices, Serves, not_of_form, request, Replies, none, next}
 
 -- ---- One line.
@@ -49,11 +50,11 @@ never_cut {p = p} e (answers.in_order g o (answers.cut t x z)) =
     omega arith
 
 -- A request is answered by its change.
-pub serves_request : {p q : List ℕ} {d start len r k : ℕ} {said : Parsed} {a : Answer} → said ≡ Request d start len r
+pub serves_request : {p q : List ℕ} {d start len r k : ℕ} {said : Said} {a : Answer} → said ≡ asks d start len r
     → (numbers a).refusal ≡ k → Changes p whole d start len r suffices a q → Serves p said k q
 serves_request e z h = rw (e, ← z) (request h)
 
-pub serves_none : {p : List ℕ} {said : Parsed} → said ≡ NotOfForm → Serves p said 99 p
+pub serves_none : {p : List ℕ} {said : Said} {e : NotOfForm} → said ≡ Err e → Serves p said 99 p
 serves_none e = rw e not_of_form
 
 -- ---- 0 means done.
@@ -74,7 +75,7 @@ refused_some e (answers.in_order g o (answers.done t q z)) = let y : ◌≡◌ {
 refused_some e (answers.in_order g o (answers.cut t x z)) = let y : ◌≡◌ {A = ℕ} 0 1 = cc in omega arith
 
 -- A request that is answered with 0 was done.
-pub zero_done : {p q : List ℕ} {d start len r k : ℕ} → k ≡ 0 → Serves p (Request d start len r) k q
+pub zero_done : {p q : List ℕ} {d start len r k : ℕ} → k ≡ 0 → Serves p (asks d start len r) k q
     → (n : ℕ) × Changes p whole d start len r suffices (Done n) q
 zero_done {p} {q} {d} {start} {len} {r} e (request {a = a} h) = go a e h
   where
@@ -87,12 +88,12 @@ zero_done {p} {q} {d} {start} {len} {r} e (request {a = a} h) = go a e h
 -- ---- One outcome.
 
 -- A line has one answer, and leaves one pool.
-pub one_answer : {p x y : List ℕ} {said : Parsed} {k m : ℕ} → Serves p said k x → Serves p said m y → (k ≡ m) × (x ≡ y)
+pub one_answer : {p x y : List ℕ} {said : Said} {k m : ℕ} → Serves p said k x → Serves p said m y → (k ≡ m) × (x ≡ y)
 one_answer not_of_form not_of_form = (refl, refl)
 one_answer (request a) (request b) = let z = one_change a b in (ap (λ c. (numbers c).refusal) z.0, z.1)
 
 -- So have lines one after the other.
-pub one_replies : {p x y : List ℕ} {said : List Parsed} {ks ms : List ℕ} → Replies p said ks x → Replies p said ms y
+pub one_replies : {p x y : List ℕ} {said : List Said} {ks ms : List ℕ} → Replies p said ks x → Replies p said ms y
     → (ks ≡ ms) × (x ≡ y)
 one_replies none none = (refl, refl)
 one_replies (next a r) (next b t) =

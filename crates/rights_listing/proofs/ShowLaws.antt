@@ -17,7 +17,9 @@ use Rattle.listing.specs.Listing.{word_right}
 use Rattle.listing.proofs.RunLaws.{one_all_runs}
 use Rattle.listing.proofs.ScanLaws.{listing_all}
 use Rattle.listing.proofs.ListingLaws.{listing_few}
-use Rattle.rights_listing.specs.declared.Shown.{Shown}
+use Rattle.std.proofs.Common.{Result, Ok, Err}
+use Rattle.rights_listing.specs.declared.Stopped.{Stopped}
+use Rattle.rights_listing.specs.declared.Stopped.TheVariants.{NoOutput}
 use Rattle.rights_listing.specs.declared.pages.Page.{Page}
 use Rattle.rights_listing.specs.Text.{text}
 use Rattle.rights_listing.specs.Serves.{whole}
@@ -58,26 +60,40 @@ pub record Showing (p : List ℕ) (count : ℕ) : Type 0 where
 pub showing_begins : (p : List ℕ) → Showing p 0
 showing_begins p = record { bytes = []; rest = λ k more h. rw (zero-add k) h; fits = omega arith }
 
-module _ {p : List ℕ} {count : ℕ} {r : Shown} (g : Showing p count) (h : HandsOver p (count * 1024) r) where
+-- A page that was handed over: `left` runs come after it.
+record Handed (p : List ℕ) (from left : ℕ) : Type 0 where
+  page : Page
+  out : List ℕ
+  shows : ShowsPage p from page out
+  is : page.left ≡ left
+
+handed : {p : List ℕ} {from left : ℕ} → HandsOver p from (Ok left) → Handed p from left
+handed (pages.written {g = g} {out = out} s) = record { page = g; out = out; shows = s; is = refl }
+
+-- It could not be written.
+pub showing_stops : {p : List ℕ} {from : ℕ} {e : Stopped} → HandsOver p from (Err e) → ShowsAll p (Err e)
+showing_stops (pages.not_written s) = pages.no_page
+
+module _ {p : List ℕ} {count left : ℕ} (g : Showing p count) (h : HandsOver p (count * 1024) (Ok left)) where
   -- Nothing is left after this page.
-  pub showing_ends : r.left ≡ 0 → ShowsAll p (count + 1)
-  showing_ends e = to_the_last (g.rest 1 _ (pages.last h.shows (sym h.left ∙ e)))
+  pub showing_ends : left ≡ 0 → ShowsAll p (Ok (count + 1))
+  showing_ends e = let k = handed h in to_the_last (g.rest 1 _ (pages.last k.shows (k.is ∙ e)))
 
   -- Runs are left after this page: it is within the listing, and one page more was handed over.
-  module _ (e : r.left ≢ 0) where
-    real : h.page.left ≢ 0
-    real z = e (h.left ∙ z)
+  module _ (e : left ≢ 0) where
+    real : (handed h).page.left ≢ 0
+    real z = e (sym (handed h).is ∙ z)
 
     pub showing_less : count * 1024 + 1024 < length (runs p)
-    showing_less = page_left h.shows real
+    showing_less = page_left (handed h).shows real
 
     pub showing_on : Showing p (count + 1)
-    showing_on = record {
-      bytes = g.bytes ++ take h.page.len h.out;
-      rest = λ k more s.
+    showing_on = let k = handed h in record {
+      bytes = g.bytes ++ take k.page.len k.out;
+      rest = λ i more s.
           let w : (count + 1) * 1024 ≡ count * 1024 + 1024 = omega arith in
-          let y : count + (k + 1) ≡ count + 1 + k = omega arith in
-          rw (append_assoc, ← y) (g.rest (k + 1) _ (pages.next h.shows real (rw w at s)));
+          let y : count + (i + 1) ≡ count + 1 + i = omega arith in
+          rw (append_assoc, ← y) (g.rest (i + 1) _ (pages.next k.shows real (rw w at s)));
       fits = let z = showing_less in let f = runs_few p in omega arith;
     }
 

@@ -10,163 +10,125 @@ mod pages;
 mod serving;
 mod text;
 
+ghost use Rattle.std.specs.Prelude.{◌≡◌, IfErr};
 ghost use Rattle.rights_listing.specs.Serves.{HearsOnce, HearsLast, HearsAll};
 ghost use Rattle.rights_listing.specs.Pages.{HandsOver, ShowsAll};
 
 use lines::LineSoFar;
-use std::io::{Read, Stderr, Stdin, Stdout};
+use std::error::Error;
+use std::fmt;
+use std::io::{Print, Read, Stdin, Stdout};
 
-// Nothing in a contract bounds an input, and a proved loop must end: the greatest number there is, and to come to its
-// end is an outcome of its own.
-const TURNS: u64 = 0xFFFF_FFFF_FFFF_FFFF;
-
-// What came of one reading: a chunk, whose lines were answered; the end of the input; or a reading or writing that
-// failed.
-#[derive(Clone, Copy)]
-enum Came {
-    Chunk,
-    End,
-    NotRead,
-    NotWritten,
-}
-
-// The line that has begun, and what came.
-#[derive(Drop)]
-struct Heard {
-    line: LineSoFar,
-    came: Came,
-}
-
-// How the input ended.
-#[derive(Clone, Copy)]
-enum Ending {
-    Whole,
+// Why the program stops before the end.
+#[derive(Clone, Copy, Debug, PartialEq, Eq)]
+enum Stopped {
     TooLong,
     NoInput,
     NoOutput,
 }
 
-// How many runs come after a page, and whether the page was written.
-#[derive(Clone, Copy)]
-struct Shown {
-    left: usize,
-    written: bool,
+impl fmt::Display for Stopped {
+    fn fmt<W: fmt::Write>(&self, f: &mut fmt::Formatter<W>) -> fmt::Result {
+        match self {
+            Stopped::TooLong => write!(f, "The input is too long."),
+            Stopped::NoInput => write!(f, "The input cannot be read."),
+            Stopped::NoOutput => write!(f, "The output cannot be written."),
+        }
+    }
 }
 
-// Reads once and answers each line that has ended. A chunk comes as soon as there is one, so that each line is
-// answered before the next is waited for.
-fn hear(mut input: Stdin, output: Stdout, pool: &mut [u32], line: LineSoFar) -> Heard
-    ensures { HearsOnce line pool.old result pool.new }
+impl Error for Stopped {}
+
+// Hands bytes over to be written.
+fn write(output: Stdout, bytes: &[u8]) -> Result<(), Stopped>
+    ensures { IfErr result (λ e. e ≡ Stopped.NoOutput) }
+{
+    output.write_all(bytes).map_err(|_| Stopped::NoOutput)
+}
+
+// Reads once and answers each line that has ended: whether a chunk came, or the end of the input. A chunk comes as soon
+// as there is one, so that each line is answered before the next is waited for.
+fn hear(
+    mut input: Stdin,
+    output: Stdout,
+    pool: &mut [u32],
+    line: &mut LineSoFar,
+) -> Result<bool, Stopped>
+    ensures { HearsOnce line.old pool.old result line.new pool.new }
 {
     let mut chunk = [0u8; 4096];
     let Ok(n) = input.read(&mut chunk) else {
-        let came = Came::NotRead;
-        return Heard { line, came };
+        return Err(Stopped::NoInput);
     };
     if n == 0 {
-        let came = Came::End;
-        return Heard { line, came };
+        return Ok(false);
     }
     let mut out = [0u8; 65536];
-    let served = serving::serve(pool, &chunk[..n], line, &mut out);
-    let len = served.len;
-    let rest = served.line;
-    let written = output.write_all(&out[..len]).is_ok();
-    if !written {
-        let came = Came::NotWritten;
-        return Heard { line: rest, came };
-    }
-    let came = Came::Chunk;
-    Heard { line: rest, came }
+    let served = serving::serve(pool, &chunk[..n], *line, &mut out);
+    *line = served.line;
+    write(output, &out[..served.len])?;
+    Ok(true)
 }
 
 // Answers a last line that no newline ended.
-fn hear_last(output: Stdout, pool: &mut [u32], line: LineSoFar) -> bool
-    ensures { HearsLast line pool.old pool.new }
+fn hear_last(output: Stdout, pool: &mut [u32], line: LineSoFar) -> Result<(), Stopped>
+    ensures { HearsLast line pool.old result pool.new }
 {
     let mut out = [0u8; 4096];
     let len = serving::serve_last(pool, line, &mut out);
-    output.write_all(&out[..len]).is_ok()
+    write(output, &out[..len])
 }
 
-// Answers every line, and then a last one that no newline ended.
-fn hear_all(input: Stdin, output: Stdout, pool: &mut [u32]) -> Ending
+// Answers every line, and then a last one that no newline ended. Nothing in a contract bounds an input, and a proved
+// loop must end: it turns as often as a number of 64 bits counts, and to come to that end is an outcome of its own.
+fn hear_all(input: Stdin, output: Stdout, pool: &mut [u32]) -> Result<(), Stopped>
     ensures { HearsAll pool.old result pool.new }
 {
     let mut line = lines::blank_line();
-    let mut turns = TURNS;
-    while turns > 0 {
-        let heard = hear(input, output, pool, line);
-        line = heard.line;
-        let came = heard.came;
-        match came {
-            Came::Chunk => turns -= 1,
-            Came::NotRead => return Ending::NoInput,
-            Came::NotWritten => return Ending::NoOutput,
-            Came::End => {
-                let written = hear_last(output, pool, line);
-                return if written {
-                    Ending::Whole
-                } else {
-                    Ending::NoOutput
-                };
-            }
+    for _ in 0..u64::MAX {
+        let came = hear(input, output, pool, &mut line)?;
+        if !came {
+            return hear_last(output, pool, line);
         }
     }
-    Ending::TooLong
+    Err(Stopped::TooLong)
 }
 
-// Hands a page over to be written.
-fn show(output: Stdout, pool: &[u32], from: u32) -> Shown
+// Hands a page over to be written: how many runs come after it.
+fn show(output: Stdout, pool: &[u32], from: u32) -> Result<usize, Stopped>
     ensures { HandsOver pool.now from result }
 {
     let mut out = [0u8; 65536];
     let page = pages::write_page(pool, from, &mut out);
-    let len = page.len;
-    let left = page.left;
-    let written = output.write_all(&out[..len]).is_ok();
-    Shown { left, written }
+    write(output, &out[..page.len])?;
+    Ok(page.left)
 }
 
-// Writes the listing, page after page until nothing is left: how many pages, or 0 where one could not be written.
-fn show_all(output: Stdout, pool: &[u32]) -> usize
+// Writes the listing, page after page until nothing is left: how many pages.
+fn show_all(output: Stdout, pool: &[u32]) -> Result<usize, Stopped>
     ensures { ShowsAll pool.now result }
 {
     let mut count = 0;
     loop {
-        let shown = show(output, pool, (count * pages::RUNS) as u32);
-        let left = shown.left;
-        let written = shown.written;
-        if !written {
-            return 0;
-        }
+        let left = show(output, pool, (count * pages::RUNS) as u32)?;
         count += 1;
         if left == 0 {
-            return count;
+            return Ok(count);
         }
     }
 }
 
-// Says a sentence on standard error.
-fn say(messages: Stderr, sentence: &[u8]) {
-    let _ = messages.write_all(sentence);
-}
-
-// Hears the input and shows the listing; where it stops before the end of either, it says so.
-fn main(rt: HostRuntime) {
-    let output = rt.stdout();
-    let messages = rt.stderr();
+// Hears the input and shows the listing.
+fn run(input: Stdin, output: Stdout) -> Result<usize, Stopped> {
     let mut pool = [0u32; 16384];
     table::fresh(&mut pool, serving::shape());
-    let ending = hear_all(rt.stdin(), output, &mut pool);
-    match ending {
-        Ending::TooLong => say(messages, b"The input is too long.\n"),
-        Ending::NoInput => say(messages, b"The input cannot be read.\n"),
-        Ending::NoOutput => say(messages, b"The output cannot be written.\n"),
-        Ending::Whole => {
-            if show_all(output, &pool) == 0 {
-                say(messages, b"The output cannot be written.\n");
-            }
-        }
+    hear_all(input, output, &mut pool)?;
+    show_all(output, &pool)
+}
+
+// Where it stops before the end of either, it says so.
+fn main(rt: HostRuntime) {
+    if let Err(stopped) = run(rt.stdin(), rt.stdout()) {
+        let _ = eprintln!(rt; "{stopped}");
     }
 }

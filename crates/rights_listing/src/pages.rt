@@ -18,22 +18,21 @@ pub struct Page {
 }
 
 // The byte after word `i` of the runs: each fourth ends a line.
+#[tactic(auto, unfolding(crate::specs::Text::end_of))]
 fn end_of(i: usize) -> u8
     ensures { result ≡ end_of 4 i }
 {
     if i % 4 == 3 { b'\n' } else { b' ' }
 }
 
-// Writes the first `n` words, four to a line: how many bytes they took.
-fn write_fours(out: &mut [u8], runs: &[u32], n: usize) -> usize
-    requires { (n ≤ length runs.now) × (11 * n ≤ length out.old) }
-    ensures { (result ≤ 11 * n) × (take result out.new ≡ text 4 (take n runs.now)) }
+// Writes words, four to a line: how many bytes they took.
+fn write_fours(out: &mut [u8], words: &[u32]) -> usize
+    requires { 11 * length words.now ≤ length out.old }
+    ensures { (result ≤ 11 * length words.now) × (take result out.new ≡ text 4 words.now) }
 {
     let mut len = 0;
-    let mut i = 0;
-    while i < n {
-        len = write_number(out, len, runs[i], end_of(i));
-        i += 1;
+    for (i, word) in words.iter().enumerate() {
+        len = write_number(out, len, *word, end_of(i));
     }
     len
 }
@@ -43,21 +42,15 @@ pub fn write_page(pool: &[u32], from: u32, out: &mut [u8]) -> Page
     requires { 45056 ≤ length out.old }
     ensures { ShowsPage pool.now from result out.new }
 {
-    let mut runs = [0u32; 4096];
-    let listed = listing::list_runs(pool, shape(), from, &mut runs);
-    let Listed::Runs(n) = listed else {
+    let mut runs = [0u32; 4 * RUNS];
+    let Listed::Runs(n) = listing::list_runs(pool, shape(), from, &mut runs) else {
         return Page { len: 0, left: 0 };
     };
-    let first = from as usize;
-    if n <= first {
-        return Page { len: 0, left: 0 };
+    let rest = n.saturating_sub(from as usize);
+    let now = rest.min(RUNS);
+    let len = write_fours(out, &runs[..4 * now]);
+    Page {
+        len,
+        left: rest - now,
     }
-    let rest = n - first;
-    if rest <= RUNS {
-        let len = write_fours(out, &runs, 4 * rest);
-        return Page { len, left: 0 };
-    }
-    let len = write_fours(out, &runs, 4096);
-    let left = rest - RUNS;
-    Page { len, left }
 }

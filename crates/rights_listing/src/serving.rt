@@ -4,17 +4,17 @@ ghost use Rattle.rights_listing.specs.Serves.{whole, Serves, ServesChunk, Serves
 
 use crate::text::write_number;
 use change::Answer;
-use lines::{Found, LineSoFar, Parsed};
+use lines::{LineSoFar, NotOfForm, Request};
 use table::Shape;
 
 // An allowance that suffices: no pool has as many words.
-const SUFFICES: u32 = 0xFFFF_FFFF;
+const SUFFICES: u32 = u32::MAX;
 
 // The number for a line that is not of the form.
 const NOT_OF_FORM: u32 = 99;
 
 // What came of a chunk: how many bytes were written, and the line that has begun.
-#[derive(Drop)]
+#[derive(Clone, Copy)]
 pub struct Served {
     pub len: usize,
     pub line: LineSoFar,
@@ -32,32 +32,25 @@ pub fn shape() -> Shape
 }
 
 // The number for a line. No change is cut: a pool of this shape has fewer words than the allowance.
-fn reply(pool: &mut [u32], said: Parsed) -> u32
+fn reply(pool: &mut [u32], said: Result<Request, NotOfForm>) -> u32
     ensures { Serves pool.old said result pool.new }
 {
-    match said {
-        Parsed::NotOfForm => NOT_OF_FORM,
-        Parsed::Request {
-            domain,
-            start,
-            length,
-            right,
-        } => {
-            let answer = change::change(
-                pool,
-                shape(),
-                domain,
-                words::byte_addr(start),
-                length,
-                right,
-                SUFFICES,
-            );
-            match answer {
-                Answer::Done(_) => 0,
-                Answer::Cut => 0,
-                Answer::Refused(k) => k,
-            }
-        }
+    let Ok(asked) = said else {
+        return NOT_OF_FORM;
+    };
+    let start = words::byte_addr(asked.start);
+    match change::change(
+        pool,
+        shape(),
+        asked.domain,
+        start,
+        asked.length,
+        asked.right,
+        SUFFICES,
+    ) {
+        Answer::Done(_) => 0,
+        Answer::Cut => 0,
+        Answer::Refused(k) => k,
     }
 }
 
@@ -72,14 +65,15 @@ pub fn serve(pool: &mut [u32], chunk: &[u8], line: LineSoFar, out: &mut [u8]) ->
     let mut len = 0;
     loop {
         let fed = lines::feed(chunk, at, begun);
-        let found = fed.found;
+        let Some(said) = fed.found else {
+            return Served {
+                len,
+                line: fed.line,
+            };
+        };
+        len = write_number(out, len, reply(pool, said), b'\n');
         begun = fed.line;
         at = fed.next;
-        let Found::Line(said) = found else {
-            return Served { len, line: begun };
-        };
-        let n = reply(pool, said);
-        len = write_number(out, len, n, b'\n');
     }
 }
 
@@ -88,10 +82,8 @@ pub fn serve_last(pool: &mut [u32], line: LineSoFar, out: &mut [u8]) -> usize
     requires { 11 ≤ length out.old }
     ensures { ServesLast line pool.old result pool.new out.new }
 {
-    let found = lines::last_line(line);
-    let Found::Line(said) = found else {
-        return 0;
-    };
-    let n = reply(pool, said);
-    write_number(out, 0, n, b'\n')
+    match lines::last_line(line) {
+        None => 0,
+        Some(said) => write_number(out, 0, reply(pool, said), b'\n'),
+    }
 }

@@ -119,8 +119,8 @@ pub fn good_rights(w: u32) -> bool
     BIT_31 <= w && w < 0x8001_0000
 }
 
-// Whether the words are all eight rights. Each is asked, with no way out at the first that is not: so the compiler
-// tests four at a time, where it knows how many there are.
+// Whether the words are all eight rights. Each is asked, with no way out at the first that is not, as `all` would have:
+// so the compiler tests four at a time, where it knows how many there are.
 fn all_rights(words: &[u32]) -> bool
     ensures { result ≡ fold (λ all w. all && good_rights w) true words.now }
 {
@@ -147,6 +147,7 @@ fn pass_by(words: &[u32], step: usize) -> usize
     ensures { (result ≤ length words.now) × (result ≤ prefix_len good_rights words.now) }
 {
     let mut n = 0;
+    // no chain: of chunks_exact, take_while and count the search did not prove that each part passed is eight rights
     while step <= words.len() - n && all_rights(&words[n..n + step]) {
         n += step;
     }

@@ -1,10 +1,13 @@
 -- `show` meets its contract.
+use Rattle.std.proofs.Common.{rules}
+use Rattle.std.proofs.lemmas.Result.{err_from_is_err_and}
+use Rattle.rights_listing.specs.Pages.{written, not_written}
 use Rattle.rights_listing.proofs.PageLaws.{shows_counts}
-use borrow.Author.Rules.{rules}
 use Rattle.rights_listing.proofs.show.Goals as goal
 
-pub slice_bounds-out-end : goal.slice_bounds-out-end
-slice_bounds-out-end c = let z = shows_counts c.write_page-page.ensures in search rules
+pub returns-in_err-write : goal.returns-in_err-write
+returns-in_err-write c = let p = err_from_is_err_and c.from_residual.result c.from_residual.ensures.1 in
+    rw (p.1, p.2, c.in_err-write.ensures) (not_written c.write_page-page.ensures)
 
-pub slice_bounds-write_all-end : goal.slice_bounds-write_all-end
-slice_bounds-write_all-end c = let z = shows_counts c.write_page-page.ensures in search rules
+pub returns : goal.returns
+returns c = written c.write_page-page.ensures

@@ -4,8 +4,8 @@ use lib.ListN.{length}
 use Rattle.rights_listing.proofs.ShowLaws.{runs, Showing}
 use Rattle.rights_listing.proofs.show_all.Given as goal
 
-abbrev pub invariant-loop-output : goal.invariant-loop-output
-invariant-loop-output l = Showing l.pool l.count
+abbrev pub invariant-loop-left : goal.invariant-loop-left
+invariant-loop-left l = Showing l.pool l.count
 
-abbrev pub decreases-loop-output : goal.decreases-loop-output
-decreases-loop-output l = length (runs l.pool) - l.count * 1024
+abbrev pub decreases-loop-left : goal.decreases-loop-left
+decreases-loop-left l = length (runs l.pool) - l.count * 1024

@@ -1,10 +1,9 @@
 -- `targets::part` meets its contract.
-use Prim.Native.Nat.{suc, ◌+◌, ◌*◌, ◌≤◌}
+use Prim.Native.Nat.{suc, ◌+◌, ◌*◌}
 use mathlib.Core.Path.{◌≡◌, ap, ◌∙◌}
 use mathlib.Core.Bool.{true}
 use native.Mathlib.Omega.{arith}
 use borrow.Author.Tests.{lt-ltb}
-use lib.ListN.{length}
 use Rattle.theory.specs.Pool.{words}
 use Rattle.table.specs.Map.{leads}
 use Rattle.targets.proofs.HeightLaws.{Entries, entries}
@@ -31,28 +30,20 @@ word d =
 begin : (d : After-index) → let a = d.args in d.index.result ≡ a.e + d.part_entries-count.result * a.i
 begin d = d.index.ensures ∙ word (goal.at.After-index d).After-after-word
 
--- The entries lie in the pool.
-inside : (k : After-part_entries-count) → let a = k.args in
-    a.e + k.part_entries-count.result * a.i + k.part_entries-count.result ≤ length a.pool.now
-inside k = omega (arith, k.requires.readable.table (lead k), (sub k).inside)
+pub entries_have-all-requires-clause-by_index : goal.entries_have-all-requires-clause-by_index
+entries_have-all-requires-clause-by_index c = λ j l.
+    let at = goal.at.entries_have-all-requires-clause-by_index c in
+    let z = word at.After-after-word in
+    let x = sub at.After-part_entries-count in
+    let y : c.after-word.result.0 + j ≡ c.args.e + (c.part_entries-count.result * c.args.i + j) = omega arith in
+    rw y (c.requires.readable.entries (lead at.After-part_entries-count) _ (omega (arith, x.inside)))
 
-pub returns-then-e-ge-BIT_31 : goal.returns-then-e-ge-BIT_31
-returns-then-e-ge-BIT_31 c = c.rights_part.ensures _
-
-pub entries_have-all-requires : goal.entries_have-all-requires
-entries_have-all-requires c = let a = c.args in
-    let x = sub (goal.at.entries_have-all-requires c).After-part_entries-count in
-    let z = word (goal.at.entries_have-all-requires c).After-after-word in record {
-      count_in_bounds = (omega (arith, inside (goal.at.entries_have-all-requires c).After-part_entries-count), x.few);
-      by_index = λ j l.
-          let y : c.after-word.result.0 + j ≡ a.e + (c.part_entries-count.result * a.i + j) = omega arith in
-          rw y (c.requires.readable.entries (lead (goal.at.entries_have-all-requires c).After-part_entries-count) _ (omega (arith, x.inside)));
-      height_bound = (
-        omega arith,
-        c.requires.below_bound.3,
-        rw c.first_right-right.ensures (painted_given_small (words a.pool.now) a.paint _ _ c.requires.below_bound.3 _),
-      );
-    }
+pub entries_have-all-requires-clause-height_bound : goal.entries_have-all-requires-clause-height_bound
+entries_have-all-requires-clause-height_bound c = (
+  omega arith,
+  c.requires.below_bound.3,
+  rw c.first_right-right.ensures (painted_given_small (words c.args.pool.now) c.args.paint _ _ c.requires.below_bound.3 _),
+)
 
 pub returns : goal.returns
 returns c = let a = c.args in

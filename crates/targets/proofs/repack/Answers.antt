@@ -1,9 +1,9 @@
 -- `targets::repack` meets its contract.
-use Prim.Native.Nat.{ℕ, ◌+◌, ◌*◌, ◌-◌, ◌%◌, ◌^◌, ◌≤◌, ◌<◌}
+use Prim.Native.Nat.{ℕ, ◌+◌, ◌*◌, ◌-◌, ◌%◌, ◌^◌}
 use mathlib.Core.Path.{◌≡◌, ◌∙◌}
 use native.Mathlib.Omega.{arith}
-use native.Mathlib.Nat.{one-mul, mod-le}
-use lib.Pow.{pow_pos, shl_exact}
+use native.Mathlib.Nat.{one-mul}
+use lib.Pow.{shl_exact}
 use Rattle.words.specs.Rights.{pack}
 use Rattle.words.proofs.RightsLaws.{pack_range}
 use Rattle.targets.specs.Steps.{Before, right_after}
@@ -12,19 +12,9 @@ use Rattle.targets.proofs.PaintLaws.{before_order, after_small, after_partly}
 use Rattle.targets.proofs.repack.Goals as goal
 use Rattle.targets.proofs.repack.Goals.{After-from-old}
 
--- A divisor: the shift loses no bit, so it is not 0.
+-- The shift of a divisor loses no bit.
 unit : (s x k : ℕ) → Before s x k → 1 * 2 ^ (2 * k) % 18446744073709551616 ≡ 2 ^ (2 * k)
 unit s x k b = shl_exact 1 (2 * k) 64 (omega arith) (omega (arith, b.upto)) ∙ one-mul (2 ^ (2 * k))
-
-some : (s x k : ℕ) → Before s x k → 0 < 1 * 2 ^ (2 * k) % 18446744073709551616
-some s x k b = rw (unit s x k b) (pow_pos (2 * k))
-
--- What is added is no more than the words that it is taken from.
-fits : (c : After-from-old) → let w = c.from-old.result in
-    (w % (1 * 2 ^ (2 * c.words_before-a.result) % 18446744073709551616) ≤ w)
-    × (c.from-same.result % (1 * 2 ^ (2 * c.words_before-b.result) % 18446744073709551616)
-    ≤ c.from-same.result)
-fits c = (mod-le c.from-old.result _, mod-le c.from-same.result _)
 
 -- What is put together.
 whole : (c : After-from-old) → let s = c.args in
@@ -40,33 +30,12 @@ whole c =
     (after_partly c.args.paint c.args.s _ _ c.requires.lo_le_hi a.ensures b.ensures c.args.w (omega arith)
     c.requires.s_bound.1)
 
-pub nonzero_rem-result : goal.nonzero_rem-result
-nonzero_rem-result c = some _ _ _ c.words_before-a.ensures
-
-pub nonzero_rem-result-2 : goal.nonzero_rem-result-2
-nonzero_rem-result-2 c = some _ _ _ c.words_before-b.ensures
-
-pub nonzero_rem-result-3 : goal.nonzero_rem-result-3
-nonzero_rem-result-3 c = some _ _ _ c.words_before-a.ensures
-
 pub overflow_sub-result : goal.overflow_sub-result
 overflow_sub-result c = let a = c.words_before-a in
     let b = c.words_before-b in
     rw (unit _ _ _ a.ensures, unit _ _ _ b.ensures)
     (low_grows c.from-same.result a.result b.result
     (before_order c.args.paint c.args.s _ _ c.requires.lo_le_hi a.ensures b.ensures))
-
-pub overflow_add-result : goal.overflow_add-result
-overflow_add-result c = let z = fits (goal.at.overflow_add-result c).After-from-old in omega arith
-
-pub nonzero_rem-result-4 : goal.nonzero_rem-result-4
-nonzero_rem-result-4 c = some _ _ _ c.words_before-b.ensures
-
-pub overflow_sub-result-2 : goal.overflow_sub-result-2
-overflow_sub-result-2 c = mod-le c.from-old.result _
-
-pub overflow_add-result-2 : goal.overflow_add-result-2
-overflow_add-result-2 c = let z = fits (goal.at.overflow_add-result-2 c).After-from-old in omega arith
 
 pub overflow_cast-result : goal.overflow_cast-result
 overflow_cast-result c = let r = pack_range 0 16 (right_after c.args.paint c.args.w c.args.s) (λ j l.

@@ -1,11 +1,9 @@
 -- `targets::rights_part` meets its contract.
 use Prim.Native.Nat.{suc}
 use mathlib.Core.Path.{◌≡◌, ap, ◌∙◌}
-use native.Mathlib.Omega.{arith}
 use native.Mathlib.Numerals.{add-one}
 use Rattle.table.specs.Wants.{words_in}
 use Rattle.targets.specs.Targets.{given}
-use Rattle.targets.proofs.HeightLaws.{few_blocks, part_room}
 use Rattle.targets.proofs.EntryLaws.{rights_found}
 use Rattle.targets.proofs.rights_part.Goals as goal
 use Rattle.targets.proofs.rights_part.Goals.{After-part_words-long}
@@ -13,18 +11,6 @@ use Rattle.targets.proofs.rights_part.Goals.{After-part_words-long}
 -- The words of a sub-block of the entry above.
 above : (c : After-part_words-long) → c.part_words-long.result ≡ words_in (suc c.args.below)
 above c = c.part_words-long.ensures ∙ ap words_in (add-one c.args.below)
-
-pub overflow_mul-n : goal.overflow_mul-n
-overflow_mul-n c = omega (arith, few_blocks c.args.below _ c.requires.2)
-
-pub overflow_add-n : goal.overflow_add-n
-overflow_add-n c = omega (arith, few_blocks c.args.below _ c.requires.2)
-
-pub overflow_mul-n-2 : goal.overflow_mul-n-2
-overflow_mul-n-2 c = omega (arith, part_room c.args.below _ _ _ (above (goal.at.overflow_mul-n-2 c).After-part_words-long) c.requires.2 c.requires.3)
-
-pub even_part-requires : goal.even_part-requires
-even_part-requires c = part_room c.args.below _ _ _ (above (goal.at.even_part-requires c).After-part_words-long) c.requires.2 c.requires.3
 
 pub returns : goal.returns
 returns c = λ P.

@@ -17,15 +17,15 @@ returns-in_default c = going_ends c.loop-said.invariant c.feed-fed.ensures c.req
 
 pub write_number-len-requires : goal.write_number-len-requires
 write_number-len-requires c = let g = c.loop-said.invariant in
-    let m = going_moves g c.feed-fed.ensures c.in-Line.is in
+    let m = going_moves g c.feed-fed.ensures c.in-Some.is in
     omega (arith, g.inside, g.out_long)
 
 pub loop-said-smaller : goal.loop-said-smaller
-loop-said-smaller c = let m = going_moves c.loop-said.invariant c.feed-fed.ensures c.in-Line.is in
+loop-said-smaller c = let m = going_moves c.loop-said.invariant c.feed-fed.ensures c.in-Some.is in
     omega arith
 
 pub loop-said-preserved : goal.loop-said-preserved
-loop-said-preserved c = let r = c.reply-n in
+loop-said-preserved c = let r = c.reply in
     let w = c.write_number-len in
-    going_on c.loop-said.invariant c.feed-fed.ensures c.in-Line.is r.ensures r.auto.pool w.auto.out
+    going_on c.loop-said.invariant c.feed-fed.ensures c.in-Some.is r.ensures r.auto.pool w.auto.out
     w.ensures.0 w.ensures.1

@@ -19,23 +19,23 @@ module _ {n w k : ℕ} (e : w ≡ n) (h : n < 4294967296) (d : IsDigitCount 10 1
 
 pub copy-past-requires : goal.copy-past-requires
 copy-past-requires c =
-    let m = most c.wide.ensures c.ranges.n.fits c.decimal-k.ensures.len in
+    let m = most c.from.ensures c.ranges.n.fits c.decimal-k.ensures.len in
     let z = c.decimal-k.ensures.in_bounds.1 in
     omega arith
 
 pub bounds-out-past : goal.bounds-out-past
 bounds-out-past c =
-    let m = most c.wide.ensures c.ranges.n.fits c.decimal-k.ensures.len in
+    let m = most c.from.ensures c.ranges.n.fits c.decimal-k.ensures.len in
     let z = c.decimal-k.ensures.in_bounds.1 in
     omega arith
 
 pub returns : goal.returns
 returns c =
-    let m = most c.wide.ensures c.ranges.n.fits c.decimal-k.ensures.len in
+    let m = most c.from.ensures c.ranges.n.fits c.decimal-k.ensures.len in
     let z = c.decimal-k.ensures.in_bounds.1 in
     let a = c.args in
     let w = c.copy-past in
     let room : w.result < length w.new.out = omega arith in
-    let e = which c.wide.ensures c.ranges.n.fits c.decimal-k.ensures.len c.decimal-k.ensures.digits in
+    let e = which c.from.ensures c.ranges.n.fits c.decimal-k.ensures.len c.decimal-k.ensures.digits in
     let t = rw e at w.ensures.1 in
     (omega arith, byte_more a.out.now w.new.out (numeral a.n) a.at w.result a.end t room)
