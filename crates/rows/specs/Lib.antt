@@ -1,3 +1,2 @@
--- What rows in words are, and what lent words of a wrong length answer.
+-- What rows in words are.
 pub mod Rows
-pub mod Lent
