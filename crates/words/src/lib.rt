@@ -119,8 +119,8 @@ pub fn good_rights(w: u32) -> bool
     BIT_31 <= w && w < 0x8001_0000
 }
 
-// Whether the words are all eight rights. Each is asked, with no way out at the first that is not: so the compiler
-// tests four at a time, where it knows how many there are.
+// Whether the words are all eight rights. Each is asked, with no way out at the first that is not, as `all` would have:
+// so the compiler tests four at a time, where it knows how many there are.
 fn all_rights(words: &[u32]) -> bool
     ensures { result ≡ fold (λ all w. all && good_rights w) true words.now }
 {
