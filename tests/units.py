@@ -68,7 +68,6 @@ BARE = {
 GIVES_NUMBER = {
     ("targets", "paint_word"): "a leaf entry",
     ("change", "final_word"): "what a pool word is to hold",
-    ("gates", "gate_word"): "a word of a lent state",
 }
 SAYS_WORD = re.compile(r"(?:^|_)(?:word|addr|address|start)$")
 

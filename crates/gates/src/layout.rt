@@ -10,21 +10,27 @@ use words::ByteAddr;
 // The word of a return gate; any other word is the destination of a switch.
 const RETURN_WORD: u32 = 0xFFFF_FFFF;
 
-fn gate_said(w: u32) -> Gate
-    ensures { result ≡ gate_said w }
-{
-    match w {
-        RETURN_WORD => Gate::Return,
-        to => Gate::Switch(to),
+// The gate that a word says.
+impl From<u32> for Gate {
+    ghost from_gives = { λ w g. g ≡ gate_said w };
+
+    fn from(w: u32) -> Gate {
+        match w {
+            RETURN_WORD => Gate::Return,
+            to => Gate::Switch(to),
+        }
     }
 }
 
-fn gate_word(gate: Gate) -> u32
-    ensures { result ≡ gate_word gate }
-{
-    match gate {
-        Gate::Switch(to) => to,
-        Gate::Return => RETURN_WORD,
+// The word of a gate.
+impl From<Gate> for u32 {
+    ghost from_gives = { λ g w. w ≡ gate_word g };
+
+    fn from(gate: Gate) -> u32 {
+        match gate {
+            Gate::Switch(to) => to,
+            Gate::Return => RETURN_WORD,
+        }
     }
 }
 
@@ -35,7 +41,7 @@ pub(crate) fn gate_at(gates: &[u32; GATES_WORDS], i: usize) -> GateAt
     GateAt {
         domain: gates[3 * i],
         address: ByteAddr::from(gates[3 * i + 1]),
-        gate: gate_said(gates[3 * i + 2]),
+        gate: Gate::from(gates[3 * i + 2]),
     }
 }
 
@@ -45,7 +51,7 @@ pub(crate) fn put_gate(gates: &mut [u32; GATES_WORDS], i: usize, g: GateAt)
 {
     gates[3 * i] = g.domain;
     gates[3 * i + 1] = u32::from(g.address);
-    gates[3 * i + 2] = gate_word(g.gate);
+    gates[3 * i + 2] = u32::from(g.gate);
 }
 
 pub(crate) fn frame_at(stack: &[u32; STACK_WORDS], i: usize) -> Frame
