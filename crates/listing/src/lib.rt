@@ -34,7 +34,8 @@ pub struct Run {
 }
 
 // The open run, the number of the first that the caller wants, and how many were closed before it: in this order there
-// is no gap in what is passed and returned.
+// is no gap in what is passed and returned. What holds of it (`OpenAt`) is a clause and no part of the type: it speaks of
+// the word that is fed next, too.
 #[derive(Clone, Copy)]
 pub struct Open {
     pub domain: u32,

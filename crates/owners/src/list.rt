@@ -1,4 +1,5 @@
-// The regions in their lent words: one read, one stored, and the search for the first that passes a test.
+// The regions in their lent words: one read, one stored, and the search for the first that passes a test. The words are
+// a slice with a clause, `Counted`, and no type with it: a caller may lend any words, and `ask` tells.
 ghost use Rattle.std.specs.Prelude.{◌≡◌, ◌+◌, ◌*◌, ◌≤◌, Bool, length};
 ghost use Rattle.owners.specs.declared.Owned.{Owned as AnOwned};
 ghost use Rattle.owners.specs.Regions.{Counted, region_at};

@@ -1,6 +1,7 @@
 // The geometry of the table, told once, by the height of an entry (0 in a leaf, 1 in a middle table, 2 in a root): how
 // many memory words it stands for, how many rights it has and how many entries its table; which words lead; and where
-// tables stand in the pool.
+// tables stand in the pool. A height is a number and no enum: it is one in every law, the laws go by induction over it,
+// and the code reckons with it as they do (`height - 1`).
 ghost use Rattle.std.specs.Prelude.{◌≡◌, ◌+◌, ◌*◌, ◌/◌, ◌<◌};
 ghost use Rattle.table.specs.Shape.{InRange, first_place, places, size};
 ghost use Rattle.table.specs.Map.{parts, leads};

@@ -40,7 +40,8 @@ pub const STORE: u32 = 1;
 
 pub const FETCH: u32 = 2;
 
-// How many roots, middle places and leaf places the pool has: D, M and L.
+// How many roots, middle places and leaf places the pool has: D, M and L. Pool and shape are lent side by side, with a
+// clause that they fit: of a struct that lends the pool, clauses would say `table.entry.pool.now` for `pool.now`.
 #[derive(Clone, Copy)]
 pub struct Shape {
     pub domains: u32,

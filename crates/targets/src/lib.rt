@@ -17,7 +17,8 @@ mod wanted; // wanted.rt: whether tables are wanted, and a pool settled
 pub use wanted::settled;
 use words::PoolWord;
 
-// The memory words `lo ≤ w < hi` get the right.
+// The memory words `lo ≤ w < hi` get the right. That it is below 4 is a clause and no part of the type: a paint is read
+// from the lent words of a plan (`paint_in`), which may say any number.
 #[derive(Clone, Copy)]
 pub struct Paint {
     pub lo: u32,

@@ -88,7 +88,8 @@ impl PoolWord {
     }
 }
 
-// The right in bits 2i+1 and 2i.
+// The right in bits 2i+1 and 2i. A right is a number and no enum: entries are put together of rights, and taken apart,
+// by arithmetic (`eight_of`).
 pub fn right_at(w: u32, i: u32) -> u32
     requires { i < 16 }
     ensures { result ≡ right_at w i }
@@ -127,7 +128,8 @@ fn all_rights(words: &[u32]) -> bool
     words.iter().fold(true, |all, w| all & good_rights(*w))
 }
 
-// Whether the words are all `value`, each asked as above.
+// Whether the words are all `value`, each asked as above. It is a fold of its own: with the test as a parameter there
+// would be three functions for two lines.
 fn all_are(words: &[u32], value: u32) -> bool
     ensures { result ≡ fold (λ all w. all && (w == value)) true words.now }
 {
