@@ -26,7 +26,7 @@ use Rattle.plan.proofs.PlannedLaws.{planned}
 use Rattle.targets.specs.Paints.{paint_of}
 use Rattle.plan.specs.Aims.{Aim, aim_of, change_aim, aimed_at}
 use Rattle.change.specs.declared.Ending.{Ending}
-use Rattle.change.specs.declared.Work.TheVariants.{Change}
+use Rattle.change.specs.Runs.{Change}
 use Rattle.change.specs.Answers.{Asked, ChangesRegion, Changes, in_order, done, cut}
 use Rattle.change.specs.Requests.{RegionIs, RequestIs}
 use Rattle.change.specs.Runs.{Ready, Ends, all_made, cut_short}

@@ -14,8 +14,8 @@ use Rattle.plan.specs.Aims.{Aim}
 use Rattle.change.specs.declared.Ending.TheVariants.{Done, Cut}
 use Rattle.change.specs.declared.Cursor.{Cursor}
 use Rattle.change.specs.declared.Store.{Store}
-use Rattle.change.specs.declared.Work.{Work}
-use Rattle.change.specs.declared.Work.TheVariants.{Change, Tidying}
+use Rattle.change.specs.Runs.{Work}
+use Rattle.change.specs.Runs.{Change, Tidying}
 use Rattle.change.specs.Cuts.{differing, Due}
 use Rattle.change.specs.Runs.{At, Meant, Run, Stands, Follows, Told, Stores, Wanted, NextIs, NextIn}
 use Rattle.change.specs.Runs.{start, Ready, Ends, all_made, cut_short}

@@ -22,7 +22,7 @@ use Rattle.targets.specs.Targets.{painted, target_of, Gives, Readable}
 use Rattle.targets.proofs.PoolLaws.{root_gives, middle_gives, root_readable, middle_readable}
 use Rattle.targets.proofs.WantedLaws.{unpainted_target}
 use Rattle.targets.specs.Paints.{no_paint}
-use Rattle.change.specs.declared.Work.TheVariants.{Tidying}
+use Rattle.change.specs.Runs.{Tidying}
 use Rattle.change.specs.Runs.{Run, Stands, OnlyFrom, MiddleOwners}
 use Rattle.change.specs.Tidying.{TidyAt, AimedAt, MiddlePlace, Owns, Table, Place}
 use Rattle.change.proofs.TidyWordLaws.{root_becomes, page_becomes, root_stays, still_leads, page_stays}
