@@ -10,19 +10,19 @@ use native.Mathlib.Decide.{ℕ_discrete}
 use lib.ListN.{length, replicate}
 use lib.Dec.{eqb, leb, ltb}
 use borrow.Author.Tests.{eq-eqb, le-leb, lt-ltb, le-ltb, eqb-true, leb-true, ltb-true}
+use Rattle.std.specs.Prelude.{Ok, Err}
+use Rattle.refusals.specs.declared.Refusal.TheVariants.{NotAllowed}
 use Rattle.theory.specs.Pool.{words, right_of}
 use Rattle.theory.proofs.Logic.{and_both}
-use Rattle.words.specs.declared.Rounded.TheVariants.{Covers}
 use Rattle.words.specs.declared.Region.{Region}
 use Rattle.words.specs.Region.{rounded, region_of}
-use Rattle.table.specs.declared.Made.TheVariants.{Done as Made}
 use Rattle.table.specs.Map.{form_of}
 use Rattle.table.specs.Fresh.{fresh_pool, MakesFresh}
 use Rattle.table.proofs.ShapeLaws.{fits_test}
 use Rattle.table.proofs.FreshLaws.{makes_fresh}
 use Rattle.table.proofs.FreshWordLaws.{fresh_right}
 use Rattle.plan.proofs.AimLaws.{aimed_covered}
-use Rattle.change.specs.declared.Answer.TheVariants.{Done, Refused}
+use Rattle.change.specs.declared.Ending.TheVariants.{Done}
 use Rattle.change.specs.Cuts.{differing}
 use Rattle.change.specs.Answers.{IsDone, Changes, in_order, done}
 use Rattle.owners.specs.declared.Owned.{Owned}
@@ -53,11 +53,11 @@ bare_list = one_held (fresh_region 0 here)
 abbrev export_list : ℕ → List ℕ
 export_list q = one_held (with_export (fresh_region 0 here) 1 q)
 
-owner_made : make_of 2 no_regions 0 1 0x1000 64 ≡ outcome 0 owner_list
+owner_made : make_of 2 no_regions 0 1 0x1000 64 ≡ outcome (Ok tt) owner_list
 unfolding asked_of region_of made first_from
 owner_made = refl
 
-export_given : give_of 2 bare_list 0 1 2 0x1000 64 ≡ outcome 0 (export_list 2)
+export_given : give_of 2 bare_list 0 1 2 0x1000 64 ≡ outcome (Ok tt) (export_list 2)
 unfolding asked_of region_of gave first_from
 export_given = refl
 
@@ -106,7 +106,7 @@ some_stores = elim (ℕ_discrete count 0) [
   | no n ↦ omega arith
 ]
 
-by_supervisor : Changes old two 0 0x1000 64 2 count (Done count) new
+by_supervisor : Changes old two 0 0x1000 64 2 count (Ok (Done count)) new
 unfolding region_of
 by_supervisor = in_order here
     (record { fits = fresh_begun.fits; domain = omega arith; right = omega arith; region = refl })
@@ -118,17 +118,17 @@ by_supervisor = in_order here
 
 -- The same request by domain 1.
 module _ (list : List ℕ) (long : length list ≡ list_long) (few : count_of list ≤ max_regions) where
-  asked_here : asked_of true list 2 1 0 2 0x1000 64 ≡ Covers here
+  asked_here : asked_of true list 2 1 0 2 0x1000 64 ≡ Ok here
   unfolding asked_of region_of
   asked_here = rw (eq-eqb (length list) list_long long, le-ltb max_regions (count_of list) few)
 
-  asked : asked_by old two list 1 0 0x1000 64 2 ≡ Covers here
+  asked : asked_by old two list 1 0 0x1000 64 2 ≡ Ok here
   asked = ap (λ b. asked_of b list 2 1 0 2 0x1000 64) (fits_test two (length old) fresh_begun.fits) ∙ asked_here
 
-  by_one : Allowed list 1 0 2 here → ChangesBy old two list 1 0 0x1000 64 2 count (Done count) new
+  by_one : Allowed list 1 0 2 here → ChangesBy old two list 1 0 0x1000 64 2 count (Ok (Done count)) new
   by_one o = allowed here asked o by_supervisor
 
-  not_by_one : (n : ℕ) → (Allowed list 1 0 2 here → ⊥) → ChangesBy old two list 1 0 0x1000 64 2 n (Refused 19) old
+  not_by_one : (n : ℕ) → (Allowed list 1 0 2 here → ⊥) → ChangesBy old two list 1 0 0x1000 64 2 n (Err NotAllowed) old
   not_by_one n f = not_allowed here asked f
 
 -- It is allowed to the owner ..
@@ -136,14 +136,14 @@ owner_may : Allowed owner_list 1 0 2 here
 unfolding first_from
 owner_may w lo hi = rw (le-leb 1024 w lo, lt-ltb w 1040 hi)
 
-by_owner : ChangesBy old two owner_list 1 0 0x1000 64 2 count (Done count) new
+by_owner : ChangesBy old two owner_list 1 0 0x1000 64 2 count (Ok (Done count)) new
 by_owner = by_one owner_list refl (omega arith) owner_may
 
-made_fresh : MakesFresh two old Made old
+made_fresh : MakesFresh two old (Ok tt) old
 made_fresh = makes_fresh two old old (fits_test two (length old) fresh_begun.fits) refl
 
 -- Domain 0 makes the region, and its owner makes the change.
-owner_series : Series two new owner_list (after (after freshly listed) (setting 0 0x1000 64 2 (Done count)))
+owner_series : Series two new owner_list (after (after freshly listed) (setting 0 0x1000 64 2 (Ok (Done count))))
 owner_series =
     let begun : Series two old owner_list (after freshly listed) =
     rw (← ap (λ x. x.list) owner_made) (call (fresh made_fresh no_regions) (make 2 0 1 0x1000 64)) in
@@ -171,7 +171,7 @@ export_may : Allowed (export_list 2) 1 0 2 here
 unfolding first_from
 export_may w lo hi = rw (le-leb 1024 w lo, lt-ltb w 1040 hi)
 
-by_export : ChangesBy old two (export_list 2) 1 0 0x1000 64 2 count (Done count) new
+by_export : ChangesBy old two (export_list 2) 1 0 0x1000 64 2 count (Ok (Done count)) new
 by_export = by_one (export_list 2) refl (omega arith) export_may
 
 pub some_export : SomeExport

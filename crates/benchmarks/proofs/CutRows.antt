@@ -8,6 +8,7 @@ use native.Mathlib.Omega.{arith}
 use native.Mathlib.Decide.{ℕ_discrete}
 use lib.ListN.{length, set, length-set}
 use lib.Seq.{get_or-set_same, get_or-set_other}
+use Rattle.std.specs.Prelude.{Ok}
 use Rattle.theory.specs.Pool.{words, right_of}
 use Rattle.theory.specs.Finished.{Finished}
 use Rattle.theory.proofs.Logic.{by_cases}
@@ -15,7 +16,6 @@ use Rattle.words.specs.Rights.{right_at}
 use Rattle.words.specs.Region.{region_of, covered}
 use Rattle.words.proofs.RightsLaws.{eight_right}
 use Rattle.words.proofs.RegionLaws.{covered_range}
-use Rattle.table.specs.declared.Found.TheVariants.{By}
 use Rattle.table.specs.Shape.{Fits}
 use Rattle.table.specs.Map.{addresses, form_of}
 use Rattle.table.specs.Fresh.{fresh_pool}
@@ -23,7 +23,7 @@ use Rattle.table.proofs.LookupLaws.{sound_lookup}
 use Rattle.table.proofs.FreshWordLaws.{fresh_right, fresh_settled}
 use Rattle.plan.proofs.AimLaws.{covers_change, change_covers, aimed_covered, aimed_other}
 use Rattle.plan.specs.Aims.{change_aim, aimed_at}
-use Rattle.change.specs.declared.Answer.TheVariants.{Done}
+use Rattle.change.specs.declared.Ending.TheVariants.{Done}
 use Rattle.change.specs.Cuts.{CutAt}
 use Rattle.change.specs.Answers.{Changes, in_order, cut}
 use Rattle.change.specs.Answers.{IsCut as WasCut}
@@ -62,7 +62,7 @@ module _ {n : ℕ} {x : List ℕ} (c : CutAt (shape 1 1) (change_aim 0 in_leaf 2
         y.loads,
         y.first.0,
         y.last.0,
-        finds x (shape 1 1) a (By y) e,
+        finds x (shape 1 1) a (Ok y) e,
         rw q (cut_right a ba),
       )
 
@@ -121,7 +121,7 @@ given_finished = flat_finished (shape 1 1) (words given_up) (λ j h. rw (root_wo
     (λ d a bd ba. given_right d a bd ∙ sym (none_aimed d a bd ba))
     (λ j h. get_or-set_other leaf_pool 0 j 0x80000000 0 (λ e. omega arith))
 
-gives_up : (m : ℕ) → 1 ≤ m → Changes leaf_pool (shape 1 1) 0 0x1000 64 0 m (Done 1) given_up
+gives_up : (m : ℕ) → 1 ≤ m → Changes leaf_pool (shape 1 1) 0 0x1000 64 0 m (Ok (Done 1)) given_up
 unfolding region_of
 gives_up m h =
     change_done leaf_pool (shape 1 1) 0 0x1000 64 0 m in_leaf

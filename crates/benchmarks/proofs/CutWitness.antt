@@ -11,13 +11,14 @@ use lib.Dec.{eqb, ltb}
 use lib.ListN.{length, set}
 use lib.Seq.{ext_get_or}
 use borrow.Author.Tests.{lt-ltb, le-ltb, ltb-true}
+use Rattle.std.specs.Prelude.{Ok, Err}
+use Rattle.refusals.specs.declared.Refusal.TheVariants.{NotSettled}
 use Rattle.theory.specs.Pool.{words, right_of}
 use Rattle.theory.specs.Settled.{Settled}
 use Rattle.theory.specs.Stores.{Kept, top, down}
 use Rattle.theory.specs.Phase.{phase}
 use Rattle.theory.proofs.Logic.{by_cases}
 use Rattle.words.specs.Region.{rounded, region_of}
-use Rattle.table.specs.declared.Made.TheVariants.{Done as Made}
 use Rattle.table.specs.Shape.{Fits}
 use Rattle.table.specs.Map.{addresses, form_of, leads}
 use Rattle.table.specs.Fresh.{fresh_pool, MakesFresh}
@@ -25,7 +26,7 @@ use Rattle.table.proofs.ShapeLaws.{fits_test}
 use Rattle.table.proofs.FormLaws.{eight_good}
 use Rattle.table.proofs.FreshLaws.{makes_fresh}
 use Rattle.plan.specs.Aims.{aim_of}
-use Rattle.change.specs.declared.Answer.TheVariants.{Done, Cut, Refused}
+use Rattle.change.specs.declared.Ending.TheVariants.{Done, Cut}
 use Rattle.change.specs.Cuts.{differing}
 use Rattle.change.specs.Answers.{IsCut, Changes, Tidies, in_order, unsettled, cut}
 use Rattle.change.proofs.DifferLaws.{differing_less}
@@ -191,14 +192,14 @@ cut_unsettled t =
 cut_fits : Fits one_middle (length cut_pool)
 cut_fits = rw (listed_long (until 128) 0 2048 ∙ sym middle_fits.long) middle_fits
 
-refused_7 : Changes cut_pool one_middle 0 0 4 0 0 (Refused 7) cut_pool
+refused_7 : Changes cut_pool one_middle 0 0 4 0 0 (Err NotSettled) cut_pool
 unfolding region_of
 refused_7 = in_order (rounded 0 4)
     (record { fits = cut_fits; domain = omega arith; right = omega arith; region = refl })
     (unsettled (table_sound 0 (read_one 128 (omega arith) (omega arith))) cut_unsettled)
 
 -- The root word says what the table said.
-pub tidies_cut : Tidies cut_pool one_middle 1 (Done 1) (set cut_pool 0 0x80000001)
+pub tidies_cut : Tidies cut_pool one_middle 1 (Ok (Done 1)) (set cut_pool 0 0x80000001)
 tidies_cut =
     let one = read_one 128 (omega arith) (omega arith) in
     let word = tidied_first 0 cut_pool cut_fits.long one 0x80000001 refl in
@@ -214,10 +215,10 @@ tidies_cut =
       | no h ↦ le-ltb a 524288 (omega arith) ∙ sym (le-ltb (a / 4096) 128 (omega arith))
     ]
 
-pub begun : Changes middle_pool one_middle 0 0 528384 1 128 Cut cut_pool
+pub begun : Changes middle_pool one_middle 0 0 528384 1 128 (Ok Cut) cut_pool
 begun = in_order pages asked (cut middle_settled cut_pool the_cut)
 
-made_fresh : MakesFresh one_middle (fresh_pool one_middle) Made (fresh_pool one_middle)
+made_fresh : MakesFresh one_middle (fresh_pool one_middle) (Ok tt) (fresh_pool one_middle)
 made_fresh =
     let fits = fresh_fits one_middle (in_range_lem 1 0 (omega arith) (omega arith)) in
     makes_fresh one_middle (fresh_pool one_middle) (fresh_pool one_middle)
@@ -225,7 +226,7 @@ made_fresh =
 
 -- The series up to the cut.
 pub cut_series : (list : List ℕ) → Series one_middle cut_pool list
-    (then (then made (setting 0 0x1000 512 2 (Done 1025))) (setting 0 0 528384 1 Cut))
+    (then (then made (setting 0 0x1000 512 2 (Ok (Done 1025)))) (setting 0 0 528384 1 (Ok Cut)))
 cut_series list = call (call (fresh made_fresh list) (change (middle_set 1025 (omega arith)))) (change begun)
 
 pub some_series : SomeSeries

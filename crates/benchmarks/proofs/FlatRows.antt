@@ -10,18 +10,18 @@ use lib.Dec.{ltb}
 use lib.ListN.{length, set, replicate, length-set, length-replicate, get_or-replicate, get_or-eq_default}
 use lib.Seq.{get_or-set_same, get_or-set_other}
 use borrow.Author.Tests.{lt-ltb, le-ltb}
+use Rattle.std.specs.Prelude.{Result, Ok, Err}
+use Rattle.refusals.specs.declared.Refusal.{Refusal}
+use Rattle.refusals.specs.declared.Refusal.TheVariants.{NotSound}
 use Rattle.theory.specs.Pool.{words, entry, right_of}
 use Rattle.theory.proofs.WalkLaws.{walk_stops, walk_refused}
 use Rattle.theory.specs.Finished.{Finished}
 use Rattle.words.specs.Rights.{right_at, good_rights}
 use Rattle.words.specs.Region.{rounded, region_of, covered}
 use Rattle.words.specs.declared.Region.{Region}
-use Rattle.words.specs.declared.Rounded.TheVariants.{Covers}
 use Rattle.words.proofs.RightsLaws.{eight_right}
 use Rattle.words.proofs.RegionLaws.{covered_yes, covered_no}
-use Rattle.table.specs.declared.Found.{Found}
-use Rattle.table.specs.declared.Found.TheVariants.{By, Refused}
-use Rattle.table.specs.declared.Made.TheVariants.{Done as Made}
+use Rattle.table.specs.declared.Deciding.{Deciding}
 use Rattle.table.specs.Shape.{Fits}
 use Rattle.table.specs.Map.{addresses, block_at, part_of, entry_rights, form_of}
 use Rattle.table.specs.Fresh.{fresh_pool}
@@ -47,7 +47,7 @@ use Rattle.benchmarks.proofs.RowLaws.{aims_fresh, change_done}
 use Rattle.benchmarks.proofs.FlatLaws.{flat_finished, flat_right, first_part}
 
 -- Row 1: the root word decides.
-abbrev none : ℕ → Found
+abbrev none : ℕ → Result Deciding Refusal
 none a = by 0 2147483648 1 (block_at 2 a) (block_at 2 a + 0x3FFFFF)
 
 module _ (M L : ℕ) (f : Fits (shape M L) (length (fresh_pool (shape M L)))) (a : ℕ) where
@@ -70,7 +70,7 @@ module _ (M L : ℕ) (f : Fits (shape M L) (length (fresh_pool (shape M L)))) (a
       (omega arith)
       ∙ ap (found_at (form_of (shape M L)) P a) (walk_stops (form_of (shape M L)) P a 2 k (rw root_word refl)
       (rw root_word refl))
-      ∙ ap (λ w. By (decided_by (entry_rights 2 w) 2 w a)) root_word
+      ∙ ap (λ w. Ok (decided_by (entry_rights 2 w) 2 w a)) root_word
       ∙ ap (λ x. by x 2147483648 1 (first_byte (entry_rights 2 2147483648) 2 a) (last_byte (entry_rights 2 2147483648) 2 a))
       (fresh_rights a)
       ∙ ap (λ x. by 0 2147483648 1 x (last_byte (entry_rights 2 2147483648) 2 a)) first
@@ -82,7 +82,7 @@ row_1 M L p f =
     let g = fresh_fits s f.range in
     let made = makes_fresh s p (fresh_pool s) (fits_test s (length p) f) refl in
     record {
-      some = (Made, fresh_pool s, made);
+      some = (Ok tt, fresh_pool s, made);
       each = λ r q m.
           let (e, z) = one_fresh m made in
           rw (e, z) (refl, refl, λ a ba. finds (fresh_pool s) s a (none a) (fresh_lookup M L g a));
@@ -95,7 +95,7 @@ row_12 M L p f =
     let long = f.long in
     let z : words (set p 0 0) 0 ≡ 0 = get_or-set_same p 0 0 0 (omega arith) in
     let g : Fits s (length (set p 0 0)) = rw (length-set p 0 0) f in
-    finds (set p 0 0) s 0 (Refused 6)
+    finds (set p 0 0) s 0 (Err NotSound)
     (lookup_walks (set p 0 0) s 0 0 (fits_test s (length (set p 0 0)) g) (omega arith)
     ∙ ap (found_at (form_of s) (words (set p 0 0)) 0) (walk_refused (form_of s) (words (set p 0 0)) 0 2 0 (rw z refl)))
 
@@ -143,7 +143,7 @@ module _ (g : Region) (r : ℕ) (Q : ℕ → ℕ) (flat : (j : ℕ) → j < 1024
       ∙ sym (aims_fresh (shape 0 0) g r d a bd bd))
       (λ j h. rest j h ∙ sym (fresh_word (shape 0 0) j ∙ ap (λ t. cond t 2147483648 0) (le-ltb j 1024 h)))
 
-asked : (start len r : ℕ) (g : Region) → r ≤ 3 → region_of start len ≡ Covers g → Asked pool (shape 0 0) 0 start len r g
+asked : (start len r : ℕ) (g : Region) → r ≤ 3 → region_of start len ≡ Ok g → Asked pool (shape 0 0) 0 start len r g
 asked start len r g h e = record {
   fits = fresh_fits (shape 0 0) (in_range_lem 0 0 (omega arith) (omega arith));
   domain =

@@ -5,6 +5,8 @@ use mathlib.Core.Logic.{◌≢◌}
 use mathlib.Core.Bool.{Bool, true, false, cond}
 use mathlib.Core.List.{List}
 use native.Mathlib.Omega.{arith}
+use Rattle.std.specs.Prelude.{Ok}
+use Rattle.refusals.specs.declared.Refusal.TheVariants.{PastTheEnd}
 use Rattle.theory.specs.Pool.{words, right_of}
 use Rattle.theory.specs.Finished.{Finished}
 use Rattle.theory.proofs.FinishedLaws.{finished_same, settled_finished}
@@ -18,7 +20,7 @@ use Rattle.table.specs.Fresh.{fresh_pool}
 use Rattle.table.proofs.WantLaws.{wants_leaf}
 use Rattle.table.proofs.FreshWordLaws.{fresh_right, fresh_settled}
 use Rattle.plan.specs.Aims.{change_aim, aimed_at}
-use Rattle.change.specs.declared.Answer.TheVariants.{Done}
+use Rattle.change.specs.declared.Ending.TheVariants.{Done}
 use Rattle.change.specs.Cuts.{differing}
 use Rattle.change.specs.Answers.{no_region, in_order, cut}
 use Rattle.change.proofs.DifferLaws.{differing_self}
@@ -55,7 +57,7 @@ last_stores_lem (suc (suc (suc zero))) n h = refl
 last_stores_lem (suc (suc (suc (suc r)))) n h = absurd (omega arith)
 
 module _ (r : ℕ) (some : r ≢ 0) (h : r ≤ 3) (n : ℕ) where
-  gives_right : 1026 ≤ n → Sets 1 1 0xFFFFFFFC 4 r n (Done 1026) (last_pool r)
+  gives_right : 1026 ≤ n → Sets 1 1 0xFFFFFFFC 4 r n (Ok (Done 1026)) (last_pool r)
   unfolding region_of
   gives_right b =
       page_done last r (last_page r some h) (omega arith) 0xFFFFFFFC 4 h refl n 1026 (last_stores_lem r some h) b
@@ -85,7 +87,7 @@ still = finished_same (form_of (shape 1 1)) (words fresh) (right_of (form_of (sh
     either true = refl
     either false = refl
 
-takes_none : (n : ℕ) → Sets 1 1 0xFFFFFFFC 4 0 n (Done 0) fresh
+takes_none : (n : ℕ) → Sets 1 1 0xFFFFFFFC 4 0 n (Ok (Done 0)) fresh
 unfolding region_of
 takes_none n =
     change_done fresh (shape 1 1) 0 0xFFFFFFFC 4 0 n last
@@ -95,7 +97,7 @@ takes_none n =
 refused_5 : (r n : ℕ) → r ≤ 3
     → Always (Sets 1 1 0xFFFFFFFC 5 r n) (λ a q. AnsweredRefused 5 a × (q ≡ fresh_pool (shape 1 1)))
 unfolding region_of
-refused_5 r n h = always_change (no_region fresh_fit (omega arith) h 5 refl) (refl, refl)
+refused_5 r n h = always_change (no_region fresh_fit (omega arith) h PastTheEnd refl) (refl, refl)
 
 pub row_10 : LastWord
 row_10 zero n h = (

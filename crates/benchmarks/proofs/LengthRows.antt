@@ -4,19 +4,22 @@ use mathlib.Core.Path.{◌≡◌, refl, sym, ap, ◌∙◌}
 use mathlib.Core.Bool.{cond}
 use mathlib.Core.List.{List}
 use native.Mathlib.Omega.{arith}
+use Rattle.std.specs.Prelude.{Result, Ok, Err}
+use Rattle.refusals.specs.declared.Refusal.{Refusal}
+use Rattle.refusals.specs.declared.Refusal.TheVariants.{EmptyRegion, PastTheEnd}
+use Rattle.refusals.specs.Refusals.{number}
 use Rattle.theory.specs.Walk.{walk}
 use Rattle.words.specs.Rights.{pack}
 use Rattle.words.specs.Region.{rounded, region_of}
 use Rattle.words.specs.declared.Region.{Region}
-use Rattle.words.specs.declared.Rounded.TheVariants.{Refused as NoRegion}
 use Rattle.words.proofs.RegionLaws.{covered_range, rounded_covers}
 use Rattle.words.specs.Stretches.{first_like, last_like}
 use Rattle.table.specs.declared.Shape.{Shape}
 use Rattle.table.specs.Shape.{max_middles, max_leaves}
 use Rattle.table.specs.Fresh.{fresh_pool}
 use Rattle.table.proofs.WantLaws.{wants_leaf}
-use Rattle.change.specs.declared.Answer.{Answer}
-use Rattle.change.specs.declared.Answer.TheVariants.{Done}
+use Rattle.change.specs.declared.Ending.{Ending}
+use Rattle.change.specs.declared.Ending.TheVariants.{Done}
 use Rattle.change.specs.Cuts.{differing}
 use Rattle.change.specs.Answers.{Changes, no_region}
 use Rattle.change.proofs.ChangesLaws.{rounded_alike}
@@ -36,15 +39,15 @@ same_change e p s d r n a q = (rounded_alike e, rounded_alike (sym e))
 
 -- What is said of a change of the one region holds of the other.
 always_same : {start len start' len' : ℕ} → SameChange start len start' len'
-    → {p : List ℕ} {s : Shape} {d r n : ℕ} {Is : Answer → List ℕ → Type 0}
+    → {p : List ℕ} {s : Shape} {d r n : ℕ} {Is : Result Ending Refusal → List ℕ → Type 0}
     → Always (Changes p s d start' len' r n) Is → Always (Changes p s d start len r n) Is
 always_same e x =
     let (a, q, c) = x.some in
     record { some = (a, q, (e _ _ _ _ _ a q).1 c); each = λ b y z. x.each b y ((e _ _ _ _ _ b y).0 z) }
 
 -- A region that is refused.
-refuses : (M L start len k : ℕ) → M ≤ max_middles → L ≤ max_leaves → region_of start len ≡ NoRegion k
-    → Refuses M L start len k
+refuses : (M L start len : ℕ) (k : Refusal) → M ≤ max_middles → L ≤ max_leaves → region_of start len ≡ Err k
+    → Refuses M L start len (number k)
 refuses M L start len k m l e r n h =
     always_change (no_region (fresh_fits (shape M L) (in_range_lem M L m l)) (omega arith) h k e) (refl, refl)
 
@@ -65,7 +68,7 @@ words_stores : differing (fresh_pool (shape 1 1)) words_pool ≡ 1026
 unfolding differing listed after
 words_stores = refl
 
-words_set : (n : ℕ) → 1026 ≤ n → Sets 1 1 0x1002 4 2 n (Done 1026) words_pool
+words_set : (n : ℕ) → 1026 ≤ n → Sets 1 1 0x1002 4 2 n (Ok (Done 1026)) words_pool
 unfolding region_of
 words_set n h = page_done two_words 2 words_page (omega arith) 0x1002 4 (omega arith) refl n 1026 words_stores h
 
@@ -98,16 +101,16 @@ unfolding region_of
 row_3 = (
   λ r n h k. always_same last_half ((row_10 r n h).0 k),
   last_half,
-  refuses 1 1 0xFFFFFFFE 3 5 (omega arith) (omega arith) refl,
+  refuses 1 1 0xFFFFFFFE 3 PastTheEnd (omega arith) (omega arith) refl,
 )
 
 row_4 : NoLength
 unfolding region_of
-row_4 = refuses 1 1 0x1002 0 4 (omega arith) (omega arith) refl
+row_4 = refuses 1 1 0x1002 0 EmptyRegion (omega arith) (omega arith) refl
 
 row_5 : LongSum
 unfolding region_of
-row_5 = (same_change refl, refuses 0 0 2 4294967295 5 (omega arith) (omega arith) refl)
+row_5 = (same_change refl, refuses 0 0 2 4294967295 PastTheEnd (omega arith) (omega arith) refl)
 
 -- Row 6.
 row_6 : FlushesFollow

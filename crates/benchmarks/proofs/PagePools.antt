@@ -6,13 +6,13 @@ use mathlib.Core.Bool.{true, false, cond}
 use mathlib.Core.List.{List}
 use native.Mathlib.Omega.{arith}
 use lib.ListN.{length}
+use Rattle.std.specs.Prelude.{Ok}
 use Rattle.theory.specs.Pool.{words}
 use Rattle.theory.specs.Finished.{Finished}
 use Rattle.theory.proofs.Logic.{by_cases}
 use Rattle.theory.proofs.FinishedLaws.{finished_same, finished_words}
 use Rattle.words.specs.Region.{region_of, covered}
 use Rattle.words.specs.declared.Region.{Region}
-use Rattle.words.specs.declared.Rounded.TheVariants.{Covers}
 use Rattle.table.specs.Shape.{max_leaves}
 use Rattle.table.specs.Map.{addresses, block, part, form_of}
 use Rattle.table.specs.Wants.{wants_of, said_of}
@@ -20,7 +20,7 @@ use Rattle.table.specs.Fresh.{fresh_pool}
 use Rattle.table.proofs.WantLaws.{wants_says, none_rights, painted_rights}
 use Rattle.table.proofs.FreshWordLaws.{fresh_settled}
 use Rattle.plan.specs.Aims.{change_aim, aimed_at}
-use Rattle.change.specs.declared.Answer.TheVariants.{Done}
+use Rattle.change.specs.declared.Ending.TheVariants.{Done}
 use Rattle.change.specs.Cuts.{differing}
 use Rattle.change.specs.Answers.{IsCut, Asked}
 use Rattle.benchmarks.specs.Rows.{shape, Sets}
@@ -69,7 +69,7 @@ module _ {L low : ℕ} (g : Region) (r : ℕ) {a0 c0 w : ℕ} (o : OnePage L low
         (finished_same (form_of (shape 1 L)) _ (λ d. painted g r) _
         (λ d a bd ba. sym (aims_fresh (shape 1 L) g r d a bd bd)) (page_finished o))
 
-    module _ (start len : ℕ) (hr : r ≤ 3) (e : region_of start len ≡ Covers g) where
+    module _ (start len : ℕ) (hr : r ≤ 3) (e : region_of start len ≡ Ok g) where
       pub page_asked : Asked (fresh_pool (shape 1 L)) (shape 1 L) 0 start len r g
       page_asked = record {
         fits = fresh_fits (shape 1 L) (in_range_lem 1 L (omega arith) hl);
@@ -81,7 +81,7 @@ module _ {L low : ℕ} (g : Region) (r : ℕ) {a0 c0 w : ℕ} (o : OnePage L low
 
       -- With an allowance that suffices, and with a smaller one.
       pub page_done : (n k : ℕ) → differing (fresh_pool (shape 1 L)) (page_pool L low a0 w) ≡ k → k ≤ n
-          → Sets 1 L start len r n (Done k) (page_pool L low a0 w)
+          → Sets 1 L start len r n (Ok (Done k)) (page_pool L low a0 w)
       page_done n k d h =
           change_done (fresh_pool (shape 1 L)) (shape 1 L) 0 start len r n g page_asked (fresh_settled (shape 1 L))
           (page_pool L low a0 w) k page_done_finished page_long d h

@@ -3,6 +3,7 @@ use Prim.Native.Nat.{ℕ, ◌≤◌}
 use mathlib.Core.Path.{◌≡◌, refl}
 use mathlib.Core.List.{List}
 use native.Mathlib.Omega.{arith}
+use Rattle.std.specs.Prelude.{Ok}
 use Rattle.theory.specs.Walk.{walk}
 use Rattle.words.specs.Rights.{pack}
 use Rattle.words.specs.Region.{rounded, region_of}
@@ -12,7 +13,7 @@ use Rattle.words.specs.Stretches.{first_like, last_like}
 use Rattle.table.specs.Wants.{any}
 use Rattle.table.specs.Fresh.{fresh_pool}
 use Rattle.table.proofs.WantLaws.{wants_leaf}
-use Rattle.change.specs.declared.Answer.TheVariants.{Done}
+use Rattle.change.specs.declared.Ending.TheVariants.{Done}
 use Rattle.change.specs.Cuts.{differing}
 use Rattle.benchmarks.specs.Rows.{shape, Sets, SetsOneLeaf, LooksAround, SetsOneMiddle}
 use Rattle.benchmarks.proofs.RowLaws.{always_change, by, finds, listed}
@@ -36,7 +37,7 @@ pub leaf_stores : differing (fresh_pool (shape 1 1)) leaf_pool ≡ 1026
 unfolding differing listed after
 leaf_stores = refl
 
-pub leaf_set : (n : ℕ) → 1026 ≤ n → Sets 1 1 0x1000 64 2 n (Done 1026) leaf_pool
+pub leaf_set : (n : ℕ) → 1026 ≤ n → Sets 1 1 0x1000 64 2 n (Ok (Done 1026)) leaf_pool
 unfolding region_of
 leaf_set n h = page_done in_leaf 2 leaf_page (omega arith) 0x1000 64 (omega arith) refl n 1026 leaf_stores h
 
@@ -71,7 +72,7 @@ middle_stores : differing (fresh_pool (shape 1 0)) middle_pool ≡ 1025
 unfolding differing listed after
 middle_stores = refl
 
-pub middle_set : (n : ℕ) → 1025 ≤ n → Sets 1 0 0x1000 512 2 n (Done 1025) middle_pool
+pub middle_set : (n : ℕ) → 1025 ≤ n → Sets 1 0 0x1000 512 2 n (Ok (Done 1025)) middle_pool
 unfolding region_of
 middle_set n h = page_done in_middle 2 middle_page (omega arith) 0x1000 512 (omega arith) refl n 1025 middle_stores h
 

@@ -8,13 +8,14 @@ use native.Mathlib.Omega.{arith}
 use native.Mathlib.Decide.{ℕ_discrete}
 use lib.ListN.{length, set, length-set}
 use lib.Seq.{get_or-set_same, get_or-set_other}
+use Rattle.std.specs.Prelude.{Ok}
 use Rattle.theory.specs.Pool.{words, right_of}
 use Rattle.theory.specs.Finished.{Finished}
 use Rattle.words.specs.Rights.{right_at, good_rights}
 use Rattle.table.specs.Shape.{Fits, max_leaves}
 use Rattle.table.specs.Map.{addresses, form_of}
 use Rattle.plan.specs.Aims.{no_aim, aimed_at}
-use Rattle.change.specs.declared.Answer.TheVariants.{Done}
+use Rattle.change.specs.declared.Ending.TheVariants.{Done}
 use Rattle.change.specs.Cuts.{differing}
 use Rattle.change.specs.Answers.{Tidies}
 use Rattle.change.proofs.DifferLaws.{differing_set, differing_self}
@@ -56,7 +57,7 @@ module _ (L : ℕ) (p : List ℕ) (long : length p ≡ 2048 + 64 * L) (o : OneTa
         ∙ ap (λ e. right_of (form_of (shape 1 L)) (words p) e a) (sym z))
         (λ j h. get_or-set_other p 0 j w 0 (λ e. omega arith))
 
-    pub tidies_root : L ≤ max_leaves → (n : ℕ) → 1 ≤ n → Tidies p (shape 1 L) n (Done 1) tidied
+    pub tidies_root : L ≤ max_leaves → (n : ℕ) → 1 ≤ n → Tidies p (shape 1 L) n (Ok (Done 1)) tidied
     tidies_root hl n h =
         let f : Fits (shape 1 L) (length p) = record { range = in_range_lem 1 L (omega arith) hl; long = long } in
         tidy_done p (shape 1 L) n f (table_sound L o) tidied 1 tidied_finished (length-set p 0 w) one_store h

@@ -11,6 +11,8 @@ use native.Mathlib.Decide.{dec_lt}
 use lib.ListN.{length, length-append, length-replicate, get_or-eq_default}
 use lib.Seq.{ext_get_or}
 use borrow.Author.Tests.{eq-eqb}
+use Rattle.std.specs.Prelude.{Result, Ok}
+use Rattle.refusals.specs.declared.Refusal.{Refusal}
 use Rattle.theory.specs.Pool.{words, SoundPool, right_of}
 use Rattle.theory.specs.Settled.{Settled}
 use Rattle.theory.specs.Finished.{Finished}
@@ -18,8 +20,7 @@ use Rattle.theory.proofs.FinishedLaws.{one_finished}
 use Rattle.words.specs.Region.{covered}
 use Rattle.words.specs.declared.Region.{Region}
 use Rattle.table.specs.declared.Shape.{Shape}
-use Rattle.table.specs.declared.Found.{Found}
-use Rattle.table.specs.declared.Found.TheVariants.{By}
+use Rattle.table.specs.declared.Deciding.{Deciding}
 use Rattle.table.specs.Shape.{InRange, Fits, pool_length, max_middles, max_leaves}
 use Rattle.table.specs.Map.{form_of}
 use Rattle.table.specs.Fresh.{fresh_pool}
@@ -29,8 +30,8 @@ use Rattle.table.proofs.WantLaws.{wanting, pool_rights}
 use Rattle.table.proofs.LookupLaws.{looks_up}
 use Rattle.table.proofs.FreshWordLaws.{fresh_right}
 use Rattle.plan.specs.Aims.{Aim, change_aim, no_aim, aimed_at}
-use Rattle.change.specs.declared.Answer.{Answer}
-use Rattle.change.specs.declared.Answer.TheVariants.{Done, Cut}
+use Rattle.change.specs.declared.Ending.{Ending}
+use Rattle.change.specs.declared.Ending.TheVariants.{Done, Cut}
 use Rattle.change.specs.Cuts.{differing}
 use Rattle.change.specs.Answers.{IsDone, IsCut, Asked, Changes, Tidies, in_order, done, cut}
 use Rattle.places.proofs.Exists.{finished_fits}
@@ -41,12 +42,12 @@ use Rattle.change.proofs.TidiesLaws.{one_tidy}
 use Rattle.benchmarks.specs.Rows.{shape, Always, Finds}
 
 -- One outcome of a change, or of a tidying, that is as said.
-pub always_change : {p : List ℕ} {s : Shape} {d start len r n : ℕ} {a : Answer} {q : List ℕ}
-    {Is : Answer → List ℕ → Type 0}
+pub always_change : {p : List ℕ} {s : Shape} {d start len r n : ℕ} {a : Result Ending Refusal} {q : List ℕ}
+    {Is : Result Ending Refusal → List ℕ → Type 0}
     → Changes p s d start len r n a q → Is a q → Always (Changes p s d start len r n) Is
 always_change c x = record { some = (_, _, c); each = λ b y z. let (e, f) = one_change z c in rw (e, f) x }
 
-pub always_tidy : {p : List ℕ} {s : Shape} {n : ℕ} {a : Answer} {q : List ℕ} {Is : Answer → List ℕ → Type 0}
+pub always_tidy : {p : List ℕ} {s : Shape} {n : ℕ} {a : Result Ending Refusal} {q : List ℕ} {Is : Result Ending Refusal → List ℕ → Type 0}
     → Tidies p s n a q → Is a q → Always (Tidies p s n) Is
 always_tidy c x = record { some = (_, _, c); each = λ b y z. let (e, f) = one_tidy z c in rw (e, f) x }
 
@@ -75,9 +76,9 @@ listed_words f n z j = elim (dec_lt j n) [
 
 -- What a lookup answers by its definition.
 -- An answer, by its numbers.
-abbrev pub by : (right entry loads first last : ℕ) → Found
+abbrev pub by : (right entry loads first last : ℕ) → Result Deciding Refusal
 by right entry loads first last =
-    By (record {
+    Ok (record {
       right = right;
       entry = entry;
       loads = loads;
@@ -85,7 +86,7 @@ by right entry loads first last =
       last = record { 0 = last };
     })
 
-pub finds : (p : List ℕ) (s : Shape) (a : ℕ) (r : Found) → lookup_of p s 0 a ≡ r → Finds p s a (numbers r)
+pub finds : (p : List ℕ) (s : Shape) (a : ℕ) (r : Result Deciding Refusal) → lookup_of p s 0 a ≡ r → Finds p s a (numbers r)
 finds p s a r e = record { some = (r, looks_up p s 0 a r (sym e)); each = λ t l. ap numbers (l.answer ∙ e) }
 
 -- A fresh pool has its length.
@@ -132,10 +133,10 @@ module _ (p : List ℕ) (s : Shape) (d start len r n : ℕ) (g : Region) (asked 
     (settled : Settled (form_of s) (words p)) where
   pub change_done : (q : List ℕ) (k : ℕ)
       → Finished (form_of s) (words p) (aimed_at s (change_aim d g r) (words p)) (words q)
-      → length q ≡ length p → differing p q ≡ k → k ≤ n → Changes p s d start len r n (Done k) q
+      → length q ≡ length p → differing p q ≡ k → k ≤ n → Changes p s d start len r n (Ok (Done k)) q
   change_done q k f l e h =
       let whole : IsDone s (change_aim d g r) p n q = record { finished = f; long = l; enough = rw e h } in
-      let c : Changes p s d start len r n (Done (differing p q)) q = in_order g asked (done settled q whole) in
+      let c : Changes p s d start len r n (Ok (Done (differing p q))) q = in_order g asked (done settled q whole) in
       rw e at c
 
   pub change_cut : (q : List ℕ) → Finished (form_of s) (words p) (aimed_at s (change_aim d g r) (words p)) (words q)
@@ -147,13 +148,13 @@ module _ (p : List ℕ) (s : Shape) (d start len r n : ℕ) (g : Region) (asked 
 -- The same of a tidying.
 module _ (p : List ℕ) (s : Shape) (n : ℕ) (fits : Fits s (length p)) (sound : SoundPool (form_of s) (words p)) where
   pub tidy_done : (q : List ℕ) (k : ℕ) → Finished (form_of s) (words p) (aimed_at s no_aim (words p)) (words q)
-      → length q ≡ length p → differing p q ≡ k → k ≤ n → Tidies p s n (Done k) q
+      → length q ≡ length p → differing p q ≡ k → k ≤ n → Tidies p s n (Ok (Done k)) q
   tidy_done q k f l e h =
       let whole : IsDone s no_aim p n q = record { finished = f; long = l; enough = rw e h } in
-      let c : Tidies p s n (Done (differing p q)) q = done fits sound q whole in
+      let c : Tidies p s n (Ok (Done (differing p q))) q = done fits sound q whole in
       rw e at c
 
   pub tidy_cut : (q : List ℕ) → Finished (form_of s) (words p) (aimed_at s no_aim (words p)) (words q)
-      → length q ≡ length p → n < differing p q → (x : List ℕ) × Tidies p s n Cut x
+      → length q ≡ length p → n < differing p q → (x : List ℕ) × Tidies p s n (Ok Cut) x
   tidy_cut q f l h = let (x, c) = was_cut_lem s no_aim p n (λ e be. pool_rights s (words p) e) fits sound q f l h in
       (x, cut fits sound x c)

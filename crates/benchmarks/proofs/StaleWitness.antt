@@ -6,13 +6,13 @@ use mathlib.Core.Bool.{Bool, true, false, ◌&&◌, not}
 use mathlib.Core.List.{◌∷◌}
 use native.Mathlib.Omega.{arith}
 use lib.ListN.{set, replicate}
+use Rattle.std.specs.Prelude.{Ok}
 use Rattle.theory.specs.Walk.{walk}
 use Rattle.words.specs.Region.{region_of}
 use Rattle.table.specs.Access.{store}
-use Rattle.change.specs.declared.Answer.TheVariants.{Cut}
-use Rattle.lookaside.specs.declared.Buffer.{Buffer}
+use Rattle.change.specs.declared.Ending.TheVariants.{Cut}
 use Rattle.lookaside.specs.declared.Verdict.TheVariants.{Pass, Deny}
-use Rattle.lookaside.specs.Slots.{slot_for, empty_slot, empty_buffer, first_match, matches, holds_for, holds, in_block}
+use Rattle.lookaside.specs.Slots.{Buffer, slot_for, empty_slot, empty_buffer, first_match, matches, holds_for, holds, in_block}
 use Rattle.lookaside.specs.Check.{refusal_of, check_of}
 use Rattle.lookaside.specs.Flushes.{flushed_region, flushed_buffer, flushed_slot, flushes, meets, pointed}
 use Rattle.lookaside.specs.Agree.{Places, nowhere, both, less}
@@ -34,13 +34,13 @@ holding w = record { slots = slot_for 0 0x1000 w 2 ∷ replicate 63 empty_slot; 
 abbrev used : Buffer
 used = holding 0x80000002
 
-missed : check_of middle_pool one_middle empty_buffer 0 store 4 0x1000 ≡ record { verdict = Pass 2; buffer = used }
+missed : check_of middle_pool one_middle empty_buffer 0 store 4 0x1000 ≡ record { verdict = Ok (Pass 2); buffer = used }
 unfolding check_of refusal_of empty_buffer first_match matches holds_for holds walk listed after
 missed = refl
 
 -- The change makes its region stale.
 abbrev stale : Places
-stale = both nowhere (altered Cut (aim_in (region_of 0 528384) 0 1))
+stale = both nowhere (altered (Ok Cut) (aim_in (region_of 0 528384) 0 1))
 
 filled_watched : Watched one_middle middle_pool used nowhere
 filled_watched = rw (← ap (λ c. c.buffer) missed) (checked (emptied middle_pool) 0 store 4 0x1000)
@@ -52,7 +52,7 @@ used_watched = changed filled_watched begun
 abbrev cleared : Buffer
 cleared = record { slots = replicate 64 empty_slot; next = 1 }
 
-flushed : flushed_region used 0 0 528384 ≡ record { refusal = 0; buffer = cleared }
+flushed : flushed_region used 0 0 528384 ≡ record { answer = Ok tt; buffer = cleared }
 unfolding region_of pointed flushed_buffer flushed_slot flushes meets holds_for holds
 flushed = refl
 
@@ -99,7 +99,7 @@ abbrev used_again : Buffer
 used_again = holding 0x80005555
 
 missed_again : check_of cut_pool one_middle empty_buffer 0 store 4 0x1000 ≡ record {
-  verdict = Deny 2;
+  verdict = Ok (Deny 2);
   buffer =
       used_again;
 }

@@ -3,8 +3,7 @@ use mathlib.Core.Path.{refl}
 use native.Mathlib.Omega.{arith}
 use Rattle.theory.specs.Walk.{walk}
 use Rattle.table.specs.Access.{store}
-use Rattle.lookaside.specs.declared.Buffer.{Buffer}
-use Rattle.lookaside.specs.Slots.{empty_buffer, first_match, matches, holds_for, holds, in_block}
+use Rattle.lookaside.specs.Slots.{Buffer, empty_buffer, first_match, matches, holds_for, holds, in_block}
 use Rattle.lookaside.specs.Agree.{nowhere}
 use Rattle.lookaside.specs.Check.{refusal_of, check_of}
 use Rattle.demands.specs.Watched.{Watched, emptied, checked}

@@ -1,10 +1,11 @@
 -- What the promises about callers suppose can be met: changes by owners and by domains with exports, refused ones, and
 -- lists of owned regions.
-use Rattle.std.specs.Prelude.{ℕ, ◌/◌, ◌<◌, ◌≡◌, ◌≢◌, true, false, List, replicate}
+use Rattle.std.specs.Prelude.{ℕ, ◌/◌, ◌<◌, ◌≡◌, ◌≢◌, true, false, List, replicate, Ok, Err}
+use Rattle.refusals.specs.declared.Refusal.TheVariants.{NotAllowed}
 use Rattle.theory.specs.Pool.{words, right_of}
 use Rattle.table.specs.declared.Shape.{Shape}
 use Rattle.table.specs.Map.{form_of}
-use Rattle.change.specs.declared.Answer.TheVariants.{Done, Refused}
+use Rattle.change.specs.declared.Ending.TheVariants.{Done}
 use Rattle.change.specs.Answers.{Changes}
 use Rattle.owners.specs.Regions.{list_long, region_at, count_of, Disjoint}
 use Rattle.owners.specs.Rules.{exports, export_of, may_word}
@@ -28,8 +29,8 @@ pub record SomeOwner : Type 0 where
   pub some : 0 < stores
   pub held : count_of list ≡ 1
   pub owns : (region_at list 0).owner ≡ 1
-  pub changed : ChangesBy old shape list 1 0 0x1000 64 2 stores (Done stores) pool
-  pub series : Series shape pool list (after history (setting 0 0x1000 64 2 (Done stores)))
+  pub changed : ChangesBy old shape list 1 0 0x1000 64 2 stores (Ok (Done stores)) pool
+  pub series : Series shape pool list (after history (setting 0 0x1000 64 2 (Ok (Done stores))))
   pub had_not : right_of (form_of shape) (words old) 0 0x1000 ≢ 2
   pub has : right_of (form_of shape) (words pool) 0 0x1000 ≡ 2
 
@@ -42,11 +43,11 @@ pub record SomeExport : Type 0 where
   pub stores : ℕ
   pub some : 0 < stores
   pub before : List ℕ
-  pub given : give_of 2 before 0 1 2 0x1000 64 ≡ outcome 0 list
+  pub given : give_of 2 before 0 1 2 0x1000 64 ≡ outcome (Ok tt) list
   pub regions : 0 < count_of list
   pub owns_none : OwnsNone list 1
   pub exported : exports (region_at list 0) 1 ≡ true
-  pub changed : ChangesBy old shape list 1 0 0x1000 64 2 stores (Done stores) pool
+  pub changed : ChangesBy old shape list 1 0 0x1000 64 2 stores (Ok (Done stores)) pool
   pub alone : OwnCalls shape 1 old list pool list
   pub had_not : right_of (form_of shape) (words old) 0 0x1000 ≢ 2
   pub has : right_of (form_of shape) (words pool) 0 0x1000 ≡ 2
@@ -61,8 +62,8 @@ pub record SomeNotAllowed : Type 0 where
   pub some : 0 < stores
   pub exported : exports (region_at list 0) 1 ≡ true
   pub of_read : export_of (region_at list 0) 1 ≡ 1
-  pub refused : ChangesBy old shape list 1 0 0x1000 64 2 stores (Refused 19) old
-  pub by_supervisor : Changes old shape 0 0x1000 64 2 stores (Done stores) pool
+  pub refused : ChangesBy old shape list 1 0 0x1000 64 2 stores (Err NotAllowed) old
+  pub by_supervisor : Changes old shape 0 0x1000 64 2 stores (Ok (Done stores)) pool
 
 -- Calls among which a caller has set a right, as the list allows.
 pub record SomeSetIn : Type 0 where
@@ -71,7 +72,7 @@ pub record SomeSetIn : Type 0 where
   pub old : List ℕ
   pub pool : List ℕ
   pub stores : ℕ
-  pub changed : ChangesBy old shape list 1 0 0x1000 64 2 stores (Done stores) pool
+  pub changed : ChangesBy old shape list 1 0 0x1000 64 2 stores (Ok (Done stores)) pool
   pub set_in : SetIn 0 0x1000 pool list (Calls.then Calls.none (change_by changed))
   pub alters : right_of (form_of shape) (words pool) 0 0x1000 ≢ right_of (form_of shape) (words old) 0 0x1000
 
@@ -83,19 +84,19 @@ pub record SomeNobody : Type 0 where
   pub regions : 0 < count_of list
   pub owns_none : OwnsNone list 1
   pub no_export : NoExport list 1
-  pub refused : ChangesBy pool shape list 1 0 0x1000 64 2 0 (Refused 19) pool
+  pub refused : ChangesBy pool shape list 1 0 0x1000 64 2 0 (Err NotAllowed) pool
 
 -- Two regions made, and no word lies in both; and of the second an export of none was given, by which none may be set
 -- and read may not.
 pub record SomeDisjoint : Type 0 where
   pub one : List ℕ
-  pub first : make_of 2 no_regions 0 1 0x1000 64 ≡ outcome 0 one
+  pub first : make_of 2 no_regions 0 1 0x1000 64 ≡ outcome (Ok tt) one
   pub two : List ℕ
-  pub second : make_of 2 one 0 0 0x2000 64 ≡ outcome 0 two
+  pub second : make_of 2 one 0 0 0x2000 64 ≡ outcome (Ok tt) two
   pub held : count_of two ≡ 2
   pub disjoint : Disjoint two
   pub list : List ℕ
-  pub given : give_of 2 two 0 1 0 0x2000 64 ≡ outcome 0 list
+  pub given : give_of 2 two 0 1 0 0x2000 64 ≡ outcome (Ok tt) list
   pub exported : exports (region_at list 1) 1 ≡ true
   pub of_none : export_of (region_at list 1) 1 ≡ 0
   pub sets_none : may_word list 1 0 0 (0x2000 / 4) ≡ true

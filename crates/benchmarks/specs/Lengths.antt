@@ -1,22 +1,23 @@
 -- Lengths from the middle of a word: examples beside the twelve, a definition a row, about the same contracts and that
 -- of a region flush. D is 1, the domain is 0, and the pool is fresh unless a row says more.
-use Rattle.std.specs.Prelude.{ℕ, ◌≤◌, ◌<◌, ◌≡◌, ◌↔◌, cond, ◌&&◌, List, ◌∷◌, leb, ltb, replicate}
+use Rattle.std.specs.Prelude.{ℕ, ◌≤◌, ◌<◌, ◌≡◌, ◌↔◌, cond, ◌&&◌, List, ◌∷◌, leb, ltb, replicate, Result, Ok}
+use Rattle.refusals.specs.declared.Refusal.{Refusal}
+use Rattle.refusals.specs.declared.Refusal.TheVariants.{EmptyRegion, PastTheEnd}
 use Rattle.theory.specs.Pool.{words, right_of}
 use Rattle.table.specs.declared.Shape.{Shape}
 use Rattle.table.specs.Shape.{first_leaf}
 use Rattle.table.specs.Map.{addresses, form_of}
 use Rattle.table.specs.Fresh.{fresh_pool}
-use Rattle.change.specs.declared.Answer.{Answer}
+use Rattle.change.specs.declared.Ending.{Ending}
 use Rattle.change.specs.Answers.{Changes}
 use Rattle.lookaside.specs.declared.Slot.{Slot}
-use Rattle.lookaside.specs.declared.Buffer.{Buffer}
-use Rattle.lookaside.specs.Slots.{slot_for, empty_slot}
+use Rattle.lookaside.specs.Slots.{Buffer, slot_for, empty_slot}
 use Rattle.lookaside.specs.Flushes.{flushed_region, refused}
 use Rattle.benchmarks.specs.Rows.{shape, Always, AnsweredDone, AnsweredRefused, Sets, FindsRight, last_stores}
 
 -- Of every pool, in every domain, with every right and allowance, a change of the one region is one of the other.
 abbrev pub SameChange : (start len start' len' : ℕ) → Type 0
-SameChange start len start' len' = (p : List ℕ) (s : Shape) (d r n : ℕ) (a : Answer) (q : List ℕ)
+SameChange start len start' len' = (p : List ℕ) (s : Shape) (d r n : ℕ) (a : Result Ending Refusal) (q : List ℕ)
     → Changes p s d start len r n a q ↔ Changes p s d start' len' r n a q
 
 -- Whatever the right, up to 3, and the allowance: refused, and the pool is as it came.
@@ -73,11 +74,11 @@ held w = four_slots (line_at w 0x1000) (line_at w 0x1040) (line_at w 0x1080) (li
 -- with length 2 it empties that of the last line, with 3 it is refused 5; start 0x1002, length 0: refused 4.
 pub record FlushesFollow : Type 0 where
   pub both_lines : (w : ℕ) → flushed_region (held w) 0 0x103E 4
-      ≡ record { refusal = 0; buffer = four_slots empty_slot empty_slot (line_at w 0x1080) (line_at w 0xFFFFFFC0) }
+      ≡ record { answer = Ok tt; buffer = four_slots empty_slot empty_slot (line_at w 0x1080) (line_at w 0xFFFFFFC0) }
   pub last_line : (w : ℕ) → flushed_region (held w) 0 0xFFFFFFFE 2
-      ≡ record { refusal = 0; buffer = four_slots (line_at w 0x1000) (line_at w 0x1040) (line_at w 0x1080) empty_slot }
-  pub past_the_end : (w : ℕ) → flushed_region (held w) 0 0xFFFFFFFE 3 ≡ refused 5 (held w)
-  pub no_length : (w : ℕ) → flushed_region (held w) 0 0x1002 0 ≡ refused 4 (held w)
+      ≡ record { answer = Ok tt; buffer = four_slots (line_at w 0x1000) (line_at w 0x1040) (line_at w 0x1080) empty_slot }
+  pub past_the_end : (w : ℕ) → flushed_region (held w) 0 0xFFFFFFFE 3 ≡ refused PastTheEnd (held w)
+  pub no_length : (w : ℕ) → flushed_region (held w) 0 0x1002 0 ≡ refused EmptyRegion (held w)
 
 -- The six.
 pub record Lengths : Type 0 where

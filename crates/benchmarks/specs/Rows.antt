@@ -1,16 +1,17 @@
 -- The paper's twelve benchmarks, a definition a row, about the definitions that the contracts of `fresh`, `lookup`,
 -- `change` and `tidy` cite. D is 1, the domain is 0, and the pool is fresh unless a row says more. A row holds of
 -- every outcome that the contract allows, and there is one.
-use Rattle.std.specs.Prelude.{ℕ, zero, suc, ◌+◌, ◌*◌, ◌≤◌, ◌<◌, ◌≡◌, ◌⊎◌, List, ◌++◌, length, replicate, set}
+use Rattle.std.specs.Prelude.{ℕ, zero, suc, ◌+◌, ◌*◌, ◌≤◌, ◌<◌, ◌≡◌, ◌⊎◌, List, ◌++◌, length, replicate, set, Result}
+use Rattle.refusals.specs.declared.Refusal.{Refusal}
 use Rattle.theory.specs.Pool.{words, SoundPool, right_of}
 use Rattle.words.specs.declared.Region.{Region}
 use Rattle.table.specs.declared.Shape.{Shape}
-use Rattle.table.specs.declared.Found.{Found}
+use Rattle.table.specs.declared.Deciding.{Deciding}
 use Rattle.table.specs.Shape.{Fits, max_leaves, first_middle, first_leaf}
 use Rattle.table.specs.Map.{addresses, block_at, form_of}
 use Rattle.table.specs.Fresh.{made_number, fresh_pool, MakesFresh}
 use Rattle.table.specs.Lookup.{Numbers, numbers, LooksUp}
-use Rattle.change.specs.declared.Answer.{Answer}
+use Rattle.change.specs.declared.Ending.{Ending}
 use Rattle.change.specs.Answers.{Asked, Changes, Tidies}
 use Rattle.change.specs.Answers.{numbers as counts}
 
@@ -24,23 +25,23 @@ pub record Always {A : Type 0} (Allows Is : A → List ℕ → Type 0) : Type 0 
   pub each : (a : A) (q : List ℕ) → Allows a q → Is a q
 
 -- In the paper's numbers: done with so many stores, cut, refused with a number.
-abbrev pub AnsweredDone : ℕ → Answer → Type 0
+abbrev pub AnsweredDone : ℕ → Result Ending Refusal → Type 0
 AnsweredDone n a = counts a ≡ record { refusal = 0; cuts = 0; stores = n }
 
-abbrev pub AnsweredCut : Answer → Type 0
+abbrev pub AnsweredCut : Result Ending Refusal → Type 0
 AnsweredCut a = counts a ≡ record { refusal = 0; cuts = 1; stores = 0 }
 
-abbrev pub AnsweredRefused : ℕ → Answer → Type 0
+abbrev pub AnsweredRefused : ℕ → Result Ending Refusal → Type 0
 AnsweredRefused k a = counts a ≡ record { refusal = k; cuts = 0; stores = 0 }
 
 -- Setting `len` bytes from `start` on to the right `r`, in a fresh pool with M and L and with the allowance `n`.
-abbrev pub Sets : (M L start len r n : ℕ) → Answer → List ℕ → Type 0
+abbrev pub Sets : (M L start len r n : ℕ) → Result Ending Refusal → List ℕ → Type 0
 Sets M L start len r n = Changes (fresh_pool (shape M L)) (shape M L) 0 start len r n
 
 -- What a lookup of `a` answers, in the paper's numbers: the contract allows that answer, and no other.
 pub record Finds (p : List ℕ) (s : Shape) (a : ℕ) (x : Numbers) : Type 0 where
-  pub some : (r : Found) × LooksUp p s 0 a r
-  pub each : (r : Found) → LooksUp p s 0 a r → numbers r ≡ x
+  pub some : (r : Result Deciding Refusal) × LooksUp p s 0 a r
+  pub each : (r : Result Deciding Refusal) → LooksUp p s 0 a r → numbers r ≡ x
 
 -- It gives the right, the deciding entry and the loads; and the right reaches from byte `first` to byte `last`.
 abbrev pub FindsRight : (p : List ℕ) (s : Shape) (a right entry loads first last : ℕ) → Type 0
@@ -83,7 +84,7 @@ CutBeforeTheLast = Always (Sets 1 1 0x1000 64 2 1025)
 
 -- 5. After 2, the same region to 0: one store, root entry 0x80000000.
 abbrev pub GivesUpBoth : Type 0
-GivesUpBoth = (n m : ℕ) → 1026 ≤ n → 1 ≤ m → (b : Answer) (p : List ℕ) → Sets 1 1 0x1000 64 2 n b p
+GivesUpBoth = (n m : ℕ) → 1026 ≤ n → 1 ≤ m → (b : Result Ending Refusal) (p : List ℕ) → Sets 1 1 0x1000 64 2 n b p
     → Always (Changes p (shape 1 1) 0 0x1000 64 0 m) (λ a q. AnsweredDone 1 a × (words q 0 ≡ 0x80000000))
 
 -- 6. M 1, L 0, set 0x1000 for 512 bytes to 2: 1,025 stores, middle entry 1 is 0x80000002.

@@ -1,6 +1,7 @@
 -- What the promises suppose can be met: of each kind of pool, cut, store, buffer and series that they speak of there
 -- is one.
-use Rattle.std.specs.Prelude.{ℕ, ◌<◌, ◌≡◌, ◌≢◌, true, false, List, length}
+use Rattle.std.specs.Prelude.{ℕ, ◌<◌, ◌≡◌, ◌≢◌, true, false, List, length, Some, Ok, Err}
+use Rattle.refusals.specs.declared.Refusal.TheVariants.{NotSettled}
 use Rattle.theory.specs.Form.{Form}
 use Rattle.theory.specs.Pool.{words, SoundPool, right_of}
 use Rattle.theory.specs.Settled.{HasTable, Settled}
@@ -11,14 +12,12 @@ use Rattle.table.specs.Map.{addresses, form_of}
 use Rattle.table.specs.Access.{store}
 use Rattle.targets.specs.declared.Paint.{Paint}
 use Rattle.plan.specs.Aims.{aim_of}
-use Rattle.change.specs.declared.Answer.TheVariants.{Done, Cut, Refused}
+use Rattle.change.specs.declared.Ending.TheVariants.{Done, Cut}
 use Rattle.change.specs.Cuts.{Due}
 use Rattle.change.specs.Answers.{IsCut, Changes, Tidies}
 use Rattle.lookaside.specs.declared.Slot.{Slot}
-use Rattle.lookaside.specs.declared.Buffer.{Buffer}
-use Rattle.lookaside.specs.declared.Hit.TheVariants.{At}
 use Rattle.lookaside.specs.declared.Verdict.TheVariants.{Pass, Deny}
-use Rattle.lookaside.specs.Slots.{empty_buffer, first_match}
+use Rattle.lookaside.specs.Slots.{Buffer, empty_buffer, first_match}
 use Rattle.lookaside.specs.Check.{check_of}
 use Rattle.lookaside.specs.Flushes.{flushed_region}
 use Rattle.lookaside.specs.Agree.{Places, nowhere, Agrees}
@@ -92,7 +91,7 @@ pub record SomeBuffer : Type 0 where
   pub watched : Watched shape pool buffer nowhere
   pub agrees : Agrees shape pool buffer
   pub slot : Slot
-  pub answers : first_match buffer.slots 0 0x1004 ≡ At slot
+  pub answers : first_match buffer.slots 0 0x1004 ≡ Some slot
 
 -- A series: a change that finished, one that was cut, a third that was refused 7 for the cut, and a tidying that made
 -- a store.
@@ -104,9 +103,9 @@ pub record SomeSeries : Type 0 where
   pub some : 0 < tidied_stores
   pub list : List ℕ
   pub series : Series shape pool list (after
-      (after (after (after made (setting 0 0x1000 512 2 (Done made_stores))) (setting 0 0 528384 1 Cut))
-      (setting 0 0 4 0 (Refused 7)))
-      (tidied (Done tidied_stores)))
+      (after (after (after made (setting 0 0x1000 512 2 (Ok (Done made_stores)))) (setting 0 0 528384 1 (Ok Cut)))
+      (setting 0 0 4 0 (Err NotSettled)))
+      (tidied (Ok (Done tidied_stores))))
 
 -- A slot that is stale: a check missed and filled it, and then a change that covers it was cut. Its verdict is not the
 -- walk's. Flushed of the change's region, the buffer is nowhere stale, and gives the walk's verdict again.
@@ -118,21 +117,21 @@ pub record SomeStale : Type 0 where
   pub stores : ℕ
   pub list : List ℕ
   pub series : Series shape pool list
-      (after (after made (setting 0 0x1000 512 2 (Done made_stores))) (setting 0 0 528384 1 Cut))
+      (after (after made (setting 0 0x1000 512 2 (Ok (Done made_stores)))) (setting 0 0 528384 1 (Ok Cut)))
   pub filled_buffer : Buffer
-  pub missed : check_of old shape empty_buffer 0 store 4 0x1000 ≡ record { verdict = Pass 2; buffer = filled_buffer }
-  pub cut : Changes old shape 0 0 528384 1 stores Cut pool
+  pub missed : check_of old shape empty_buffer 0 store 4 0x1000 ≡ record { verdict = Ok (Pass 2); buffer = filled_buffer }
+  pub cut : Changes old shape 0 0 528384 1 stores (Ok Cut) pool
   pub stale : Places
   pub watched : Watched shape pool filled_buffer stale
   pub is_stale : stale 0 0x1000 ≡ true
-  pub by_slot : (check_of pool shape filled_buffer 0 store 4 0x1000).verdict ≡ Pass 0
-  pub by_walk : (check_of pool shape empty_buffer 0 store 4 0x1000).verdict ≡ Deny 2
+  pub by_slot : (check_of pool shape filled_buffer 0 store 4 0x1000).verdict ≡ Ok (Pass 0)
+  pub by_walk : (check_of pool shape empty_buffer 0 store 4 0x1000).verdict ≡ Ok (Deny 2)
   pub after_flush : Buffer
-  pub flushed : flushed_region filled_buffer 0 0 528384 ≡ record { refusal = 0; buffer = after_flush }
+  pub flushed : flushed_region filled_buffer 0 0 528384 ≡ record { answer = Ok tt; buffer = after_flush }
   pub left : Places
   pub watched_on : Watched shape pool after_flush left
   pub none_left : (d a : ℕ) → left d a ≡ false
-  pub walks_again : (check_of pool shape after_flush 0 store 4 0x1000).verdict ≡ Deny 2
+  pub walks_again : (check_of pool shape after_flush 0 store 4 0x1000).verdict ≡ Ok (Deny 2)
 
 -- A tidying needs no flush: a slot that was filled before it answers as the walk does, which now ends a level higher.
 pub record SomeTidied : Type 0 where
@@ -142,11 +141,11 @@ pub record SomeTidied : Type 0 where
   pub stores : ℕ
   pub some : 0 < stores
   pub filled_buffer : Buffer
-  pub missed : check_of old shape empty_buffer 0 store 4 0x1000 ≡ record { verdict = Deny 2; buffer = filled_buffer }
-  pub tidied : Tidies old shape stores (Done stores) pool
+  pub missed : check_of old shape empty_buffer 0 store 4 0x1000 ≡ record { verdict = Ok (Deny 2); buffer = filled_buffer }
+  pub tidied : Tidies old shape stores (Ok (Done stores)) pool
   pub watched : Watched shape pool filled_buffer nowhere
-  pub by_slot : (check_of pool shape filled_buffer 0 store 4 0x1000).verdict ≡ Deny 0
-  pub by_walk : (check_of pool shape empty_buffer 0 store 4 0x1000).verdict ≡ Deny 1
+  pub by_slot : (check_of pool shape filled_buffer 0 store 4 0x1000).verdict ≡ Ok (Deny 0)
+  pub by_walk : (check_of pool shape empty_buffer 0 store 4 0x1000).verdict ≡ Ok (Deny 1)
 
 -- A tidying that was cut after some stores, where more were wanted; and with as many as are wanted it is done.
 pub record SomeTidyCut : Type 0 where
@@ -155,11 +154,11 @@ pub record SomeTidyCut : Type 0 where
   pub stores : ℕ
   pub pool : List ℕ
   pub some : 0 < stores
-  pub cut : Tidies old shape stores Cut pool
+  pub cut : Tidies old shape stores (Ok Cut) pool
   pub wanted : ℕ
   pub more : stores < wanted
   pub tidied : List ℕ
-  pub done : Tidies old shape wanted (Done wanted) tidied
+  pub done : Tidies old shape wanted (Ok (Done wanted)) tidied
 
 -- All of them.
 pub record Met : Type 0 where

@@ -6,19 +6,19 @@ use mathlib.Core.Logic.{◌≢◌, ◌⊎◌, inl, inr, ⊎_elim}
 use mathlib.Core.Bool.{true, false≢true}
 use mathlib.Core.List.{List}
 use native.Mathlib.Omega.{arith}
+use Rattle.std.specs.Prelude.{Result, Ok, Err}
+use Rattle.refusals.specs.declared.Refusal.{Refusal}
 use Rattle.theory.specs.Pool.{words, right_of}
 use Rattle.theory.proofs.Logic.{by_cases}
 use Rattle.words.specs.Region.{region_of, covered}
 use Rattle.words.specs.declared.Region.{Region}
-use Rattle.words.specs.declared.Rounded.{Rounded}
-use Rattle.words.specs.declared.Rounded.TheVariants.{Covers, Refused as NoRegion}
 use Rattle.words.proofs.RegionLaws.{covered_range, region_covering}
 use Rattle.table.specs.declared.Shape.{Shape}
 use Rattle.table.specs.Map.{addresses, form_of}
 use Rattle.plan.specs.Aims.{Aim}
 use Rattle.plan.proofs.AimLaws.{covers_change}
-use Rattle.change.specs.declared.Answer.{Answer}
-use Rattle.change.specs.declared.Answer.TheVariants.{Done, Cut, Refused}
+use Rattle.change.specs.declared.Ending.{Ending}
+use Rattle.change.specs.declared.Ending.TheVariants.{Done, Cut}
 use Rattle.owners.specs.Regions.{Disjoint}
 use Rattle.owners.specs.Rules.{may_word}
 use Rattle.owners.specs.Changes.{ChangesBy}
@@ -36,23 +36,23 @@ abbrev Same : Shape → List ℕ → List ℕ → ℕ → ℕ → Type 0
 Same s p q e a = right_of (form_of s) (words q) e a ≡ right_of (form_of s) (words p) e a
 
 -- An aim alters only what it covers.
-altered_covers : (c : Answer) (A : Aim) (e a : ℕ) → altered c A e a ≡ true → A.covers e a ≡ true
-altered_covers (Done k) A e a z = z
-altered_covers Cut A e a z = z
-altered_covers (Refused k) A e a z = absurd (false≢true z)
+altered_covers : (c : Result Ending Refusal) (A : Aim) (e a : ℕ) → altered c A e a ≡ true → A.covers e a ≡ true
+altered_covers (Ok (Done k)) A e a z = z
+altered_covers (Ok Cut) A e a z = z
+altered_covers (Err k) A e a z = absurd (false≢true z)
 
 -- A change covers words of its region in its own domain alone.
-aim_domain : (x : Rounded) (d r e a : ℕ) → (aim_in x d r).covers e a ≡ true → e ≡ d
-aim_domain (Covers g) d r e a z = (covers_change d g r e a z).0
-aim_domain (NoRegion k) d r e a z = absurd (false≢true z)
+aim_domain : (x : Result Region Refusal) (d r e a : ℕ) → (aim_in x d r).covers e a ≡ true → e ≡ d
+aim_domain (Ok g) d r e a z = (covers_change d g r e a z).0
+aim_domain (Err k) d r e a z = absurd (false≢true z)
 
-aim_word : (start len d r e a : ℕ) {g : Region} → region_of start len ≡ Covers g
+aim_word : (start len d r e a : ℕ) {g : Region} → region_of start len ≡ Ok g
     → (aim_in (region_of start len) d r).covers e a ≡ true → covered g a ≡ true
 aim_word start len d r e a {g} z w = (covers_change d g r e a (rw z at w)).1
 
 -- A change by a caller alters a right of the domain that it names alone, where it was done or cut, and on words on
 -- which the caller may set it.
-pub by_word : {s : Shape} {p list q : List ℕ} {caller d start len r n : ℕ} {c : Answer}
+pub by_word : {s : Shape} {p list q : List ℕ} {caller d start len r n : ℕ} {c : Result Ending Refusal}
     → ChangesBy p s list caller d start len r n c q → (e a : ℕ) → e < s.domains → a < addresses
     → (right_of (form_of s) (words q) e a ≡ right_of (form_of s) (words p) e a)
     ⊎ ((e ≡ d) × (altered c (aim_in (region_of start len) d r) e a ≡ true) × (may_word list caller d r (a / 4) ≡ true))
@@ -125,7 +125,7 @@ set_by_another list k other Owns-none caller r w may e =
 -- Of a domain other than 0 that owns no region:
 module _ {list : List ℕ} {k : ℕ} (other : k ≢ 0) (Owns-none : OwnsNone list k) where
   -- Whatever it asks for, and with whatever exports, no change of it alters its own rights; in any pool.
-  pub never_its_own : {s : Shape} {p q : List ℕ} {d start len r n : ℕ} {c : Answer}
+  pub never_its_own : {s : Shape} {p q : List ℕ} {d start len r n : ℕ} {c : Result Ending Refusal}
       → ChangesBy p s list k d start len r n c q → (a : ℕ) → a < addresses → k < s.domains
       → right_of (form_of s) (words q) k a ≡ right_of (form_of s) (words p) k a
   never_its_own {r = r} y a ba bk =
@@ -135,7 +135,7 @@ module _ {list : List ℕ} {k : ℕ} (other : k ≢ 0) (Owns-none : OwnsNone lis
       (by_word y k a bk ba)
 
   -- With no export either, it changes nothing.
-  pub nothing_at_all : NoExport list k → {s : Shape} {p q : List ℕ} {d start len r n : ℕ} {c : Answer}
+  pub nothing_at_all : NoExport list k → {s : Shape} {p q : List ℕ} {d start len r n : ℕ} {c : Result Ending Refusal}
       → ChangesBy p s list k d start len r n c q → q ≡ p
   nothing_at_all no_export {s} {p} {d = d} {start} {len} {r} y =
       ⊎_elim

@@ -8,49 +8,45 @@ use mathlib.Core.List.{List, [], ◌∷◌, map}
 use native.Mathlib.Omega.{arith}
 use native.Mathlib.Decide.{ℕ_discrete, dec_lt}
 use lib.ListN.{length, set, get_or, replicate, get_or-map}
+use Rattle.std.specs.Prelude.{Result, Ok, Err, Option, Some, None}
+use Rattle.refusals.specs.declared.Refusal.{Refusal}
+use Rattle.refusals.specs.declared.Refusal.TheVariants.{NotSound}
 use lib.Seq.{set_out, get_or-set_same, get_or-set_other}
 use Rattle.theory.specs.Pool.{words, SoundPool, entry}
 use Rattle.theory.specs.Settled.{Together}
 use Rattle.theory.proofs.WalkLaws.{decides_low, together_decides}
 use Rattle.table.specs.declared.Shape.{Shape}
 use Rattle.table.specs.declared.Deciding.{Deciding}
-use Rattle.table.specs.declared.Found.{Found}
-use Rattle.table.specs.declared.Found.TheVariants.{By, Refused as NotFound}
 use Rattle.table.specs.Shape.{Fits, fits_of}
 use Rattle.table.specs.Map.{addresses, form_of}
 use Rattle.table.specs.Lookup.{found_at, lookup_of}
 use Rattle.table.proofs.LookupLaws.{right_found, lookup_walks, sound_lookup}
 use Rattle.plan.specs.Aims.{Aim}
-use Rattle.change.specs.declared.Answer.{Answer}
+use Rattle.change.specs.declared.Ending.{Ending}
 use Rattle.change.specs.Answers.{ChangesRegion, Changes, Tidies, no_shape, no_domain, no_right, no_region, in_order}
 use Rattle.change.specs.Answers.{unsound, unsettled, no_room, done, cut}
 use Rattle.lookaside.specs.declared.Slot.{Slot}
-use Rattle.lookaside.specs.declared.Buffer.{Buffer}
-use Rattle.lookaside.specs.declared.Hit.{Hit}
-use Rattle.lookaside.specs.declared.Hit.TheVariants.{At, Miss}
-use Rattle.lookaside.specs.declared.Flushing.{Flushing}
-use Rattle.lookaside.specs.Slots.{height_of, block_bytes, matches, first_match, slot_for, empty_slot, empty_buffer}
-use Rattle.lookaside.specs.declared.Verdict.TheVariants.{Refused}
+use Rattle.lookaside.specs.Slots.{Buffer, height_of, block_bytes, matches, first_match, slot_for, empty_slot, empty_buffer}
 use Rattle.lookaside.specs.Check.{refusal_of, walked, answered, check_of}
-use Rattle.lookaside.specs.Flushes.{flushes, flushed_slot, flushed_buffer}
+use Rattle.lookaside.specs.Flushes.{Flushing, flushes, flushed_slot, flushed_buffer}
 use Rattle.lookaside.proofs.TestLaws.{round_count}
 use Rattle.lookaside.proofs.SlotLaws.{match_is}
 use Rattle.lookaside.proofs.BufferLaws.{first_matches}
-use Rattle.lookaside.proofs.CheckLaws.{allowed, check_refused, check_answered}
+use Rattle.lookaside.proofs.CheckLaws.{allowed, check_refused, check_answered, check_cases}
 use Rattle.lookaside.proofs.AgreeLaws.{block_together}
 use Rattle.owners.specs.Changes.{ChangesBy}
 use Rattle.owners.proofs.ByLaws.{by_changes}
 
 -- Wherever the slot matches, the walk is not refused 6.
 abbrev pub Clear : List ℕ → Shape → Slot → Type 0
-Clear p s t = (d a : ℕ) → d < s.domains → a < addresses → matches t d a ≡ true → lookup_of p s d a ≢ NotFound 6
+Clear p s t = (d a : ℕ) → d < s.domains → a < addresses → matches t d a ≡ true → lookup_of p s d a ≢ Err NotSound
 
 -- Every slot of the buffer is clear; past its end there are only empty ones.
 abbrev pub AllClear : List ℕ → Shape → Buffer → Type 0
 AllClear p s b = (i : ℕ) → Clear p s (get_or b.slots i empty_slot)
 
-pub not_six : {x : Deciding} → By x ≡ NotFound 6 → ⊥
-not_six e = let z : ◌≡◌ {A = ℕ} 0 1 = cc in omega arith
+pub not_six : {x : Deciding} → Ok x ≡ Err NotSound → ⊥
+not_six e = cc
 
 empty_clear : (p : List ℕ) (s : Shape) → Clear p s empty_slot
 empty_clear p s d a hd ha m = absurd (false≢true (match_is empty_slot d a m).level)
@@ -70,7 +66,7 @@ pub sound_clear : (p : List ℕ) (s : Shape) → SoundPool (form_of s) (words p)
 sound_clear p s q f b i d a hd ha m e = let (x, z, _) = sound_lookup p s d a q f hd in not_six (sym z ∙ e)
 
 -- What a lookup keeps is clear: on its whole block the walk ends at the same entry.
-kept_clear : (p : List ℕ) (s : Shape) (d a : ℕ) (x : Deciding) → fits_of s (length p) ≡ true → lookup_of p s d a ≡ By x
+kept_clear : (p : List ℕ) (s : Shape) (d a : ℕ) (x : Deciding) → fits_of s (length p) ≡ true → lookup_of p s d a ≡ Ok x
     → Clear p s (slot_for d a x.entry x.loads)
 kept_clear p s d a x ok e f c hf hc m six =
     let n = x.loads in
@@ -87,21 +83,21 @@ kept_clear p s d a x ok e f c hf hc m six =
     not_six (sym found ∙ ap (λ v. lookup_of p s v c) i ∙ six)
 
 -- The slot that answers is one of the buffer's.
-answers_at : (l : List Slot) (d a : ℕ) (t : Slot) → first_match l d a ≡ At t → (i : ℕ) × (get_or l i empty_slot ≡ t)
+answers_at : (l : List Slot) (d a : ℕ) (t : Slot) → first_match l d a ≡ Some t → (i : ℕ) × (get_or l i empty_slot ≡ t)
 unfolding first_match
-answers_at [] d a t h = let z : ◌≡◌ {A = ℕ} 0 1 = cc in absurd (omega arith)
+answers_at [] d a t h = cc
 answers_at (x ∷ xs) d a t h = go (matches x d a) (answers_at xs d a t) h
   where
-    go : (c : Bool) → (first_match xs d a ≡ At t → (i : ℕ) × (get_or xs i empty_slot ≡ t))
-        → cond c (At x) (first_match xs d a) ≡ At t
+    go : (c : Bool) → (first_match xs d a ≡ Some t → (i : ℕ) × (get_or xs i empty_slot ≡ t))
+        → cond c (Some x) (first_match xs d a) ≡ Some t
         → (i : ℕ) × (get_or (x ∷ xs) i empty_slot ≡ t)
     go true later h = (0, cc)
     go false later h = let (i, e) = later h in (suc i, e)
 
--- The refusal before the walk, or else 6.
-abbrev pub or_six : ℕ → ℕ
-or_six zero = 6
-or_six (suc n) = suc n
+-- The refusal before the walk, or else that of the walk.
+abbrev pub or_six : Result (Unit {0}) Refusal → Refusal
+or_six (Ok _) = NotSound
+or_six (Err r) = r
 
 module _ (p : List ℕ) (s : Shape) (b : Buffer) (g : AllClear p s b) where
   -- A flush leaves of each slot what it was, or an empty one.
@@ -129,29 +125,23 @@ module _ (p : List ℕ) (s : Shape) (b : Buffer) (g : AllClear p s b) where
     | no e ↦ rw (get_or-set_other b.slots n i t empty_slot e) (g i)
   ]
 
-  walked_clear : (d kind a : ℕ) → fits_of s (length p) ≡ true → (f : Found) → lookup_of p s d a ≡ f
+  walked_clear : (d kind a : ℕ) → fits_of s (length p) ≡ true → (f : Result Deciding Refusal) → lookup_of p s d a ≡ f
       → AllClear p s (walked f b d kind a).buffer
-  walked_clear d kind a ok (By x) e = filled_clear b.next (slot_for d a x.entry x.loads)
+  walked_clear d kind a ok (Ok x) e = filled_clear b.next (slot_for d a x.entry x.loads)
       (kept_clear p s d a x ok e)
-  walked_clear d kind a ok (NotFound n) e = g
+  walked_clear d kind a ok (Err r) e = g
 
-  answered_clear : (d kind a : ℕ) → fits_of s (length p) ≡ true → (h : Hit)
+  answered_clear : (d kind a : ℕ) → fits_of s (length p) ≡ true → (h : Option Slot)
       → AllClear p s (answered h p s b d kind a).buffer
-  answered_clear d kind a ok (At t) = g
-  answered_clear d kind a ok Miss = walked_clear d kind a ok (lookup_of p s d a) refl
+  answered_clear d kind a ok (Some t) = g
+  answered_clear d kind a ok None = walked_clear d kind a ok (lookup_of p s d a) refl
 
   pub check_clear : (d kind size a : ℕ) → AllClear p s (check_of p s b d kind size a).buffer
-  check_clear d kind size a = elim (ℕ_discrete n 0) [
-    | yes e ↦ rw (check_answered p s b d kind size a e)
-        (answered_clear d kind a (allowed s (length p) b.next d kind size a e).fits (first_match b.slots d a))
-    | no e ↦ rw (check_refused p s b d kind size a n refl e) g
-  ]
-    where
-      n : ℕ
-      n = refusal_of s (length p) b.next d kind size a
+  check_clear d kind size a = check_cases p s b d kind size a (λ c. AllClear p s c.buffer) (λ _ _. g)
+      (λ e. answered_clear d kind a (allowed s (length p) b.next d kind size a e).fits (first_match b.slots d a))
 
   -- What a change or a tidying leaves is the pool that came in, or sound.
-  region_clear : {q : List ℕ} {A : Aim} {n : ℕ} {c : Answer} → Fits s (length p)
+  region_clear : {q : List ℕ} {A : Aim} {n : ℕ} {c : Result Ending Refusal} → Fits s (length p)
       → ChangesRegion p s A n c q → AllClear q s b
   region_clear f (unsound x) = g
   region_clear f (unsettled x y) = g
@@ -159,7 +149,7 @@ module _ (p : List ℕ) (s : Shape) (b : Buffer) (g : AllClear p s b) where
   region_clear f (done t q y) = sound_clear q s y.finished.settled.sound (rw y.long f) b
   region_clear f (cut t q y) = sound_clear q s y.cut.sound (rw y.cut.long f) b
 
-  pub change_clear : {q : List ℕ} {d start len r n : ℕ} {c : Answer} → Changes p s d start len r n c q → AllClear q s b
+  pub change_clear : {q : List ℕ} {d start len r n : ℕ} {c : Result Ending Refusal} → Changes p s d start len r n c q → AllClear q s b
   change_clear (no_shape x) = g
   change_clear (no_domain x y) = g
   change_clear (no_right x y w) = g
@@ -167,33 +157,33 @@ module _ (p : List ℕ) (s : Shape) (b : Buffer) (g : AllClear p s b) where
   change_clear (in_order k asked x) = region_clear asked.fits x
 
   -- So does a change by a caller, which is a change or leaves the pool.
-  pub change_by_clear : {q list : List ℕ} {caller d start len r n : ℕ} {c : Answer}
+  pub change_by_clear : {q list : List ℕ} {caller d start len r n : ℕ} {c : Result Ending Refusal}
       → ChangesBy p s list caller d start len r n c q → AllClear q s b
   change_by_clear x = ⊎_elim change_clear (λ (k, e, f). rw f g) (by_changes x)
 
-  pub tidy_clear : {q : List ℕ} {n : ℕ} {c : Answer} → Tidies p s n c q → AllClear q s b
+  pub tidy_clear : {q : List ℕ} {n : ℕ} {c : Result Ending Refusal} → Tidies p s n c q → AllClear q s b
   tidy_clear (no_shape x) = g
   tidy_clear (unsound x y) = g
   tidy_clear (done f y q z) = sound_clear q s z.finished.settled.sound (rw z.long f) b
   tidy_clear (cut f y q z) = sound_clear q s z.cut.sound (rw z.cut.long f) b
 
-  answered_six : (d kind a : ℕ) → d < s.domains → a < addresses → lookup_of p s d a ≡ NotFound 6 → (h : Hit)
-      → first_match b.slots d a ≡ h → (answered h p s b d kind a).verdict ≡ Refused 6
-  answered_six d kind a hd ha six (At t) h =
+  answered_six : (d kind a : ℕ) → d < s.domains → a < addresses → lookup_of p s d a ≡ Err NotSound → (h : Option Slot)
+      → first_match b.slots d a ≡ h → (answered h p s b d kind a).verdict ≡ Err NotSound
+  answered_six d kind a hd ha six (Some t) h =
       let (i, q) = answers_at b.slots d a t h in
       let m : matches (get_or b.slots i empty_slot) d a ≡ true = rw q (first_matches b.slots d a t h) in
       absurd (g i d a hd ha m six)
-  answered_six d kind a hd ha six Miss h = ap (λ f. (walked f b d kind a).verdict) six
+  answered_six d kind a hd ha six None h = ap (λ f. (walked f b d kind a).verdict) six
 
   -- Where the walk is refused 6, so is a check that is not refused before it.
-  pub check_six : (d kind size a : ℕ) → a < addresses → lookup_of p s d a ≡ NotFound 6
-      → (check_of p s b d kind size a).verdict ≡ Refused (or_six (refusal_of s (length p) b.next d kind size a))
+  pub check_six : (d kind size a : ℕ) → a < addresses → lookup_of p s d a ≡ Err NotSound
+      → (check_of p s b d kind size a).verdict ≡ Err (or_six (refusal_of s (length p) b.next d kind size a))
   check_six d kind size a ha six = go (refusal_of s (length p) b.next d kind size a) refl
     where
-      go : (n : ℕ) → refusal_of s (length p) b.next d kind size a ≡ n
-          → (check_of p s b d kind size a).verdict ≡ Refused (or_six n)
-      go zero e =
+      go : (r : Result (Unit {0}) Refusal) → refusal_of s (length p) b.next d kind size a ≡ r
+          → (check_of p s b d kind size a).verdict ≡ Err (or_six r)
+      go (Ok _) e =
           let ok = allowed s (length p) b.next d kind size a e in
           ap (λ c. c.verdict) (check_answered p s b d kind size a e)
           ∙ answered_six d kind a ok.domain ha six (first_match b.slots d a) refl
-      go (suc n) e = ap (λ c. c.verdict) (check_refused p s b d kind size a (suc n) e (omega arith))
+      go (Err r) e = ap (λ c. c.verdict) (check_refused p s b d kind size a r e)

@@ -2,36 +2,32 @@
 use Prim.Native.Nat.{ℕ, ◌≤◌, ◌<◌}
 use mathlib.Core.Path.{◌≡◌, refl, sym, ap, ◌∙◌}
 use mathlib.Core.Logic.{◌≢◌, ◌⊎◌, inl, inr, ⊎_elim}
-use mathlib.Core.Bool.{Bool, true, false, ◌&&◌}
+use mathlib.Core.Bool.{Bool, true, false, cond, ◌&&◌}
+use lib.Dec.{ltb}
 use mathlib.Core.List.{List}
 use native.Mathlib.Omega.{arith}
-use native.Mathlib.Decide.{ℕ_discrete}
 use lib.ListN.{length}
-use Rattle.theory.specs.Pool.{words, SoundPool, right_of}
+use Rattle.std.specs.Prelude.{Result, Ok, Err}
+use Rattle.refusals.specs.declared.Refusal.{Refusal}
+use Rattle.refusals.specs.declared.Refusal.TheVariants.{NoShape, NoDomain, NotSound}
+use Rattle.theory.specs.Pool.{words, entry, SoundPool, right_of}
+use Rattle.theory.specs.Walk.{End, bad, decides, walk}
 use Rattle.words.specs.Region.{region_of}
-use Rattle.words.specs.declared.Rounded.{Rounded}
-use Rattle.words.specs.declared.Rounded.TheVariants.{Covers, Refused as NoRegion}
+use Rattle.words.specs.declared.Region.{Region}
 use Rattle.table.specs.declared.Shape.{Shape}
 use Rattle.table.specs.declared.Deciding.{Deciding}
-use Rattle.table.specs.declared.Found.{Found}
-use Rattle.table.specs.declared.Found.TheVariants.{By, Refused as NotFound}
-use Rattle.table.specs.Shape.{Fits}
+use Rattle.table.specs.Shape.{Fits, fits_of}
 use Rattle.table.specs.Map.{addresses, form_of}
-use Rattle.table.specs.Lookup.{lookup_of}
+use Rattle.table.specs.Lookup.{found_at, lookup_of}
 use Rattle.table.proofs.LookupLaws.{right_loads, sound_lookup}
 use Rattle.plan.specs.Aims.{Aim}
 use Rattle.plan.proofs.AimLaws.{aimed_other}
-use Rattle.change.specs.declared.Answer.{Answer}
+use Rattle.change.specs.declared.Ending.{Ending}
 use Rattle.change.specs.Answers.{ChangesRegion, Changes, Tidies, no_shape, no_domain, no_right}
 use Rattle.change.specs.Answers.{no_region, in_order, unsound, unsettled, no_room, done, cut}
-use Rattle.lookaside.specs.declared.Buffer.{Buffer}
-use Rattle.lookaside.specs.declared.Flushed.{Flushed}
-use Rattle.lookaside.specs.declared.Flushing.{Flushing}
-use Rattle.lookaside.specs.declared.Flushing.TheVariants.{Whole, OfDomain, OfRegion}
-use Rattle.lookaside.specs.declared.Verdict.TheVariants.{Refused}
-use Rattle.lookaside.specs.Slots.{empty_buffer}
+use Rattle.lookaside.specs.Slots.{Buffer, empty_buffer}
 use Rattle.lookaside.specs.Check.{refusal_of, verdict_of, without_loads, check_of}
-use Rattle.lookaside.specs.Flushes.{flushed_buffer, flushed_rounded, pointed}
+use Rattle.lookaside.specs.Flushes.{Flushing, Whole, OfDomain, OfRegion, Flushed, flushed_buffer, flushed_rounded, pointed}
 use Rattle.lookaside.specs.Agree.{Places, nowhere, clears, both, less, rights_of, SameBut, AgreesBut}
 use Rattle.lookaside.proofs.CheckLaws.{check_pointer, refusal_pointer}
 use Rattle.lookaside.proofs.FlushLaws.{pointed_goes}
@@ -51,7 +47,7 @@ use Rattle.demands.proofs.ClearLaws.{change_clear, change_by_clear, tidy_clear, 
 -- A lookup in a sound pool finds exactly the right that the table holds, in one to three loads.
 pub lookup_exact : (p : List ℕ) (s : Shape) (d a : ℕ) → SoundPool (form_of s) (words p) → Fits s (length p)
     → d < s.domains
-    → (x : Deciding) × (lookup_of p s d a ≡ By x) × (x.right ≡ right_of (form_of s) (words p) d a) × (1 ≤ x.loads)
+    → (x : Deciding) × (lookup_of p s d a ≡ Ok x) × (x.right ≡ right_of (form_of s) (words p) d a) × (1 ≤ x.loads)
     × (x.loads ≤ 3)
 lookup_exact p s d a q f h =
     let (x, e, o) = sound_lookup p s d a q f h in
@@ -60,7 +56,7 @@ lookup_exact p s d a q f h =
 
 -- What a change leaves as it was: all but the places that it may have altered.
 
-region_same : {p q : List ℕ} {s : Shape} {A : Aim} {n : ℕ} {c : Answer} → ChangesRegion p s A n c q
+region_same : {p q : List ℕ} {s : Shape} {A : Aim} {n : ℕ} {c : Result Ending Refusal} → ChangesRegion p s A n c q
     → SameBut s.domains (altered c A) (rights_of s p) (rights_of s q)
 region_same (unsound x) e a be ba z = refl
 region_same (unsettled x y) e a be ba z = refl
@@ -69,7 +65,7 @@ region_same {p} {s = s} {A} (done t q f) e a be ba z =
     sym (f.finished.rights e a be ba ∙ aimed_other s A (words p) e a z)
 region_same (cut t x f) e a be ba z = sym (f.cut.others e a be ba z)
 
-pub change_same : {p q : List ℕ} {s : Shape} {d start len r n : ℕ} {c : Answer} → Changes p s d start len r n c q
+pub change_same : {p q : List ℕ} {s : Shape} {d start len r n : ℕ} {c : Result Ending Refusal} → Changes p s d start len r n c q
     → SameBut s.domains (altered c (aim_in (region_of start len) d r)) (rights_of s p) (rights_of s q)
 change_same (no_shape x) e a be ba z = refl
 change_same (no_domain x y) e a be ba z = refl
@@ -79,13 +75,13 @@ change_same {d = d} {r = r} {c = c} (in_order g asked x) e a be ba z =
     region_same x e a be ba (ap (λ t. altered c (aim_in t d r) e a) (sym asked.region) ∙ z)
 
 -- The same of a change by a caller.
-pub change_by_same : {p q list : List ℕ} {s : Shape} {caller d start len r n : ℕ} {c : Answer}
+pub change_by_same : {p q list : List ℕ} {s : Shape} {caller d start len r n : ℕ} {c : Result Ending Refusal}
     → ChangesBy p s list caller d start len r n c q
     → SameBut s.domains (altered c (aim_in (region_of start len) d r)) (rights_of s p) (rights_of s q)
 change_by_same x = ⊎_elim change_same (λ (k, e, f). rw (e, f) (λ e a be ba z. refl)) (by_changes x)
 
 -- A tidying, finished or cut, leaves all rights: it needs no flush.
-pub tidy_same : {p q : List ℕ} {s : Shape} {n : ℕ} {c : Answer} → Tidies p s n c q
+pub tidy_same : {p q : List ℕ} {s : Shape} {n : ℕ} {c : Result Ending Refusal} → Tidies p s n c q
     → SameBut s.domains nowhere (rights_of s p) (rights_of s q)
 tidy_same (no_shape x) e a be ba z = refl
 tidy_same (unsound x y) e a be ba z = refl
@@ -119,7 +115,7 @@ module _ {s : Shape} {p : List ℕ} {b : Buffer} {x : Places} (o : Sees s p b x)
     pointer = check_pointer p s b d kind size a o.pointer;
   }
 
-  change_sees : {q : List ℕ} {d start len r n : ℕ} {c : Answer} → Changes p s d start len r n c q
+  change_sees : {q : List ℕ} {d start len r n : ℕ} {c : Result Ending Refusal} → Changes p s d start len r n c q
       → Sees s q b (both x (altered c (aim_in (region_of start len) d r)))
   change_sees {q} y = record {
     agrees = change_agrees s.domains (rights_of s p) (rights_of s q) b x _ (change_same y) o.agrees;
@@ -127,7 +123,7 @@ module _ {s : Shape} {p : List ℕ} {b : Buffer} {x : Places} (o : Sees s p b x)
     pointer = o.pointer;
   }
 
-  change_by_sees : {q list : List ℕ} {caller d start len r n : ℕ} {c : Answer}
+  change_by_sees : {q list : List ℕ} {caller d start len r n : ℕ} {c : Result Ending Refusal}
       → ChangesBy p s list caller d start len r n c q
       → Sees s q b (both x (altered c (aim_in (region_of start len) d r)))
   change_by_sees {q} y = record {
@@ -136,7 +132,7 @@ module _ {s : Shape} {p : List ℕ} {b : Buffer} {x : Places} (o : Sees s p b x)
     pointer = o.pointer;
   }
 
-  tidy_sees : {q : List ℕ} {n : ℕ} {c : Answer} → Tidies p s n c q → Sees s q b x
+  tidy_sees : {q : List ℕ} {n : ℕ} {c : Result Ending Refusal} → Tidies p s n c q → Sees s q b x
   tidy_sees {q} y = record {
     agrees = tidy_agrees s.domains (rights_of s p) (rights_of s q) b x (tidy_same y) o.agrees;
     clear = tidy_clear p s b o.clear y;
@@ -151,9 +147,9 @@ module _ {s : Shape} {p : List ℕ} {b : Buffer} {x : Places} (o : Sees s p b x)
     pointer = o.pointer;
   }
 
-  rounded_sees : (g : Rounded) (d : ℕ) → Sees s p (flushed_rounded g b d).buffer (less x (places_of g d))
-  rounded_sees (Covers g) d = flush_sees (OfRegion d g)
-  rounded_sees (NoRegion k) d = record {
+  rounded_sees : (g : Result Region Refusal) (d : ℕ) → Sees s p (flushed_rounded g b d).buffer (less x (places_of g d))
+  rounded_sees (Ok g) d = flush_sees (OfRegion d g)
+  rounded_sees (Err k) d = record {
     agrees = more_agrees s.domains (rights_of s p) b x (less x nowhere) (λ e a z. all (x e a) z) o.agrees;
     clear = o.clear;
     pointer = o.pointer;
@@ -178,9 +174,17 @@ watched_sees (domain_flushed w d) = let o = watched_sees w in pointed_sees o _ (
 watched_sees (region_flushed w d start len) =
     let o = watched_sees w in pointed_sees o _ (rounded_sees o (region_of start len) d)
 
-six_or_not : (f : Found) → (f ≡ NotFound 6) ⊎ (f ≢ NotFound 6)
-six_or_not (By x) = inr not_six
-six_or_not (NotFound n) = elim (ℕ_discrete n 6) [ yes e ↦ inl (ap NotFound e) | no e ↦ inr (λ q. e (cc)) ]
+-- Whether a lookup is refused for a pool that is not sound can be told.
+six_or_not : (p : List ℕ) (s : Shape) (d a : ℕ) → (lookup_of p s d a ≡ Err NotSound) ⊎ (lookup_of p s d a ≢ Err NotSound)
+six_or_not p s d a = go (fits_of s (length p)) (ltb d s.domains)
+    (walk (form_of s) (words p) a 2 (entry (form_of s) d a))
+  where
+    go : (f t : Bool) (e : End) → let r = cond f (cond t (found_at (form_of s) (words p) a e) (Err NoDomain)) (Err NoShape) in
+        (r ≡ Err NotSound) ⊎ (r ≢ Err NotSound)
+    go true true bad = inl refl
+    go true true (decides h k) = inr (λ z. cc)
+    go true false e = inr (λ z. cc)
+    go false t e = inr (λ z. cc)
 
 -- Demand 2. Where no change is left without its flush, a check says what it says with an emptied buffer, by a walk;
 -- refusals are the same too. Of every pool, sound or not.
@@ -195,9 +199,9 @@ same_verdict {s} {p} {b} {x} w d kind size a h z =
     (λ six.
     let here = check_six p s b o.clear d kind size a h six in
     let there = check_six p s empty_buffer (emptied_clear p s) d kind size a h six in
-    ap without_loads (here ∙ ap (λ n. Refused (or_six n)) same ∙ sym there))
+    ap without_loads (here ∙ ap (λ r. Err (or_six r)) same ∙ sym there))
     (λ n. check_as_emptied p s x d kind size a z h n b o.agrees o.pointer)
-    (six_or_not (lookup_of p s d a))
+    (six_or_not p s d a)
 
 -- `Watched` leaves out no call of a series: beside every series there may be a buffer, emptied as the pool was made.
 pub series_watched : {s : Shape} {p list : List ℕ} {h : History} → Series s p list h
@@ -218,8 +222,8 @@ series_watched (call {h = h} x y) = called h (series_watched x) y
 pub series_verdict : {s : Shape} {p list : List ℕ} {b : Buffer} {x : Places} {h : History} → Series s p list h
     → Watched s p b x
     → (d kind size a : ℕ) → d < s.domains → a < addresses → x d a ≡ false
-    → refusal_of s (length p) b.next d kind size a ≡ 0
-    → (n : ℕ) × (n ≤ 3) × ((check_of p s b d kind size a).verdict ≡ verdict_of kind (right_of (form_of s) (words p) d a) n)
+    → refusal_of s (length p) b.next d kind size a ≡ Ok tt
+    → (n : ℕ) × (n ≤ 3) × ((check_of p s b d kind size a).verdict ≡ Ok (verdict_of kind (right_of (form_of s) (words p) d a) n))
 series_verdict {s} {p} {b} {x} y w d kind size a hd ha z e =
     let o = series_holds y in
     let (_, found, _) = sound_lookup p s d a o.sound o.fits hd in

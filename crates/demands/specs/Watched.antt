@@ -1,33 +1,31 @@
 -- A buffer in use beside a table: the buffer was emptied, and since then there were checks, changes, tidyings and
 -- flushes, in any order.
-use Rattle.std.specs.Prelude.{ℕ, List}
+use Rattle.std.specs.Prelude.{ℕ, List, Result, Ok, Err}
+use Rattle.refusals.specs.declared.Refusal.{Refusal}
 use Rattle.words.specs.Region.{region_of}
-use Rattle.words.specs.declared.Rounded.{Rounded}
-use Rattle.words.specs.declared.Rounded.TheVariants.{Covers, Refused as NoRegion}
+use Rattle.words.specs.declared.Region.{Region}
 use Rattle.table.specs.declared.Shape.{Shape}
 use Rattle.plan.specs.Aims.{Aim}
-use Rattle.change.specs.declared.Answer.{Answer}
-use Rattle.change.specs.declared.Answer.TheVariants.{Done, Cut, Refused}
+use Rattle.change.specs.declared.Ending.{Ending}
+use Rattle.change.specs.declared.Ending.TheVariants.{Done, Cut}
 use Rattle.change.specs.Answers.{Changes, Tidies}
-use Rattle.lookaside.specs.declared.Buffer.{Buffer}
-use Rattle.lookaside.specs.declared.Flushing.TheVariants.{Whole, OfDomain}
-use Rattle.lookaside.specs.Slots.{empty_buffer}
+use Rattle.lookaside.specs.Slots.{Buffer, empty_buffer}
 use Rattle.lookaside.specs.Check.{check_of}
-use Rattle.lookaside.specs.Flushes.{flushed_whole, flushed_domain, flushed_region}
+use Rattle.lookaside.specs.Flushes.{Whole, OfDomain, flushed_whole, flushed_domain, flushed_region}
 use Rattle.lookaside.specs.Agree.{Places, nowhere, within, clears, both, less}
 use Rattle.owners.specs.Changes.{ChangesBy}
 use Rattle.demands.specs.Series.{History, made as freshly, after, aimed as set, tidied as tidying, listed, aim_in}
 
 -- The places of domain `d` in a region, as it was rounded; none where it was refused.
-abbrev pub places_of : Rounded → ℕ → Places
-places_of (Covers g) d = within d g
-places_of (NoRegion k) d = nowhere
+abbrev pub places_of : Result Region Refusal → ℕ → Places
+places_of (Ok g) d = within d g
+places_of (Err k) d = nowhere
 
 -- The places whose rights an aim may have altered: what it covers, finished or cut; none where it was refused.
-abbrev pub altered : Answer → Aim → Places
-altered (Done k) A = A.covers
-altered Cut A = A.covers
-altered (Refused k) A = nowhere
+abbrev pub altered : Result Ending Refusal → Aim → Places
+altered (Ok (Done k)) A = A.covers
+altered (Ok Cut) A = A.covers
+altered (Err k) A = nowhere
 
 -- The buffer `b` was emptied beside some pool and used since; the pool is now `p`, and the places `x` are stale: a
 -- change covered them, and no flush has covered them since.
@@ -35,12 +33,12 @@ pub data Watched (s : Shape) : List ℕ → Buffer → Places → Type 0 where
   emptied : (p : List ℕ) → Watched s p empty_buffer nowhere
   checked : {p : List ℕ} {b : Buffer} {x : Places} → Watched s p b x
       → (d kind size a : ℕ) → Watched s p (check_of p s b d kind size a).buffer x
-  changed : {p q : List ℕ} {b : Buffer} {x : Places} {d start len r n : ℕ} {c : Answer} → Watched s p b x
-      → Changes p s d start len r n c q → Watched s q b (both x (altered c (aim_in (region_of start len) d r)))
-  changed_by : {p q list : List ℕ} {b : Buffer} {x : Places} {caller d start len r n : ℕ} {c : Answer}
-      → Watched s p b x → ChangesBy p s list caller d start len r n c q
+  changed : {p q : List ℕ} {b : Buffer} {x : Places} {d start len r n : ℕ} {c : Result Ending Refusal}
+      → Watched s p b x → Changes p s d start len r n c q → Watched s q b (both x (altered c (aim_in (region_of start len) d r)))
+  changed_by : {p q list : List ℕ} {b : Buffer} {x : Places} {caller d start len r n : ℕ}
+      {c : Result Ending Refusal} → Watched s p b x → ChangesBy p s list caller d start len r n c q
       → Watched s q b (both x (altered c (aim_in (region_of start len) d r)))
-  tidied : {p q : List ℕ} {b : Buffer} {x : Places} {n : ℕ} {c : Answer}
+  tidied : {p q : List ℕ} {b : Buffer} {x : Places} {n : ℕ} {c : Result Ending Refusal}
       → Watched s p b x → Tidies p s n c q → Watched s q b x
   flushed_all : {p : List ℕ} {b : Buffer} {x : Places} → Watched s p b x
       → Watched s p (flushed_whole b).buffer (less x (clears Whole))
