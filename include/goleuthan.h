@@ -111,13 +111,13 @@
  * STACK, in bytes, of the library as it is compiled for x86-64: the most that a call takes, its arguments that are
  * passed on the stack and its return address included.
  *
- *   gol_fresh               24
- *   gol_change             928
- *   gol_change_by          960
- *   gol_tidy             1,008
- *   gol_lookup              56
+ *   gol_fresh               40
+ *   gol_change             912
+ *   gol_change_by          928
+ *   gol_tidy               832
+ *   gol_lookup              88
  *   gol_list               872
- *   gol_check              136
+ *   gol_check              144
  *   gol_flush_all           24
  *   gol_flush_domain         8
  *   gol_flush_region         8
@@ -126,8 +126,8 @@
  *   gol_remove_gate          8
  *   gol_step               160
  *   gol_make_region         40
- *   gol_pass_region         40
- *   gol_give_export         48
+ *   gol_pass_region         32
+ *   gol_give_export         40
  *
  * It takes no other memory than its stack and what is lent. The figures are measured, not proved: rust/stack makes the
  * calls on a painted stack, with full pools, deep tables and full states, and fails where one takes more than is said

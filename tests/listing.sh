@@ -55,7 +55,7 @@ sh rights_listing.sh < examples/rights.txt > "$work/out" 2> "$work/err"
 cmp "$work/out" tests/listing/paper.out > "$work/differs" 2>&1 && [ ! -s "$work/err" ]
 count standard_input $? "$(cat "$work/differs" "$work/err")"
 
-# The same over a toolchain that only says that it proved one crate, the second, or that it did not prove another: a
+# The same over a toolchain that only says that it proved one crate, the third, or that it did not prove another: a
 # line for each as it is proved, and of a failed proof all that the toolchain said.
 mkdir "$work/bin"
 cat > "$work/bin/rt" <<'RT'
@@ -71,7 +71,7 @@ cmp "$work/out" tests/listing/paper.out > "$work/differs" 2>&1
 count proving $? "$(cat "$work/differs")"
 # the toolchain names each library that the program is made of
 many=$(($(cd crates/rights_listing && rt check 2>&1 | grep -c '^library ') + 1))
-says progress "proved 2 of $many: words"
+says progress "proved 3 of $many: words"
 PATH=$work/bin:$PATH UNPROVED=1 sh rights_listing.sh examples/rights.txt > "$work/out" 2> "$work/err"
 [ $? -eq 1 ] && [ ! -s "$work/out" ] && grep -q '^logic=not-proved' "$work/err"
 count unproved $? "$(cat "$work/out" "$work/err")"
