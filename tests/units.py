@@ -81,7 +81,7 @@ OFFSETS = {
 INDEX = r"\w+(?:\.\w+)*(?:\.after\((?:[^()]|\([^()]*\))*\))*\.index\(\)"
 
 # The names of slices of words that are not the pool.
-SLICES = {"owners", "runs", "out", "ws", "shape", "buffer", "gates", "stack", "regions", "part"}
+SLICES = {"runs", "out", "ws", "shape", "buffer", "gates", "stack", "regions"}
 
 
 def closing(text, start, pair):
