@@ -18,8 +18,12 @@ fn put<const N: usize>(results: &[u32; N], out: &mut [u32])
     match out.first_chunk_mut::<N>() {
         Some(all) => *all = *results,
         None => {
-            let room = out.len();
-            out.copy_from_slice(&results[..room]);
+            // Word by word: to copy a part, the results must lie in memory, and a lookup writes each of them twice.
+            for i in 0..N {
+                if i < out.len() {
+                    out[i] = results[i];
+                }
+            }
         }
     }
 }
