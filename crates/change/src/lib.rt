@@ -28,7 +28,7 @@ use ahead::ByPlan;
 pub use tidying::tidy;
 
 // How the stores of a change or a tidying end: all are made, so many; or the allowance cut them short.
-#[derive(Clone, Copy)]
+#[derive(Clone, Copy, Debug, PartialEq, Eq)]
 pub enum Ending {
     Done(u32),
     Cut,
@@ -196,7 +196,7 @@ fn phase_of(shape: Shape, plan: &[u32; PLAN_WORDS], k: PoolWord, x: u32) -> u32
 }
 
 // The one store. All stores of a change and of a tidying are made here, and none but one that is due: the pool is
-// then what a cut leaves.
+// then what a cut leaves. The shape, the domain and the paint say only, for the contract, which aim it is due to.
 fn put(pool: &mut [u32], shape: Shape, domain: u32, paint: Paint, at: PoolWord, value: u32)
     requires { Due shape (aim_of domain paint) pool.old at.0 value }
     ensures stored { pool.new ≡ set pool.old at.0 value }
