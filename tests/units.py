@@ -48,6 +48,7 @@ BARE = {
     ("goleuthan", "gol_lookup", "address"): "a number from C",
     ("goleuthan", "gol_change", "start"): "a number from C",
     ("goleuthan", "gol_list", "from"): "a run number",
+    ("goleuthan", "list", "from"): "a run number",
     ("goleuthan", "gol_check", "address"): "a number from C",
     ("goleuthan", "gol_flush_region", "start"): "a number from C",
     ("goleuthan", "gol_set_switch_gate", "address"): "a number from C",
@@ -59,13 +60,8 @@ BARE = {
     ("goleuthan", "gol_pass_region", "start"): "a number from C",
     ("goleuthan", "gol_give_export", "start"): "a number from C",
     ("goleuthan", "gol_change_by", "start"): "a number from C",
-    ("goleuthan", "give_word", "at"): "a word of the results",
     ("lookaside", "slot_at", "at"): "a word of a lent state",
     ("lookaside", "put_slot", "at"): "a word of a lent state",
-    ("gates", "gate_at", "at"): "a word of a lent state",
-    ("gates", "put_gate", "at"): "a word of a lent state",
-    ("gates", "frame_at", "at"): "a word of a lent state",
-    ("gates", "put_frame", "at"): "a word of a lent state",
 }
 
 # Functions whose name says so and that give a bare number: (crate, function) with what it is.
@@ -73,7 +69,6 @@ GIVES_NUMBER = {
     ("targets", "paint_word"): "a leaf entry",
     ("change", "final_word"): "what a pool word is to hold",
     ("gates", "gate_word"): "a word of a lent state",
-    ("goleuthan", "in_one_word"): "a count",
 }
 SAYS_WORD = re.compile(r"(?:^|_)(?:word|addr|address|start)$")
 

@@ -3,6 +3,7 @@ import re
 
 CHANGE, TIDYING, AHEAD = (f"crates/change/src/{name}.rt" for name in ("lib", "tidying", "ahead"))
 FACE, TABLE, CENSUS, PLAN = (f"crates/{name}/src/lib.rt" for name in ("goleuthan", "table", "census", "plan"))
+CALLS = "crates/goleuthan/src/calls.rt"
 BUFFER, STEPS = "crates/lookaside/src/lib.rt", "crates/gates/src/steps.rt"
 OWNERS, REGIONS = (f"crates/owners/src/{name}.rt" for name in ("lib", "calls"))
 MAIN, SERVING = (f"crates/rights_listing/src/{name}.rt" for name in ("main", "serving"))
@@ -16,12 +17,14 @@ NEXT = "guide.next_store(pool, shape, from)"
 PUT = "put(pool, shape, domain, paint, at, value);"
 CHANGED = "make_stores(pool, shape, domain, paint, &guide, allowance)"
 TIDIED = "make_stores(pool, shape, 0, UNPAINTED, &guide, allowance)"
-FRESH = "table::fresh(&mut pool, serving::shape());"
+FRESH = "table::fresh(&mut pool, serving::shape())"
+FILL = "pool[first_middle.index()..].fill(0);"
 LOAD = "let got = load(pool, at, loads);"
-WALK = "let walked = decide(pool, shape, domain, address);"
-WALK_OF_A_CHECK = "let walked = table::decide(pool, shape, domain, address);"
+WALK = "let by = decide(pool, shape, domain, address)?;"
+WALK_OF_A_CHECK = "let by = table::decide(pool, shape, domain, address)?;"
+TIDY = "change::tidy(pool, read_shape(shape)?, allowance)"
 BY = "change::change(pool, shape, domain, start, length, right, allowance)"
-MET = "let met = list::place_of(ws, asking, region);"
+MET = "if caller != SUPERVISOR || list::place_of(ws, meets)"
 
 
 def before(path, place, what):
@@ -74,12 +77,12 @@ WRONG = [
     ("swaps words by a function of slices", "handed on", [before(CHANGE, ASKED, "pool.swap(0, 1); pool.swap(0, 1);")]),
     ("gives the pool another name", "handed on", [before(CHANGE, ASKED, "let same = pool;")]),
     ("keeps the pool in a struct", "held",
-     [before(CHANGE, "pub enum Work {", "pub struct Held { pub pool: &mut [u32] }")]),
+     [before(CHANGE, "pub struct Store {", "pub struct Held { pub pool: &mut [u32] }")]),
     ("writes in a method of what holds the pool", "held",
-     [before(CHANGE, "pub enum Work {", "impl Held { fn set(&mut self) { self.pool[0] = 7; } }")]),
+     [before(CHANGE, "pub struct Store {", "impl Held { fn set(&mut self) { self.pool[0] = 7; } }")]),
     ("opens the one store to other crates", "called once", [(CHANGE, "\nfn put(", "\npub fn put(")]),
     ("writes the pool in the census", "below",
-     [lent(CENSUS, "census"), before(CENSUS, "    clear(owners);", "pool[0] = 7;")]),
+     [lent(CENSUS, "census"), before(CENSUS, "    owners.fill(NONE);", "pool[0] = 7;")]),
     ("lends the pool to one more function of the census", "below", [lent(CENSUS, "plain_ahead")]),
     ("writes the pool while it plans", "below",
      [(PLAN, "pub fn plan_change(\n    pool: &[u32]", "pub fn plan_change(\n    pool: &mut [u32]")]),
@@ -87,16 +90,18 @@ WRONG = [
     ("lends a plan to be altered once more", "held",
      [before(CHANGE, "    let guide = ByPlan", "plan::put_edge(&mut plan, 4, edge);")]),
     ("fills a part of the pool twice", "below",
-     [before(TABLE, "fill(&mut pool[roots..], 0);", "fill(&mut pool[roots..], 7);")]),
+     [before(TABLE, FILL, FILL.replace("0", "7"))]),
+    ("turns a part of the pool round where it is made fresh", "below", [before(TABLE, FILL, "pool[..9].reverse();")]),
+    ("turns the pool round in the one store", "handed on", [before(CHANGE, STORE, "pool.reverse(); pool.reverse();")]),
     ("makes a pool fresh in a tidying", "nobody else", [before(TIDYING, TIDIED, "table::fresh(pool, shape);")]),
-    ("stores in the C face", "above", [before(FACE, "let answer = change::tidy(", "pool[0] = 7;")]),
+    ("stores in the C face", "above", [before(CALLS, TIDY, "pool[0] = 7;")]),
     ("tidies twice in the C face", "above",
-     [before(FACE, "let answer = change::tidy(", "change::tidy(pool, shape, 1);")]),
+     [before(CALLS, TIDY, TIDY + ";")]),
     ("lets a lookup for C write the pool", "above",
      [(FACE, "gol_lookup(\n    pool: &[u32]", "gol_lookup(\n    held: &mut [u32]")]),
     ("changes a word of the program's pool", "above", [before(MAIN, FRESH, "pool[0] = 7;")]),
     ("changes a word where lines are answered", "above",
-     [before(SERVING, "let n = reply(pool, said);\n        len", "pool[0] = 7;")]),
+     [before(SERVING, "len = write_number(out, len,", "pool[0] = 7;")]),
 ]
 
 # What a harmless source does, and the edits that make it.
@@ -107,7 +112,8 @@ HARMLESS = [
       (CHANGE, PUT, PUT.replace("at, value", "k, v")), (CHANGE, "from = on;", "from = next;")]),
     ("calls the pool of the one store by another name",
      [(CHANGE, "fn put(pool: ", "fn put(held: "), (CHANGE, STORE, STORE.replace("pool", "held"))]),
-    ("calls an ending by another name", [(CHANGE, "let ending =", "let end ="), (CHANGE, "Ok(ending)", "Ok(end)")]),
+    ("names the ending first",
+     [(CHANGE, f"Ok({CHANGED})", f"let ending = {CHANGED}; Ok(ending)")]),
     ("has a store in a comment", [before(CHANGE, ASKED, "// pool[0] = allowance; put(pool) loop\n   ")]),
     ("breaks its lines elsewhere", [(CHANGE, PUT, PUT.replace(", ", ",\n            "))]),
     ("calls the pointer of a buffer by another name", [(BUFFER, "next", "pointer")]),
@@ -119,19 +125,19 @@ HARMLESS = [
 WRONG += [
     ("loads a word twice", "loads", [before(TABLE, LOAD, LOAD)]),
     ("reads a word without counting it", "loads", [before(TABLE, LOAD, "let seen = pool[0];")]),
-    ("walks twice in a lookup", "loads", [before(TABLE, WALK, WALK.replace("walked", "again"))]),
+    ("walks twice in a lookup", "loads", [before(TABLE, WALK, WALK.replace("by", "again"))]),
     ("looks at the pool by itself in a check", "loads", [before(BUFFER, WALK_OF_A_CHECK, "let seen = pool[0];")]),
     ("writes a word of a buffer and writes it back before a check", "states",
-     [before(BUFFER, "let hit = layout::find(", "let was = buffer[0]; buffer[0] = 7; buffer[0] = was;")]),
+     [before(BUFFER, "if let Some(slot) = layout::find(", "let was = buffer[0]; buffer[0] = 7; buffer[0] = was;")]),
     ("stores a slot that stays in a flush", "states",
-     [before(BUFFER, "if is_flushed(f, s) {", "layout::put_slot(ws, 4 * i, s);")]),
+     [before(BUFFER, "if empties(s) {", "layout::put_slot(ws, 4 * i, s);")]),
     ("stores the depth of a stack that a refusal leaves as it came", "states",
-     [before(STEPS, "    if back != asked {", "stack[DEPTH] = depth;")]),
+     [before(STEPS, "    if caller.back != target {", "stack[DEPTH] = depth;")]),
     ("holds a stack to write in where nothing is stored", "states",
-     [(STEPS, "fn frames_below(ws: &[u32]", "fn frames_below(ws: &mut [u32]")]),
+     [(STEPS, "fn frames_below(stack: &[u32;", "fn frames_below(stack: &mut [u32;")]),
     ("makes the change of a caller twice", "above", [before(OWNERS, BY, BY + ";")]),
     ("stores in the pool before the list is asked", "above",
-     [before(OWNERS, "let leave = leave_of(", "pool[0] = 7;")]),
+     [before(OWNERS, "    leave_of(\n        fits,", "pool[0] = 7;")]),
     ("knows the allowance of a caller by another name", "the allowance", [before(OWNERS, BY, "let n = allowance;")]),
     ("writes a word of a list and writes it back before a region is made", "states",
      [before(REGIONS, MET, "let was = ws[0]; ws[0] = 7; ws[0] = was;")]),

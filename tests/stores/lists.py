@@ -2,7 +2,7 @@
 
 # Who holds the pool to write in, and all that each does with it.
 HOLDERS = {
-    "table": {"fresh": ["length", "part to fill", "part to fill"], "fill": ["length", "store"]},
+    "table": {"fresh": ["length", "part.fill", "part.fill"]},
     "change": {
         "put": ["store"],
         "make_stores": ["to next_store", "to put"],
@@ -10,10 +10,14 @@ HOLDERS = {
         "tidy": ["length", "to census::census", "to targets::settled", "to make_stores"],
     },
     "goleuthan": {
-        "gol_fresh": ["to table::fresh"],
-        "gol_change": ["to change::change"],
-        "gol_tidy": ["to change::tidy"],
-        "gol_change_by": ["to owners::change_by"],
+        "gol_fresh": ["to calls::fresh"],
+        "gol_change": ["to calls::change"],
+        "gol_tidy": ["to calls::tidy"],
+        "gol_change_by": ["to calls::change_by"],
+        "fresh": ["to table::fresh"],
+        "change": ["to change::change"],
+        "tidy": ["to change::tidy"],
+        "change_by": ["to owners::change_by"],
     },
     "owners": {"change_by": ["length", "to change::change"]},
     "rights_listing": {
@@ -43,23 +47,26 @@ ARRAYS = {
     ("tidy", "owners"): "lent to census::census",
 }
 
-# The program's pool is an array of its main function.
-MAIN = ["new", "lent to table::fresh", "lent to hear_all", "shown to show_all"]
+# The program's pool is an array of the function that runs it.
+RUN = ["new", "lent to table::fresh", "lent to hear_all", "shown to show_all"]
 
 # Who is told the allowance, and what each does with it.
 TOLD = {
     ("change", "make_stores"): "the loop",
     ("change", "change"): ["to make_stores"],
     ("change", "tidy"): ["to make_stores"],
-    ("goleuthan", "gol_change"): ["to change::change"],
-    ("goleuthan", "gol_tidy"): ["to change::tidy"],
+    ("goleuthan", "gol_change"): ["to calls::change"],
+    ("goleuthan", "gol_tidy"): ["to calls::tidy"],
+    ("goleuthan", "gol_change_by"): ["to calls::change_by"],
+    ("goleuthan", "change"): ["to change::change"],
+    ("goleuthan", "tidy"): ["to change::tidy"],
+    ("goleuthan", "change_by"): ["to owners::change_by"],
     ("owners", "change_by"): ["to change::change"],
-    ("goleuthan", "gol_change_by"): ["to owners::change_by"],
 }
 
 # The crates below `change`; in the census the owners of places are lent to write in, and in the plan its words.
 BELOW = next(line.split()[1:] for line in open("crates.txt") if line.startswith("change:"))
-OWNERS = {name: ["owners"] for name in ("clear", "give_place", "table_check", "entry_check", "census")}
+OWNERS = {name: ["owners"] for name in ("give_place", "table_check", "entry_check", "census")}
 PLANNERS = {
     name: ["plan"] for name in ("put_edge", "copy_edge", "draft_edge", "take_place", "plan_ends", "plan_change")
 }
@@ -86,7 +93,7 @@ EXPORTED = {
 }
 
 # Who makes changes, tidyings and fresh pools.
-CALLERS = ["change_by", "gol_change", "gol_change_by", "gol_fresh", "gol_tidy", "main", "reply"]
+CALLERS = ["change", "change_by", "change_by", "fresh", "reply", "run", "tidy"]
 
 # Who holds the words of a lent state to write in, and all that each does with them, in this order.
 STATES = {
@@ -95,17 +102,16 @@ STATES = {
         "fill_next": ["read", "to put_slot", "store"],
         "check": ["read", "to layout::find", "to layout::fill_next"],
         "flush": ["to layout::slot_at", "to layout::put_slot"],
-        "emptied": ["to flush", "store"],
+        "emptied": ["whole.fill"],
         "flush_all": ["read", "to flush"],
         "flush_domain": ["read", "to flush"],
         "flush_region": ["read", "to flush"],
     },
     "gates": {
         "put_gate": ["store"] * 3,
-        "move_gate": ["read"] * 3 + ["store"] * 3,
         "put_frame": ["store"] * 2,
         "store_gate": ["to layout::put_gate", "store"],
-        "close_up": ["read", "to layout::move_gate", "store"],
+        "close_up": ["read", "to layout::gate_at", "to layout::put_gate", "store"],
         "no_gates": ["to layout::put_gate", "store"],
         "call_stack": ["to layout::put_frame", "store", "store"],
         "set_gate": ["read", "to places::place_of", "to places::store_gate", "to places::store_gate"],
@@ -119,14 +125,12 @@ STATES = {
     },
     "owners": {
         "put_region": ["store"] * 5,
-        "make": ["read", "to list::place_of", "to list::put_region", "store"],
-        "pass": ["to list::place_of", "to list::owned_at", "to list::put_region"],
-        "give": ["to list::place_of", "to list::owned_at", "to list::region_at", "to list::put_region"],
-        "act_on": ["to make", "to pass", "to give"],
-        "call": ["to ask", "to act_on"],
-        "make_region": ["to calls::call"],
-        "pass_region": ["to calls::call"],
-        "give_export": ["to calls::call"],
+        "make": ["to list::place_of", "read", "to list::put_region", "store"],
+        "pass": ["to list::own_place", "to list::put_region"],
+        "give": ["to list::own_place", "to list::region_at", "to list::put_region"],
+        "make_region": ["to calls::ask", "to calls::make"],
+        "pass_region": ["to calls::ask", "to calls::pass"],
+        "give_export": ["to calls::ask", "to calls::give"],
         # It holds the pool, and only reads the list.
         "change_by": HOLDERS["owners"]["change_by"],
     },
@@ -140,11 +144,7 @@ READERS = {
         "walk_down": ["to load"],
         "load": ["read"],
     },
-    "lookaside": {
-        "check": ["to decide"],
-        "decide": ["length", "to decide_by_walk"],
-        "decide_by_walk": ["to table::decide"],
-    },
+    "lookaside": {"check": ["length", "to table::decide"]},
     "gates": {
         "plain_step": ["to fetch"],
         "switch_step": ["to fetch"],

@@ -1,7 +1,7 @@
 """The rules of one loop of stores: each gives what is wrong with a source."""
 import re
 
-from lists import ARRAYS, BELOW, CALLERS, EXPORTED, FILLERS, HOLDERS, LOOP, MAIN, OWNERS, PLANNERS, READERS, STATES
+from lists import ARRAYS, BELOW, CALLERS, EXPORTED, FILLERS, HOLDERS, LOOP, OWNERS, PLANNERS, READERS, RUN, STATES
 from lists import TOLD
 from source import assigned, use, uses
 
@@ -99,7 +99,7 @@ def below(house):
     """Below crate change words are lent to be made fresh, to count the owners and to plan, and for nothing else."""
     wrong = handed_on(house, "table")
     for crate in BELOW:
-        may = {"table": {"fresh": ["pool"], "fill": ["part"]}, "census": OWNERS, "plan": PLANNERS}
+        may = {"table": {"fresh": ["pool"]}, "census": OWNERS, "plan": PLANNERS}
         listed = may.get(crate, {})
         if house.lent(crate) != listed:
             wrong.append(f"{crate}: words to write in are {house.lent(crate)}, and may be {listed}")
@@ -116,10 +116,10 @@ def above(house):
         wrong.append(f"goleuthan: the functions for C may write {exported}")
     if set(house.lent("rights_listing")) != set(HOLDERS["rights_listing"]):
         wrong.append(f"rights_listing: {sorted(house.lent('rights_listing'))} hold words to write in")
-    main = house.named("rights_listing", "main")
-    done = uses(main.body, "pool") if main else []
-    if done != MAIN:
-        wrong.append(f"rights_listing: main does with the pool {done}, and may do {MAIN}")
+    run = house.named("rights_listing", "run")
+    done = uses(run.body, "pool") if run else []
+    if done != RUN:
+        wrong.append(f"rights_listing: run does with the pool {done}, and may do {RUN}")
     return wrong
 
 

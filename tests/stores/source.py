@@ -76,9 +76,10 @@ class Function:
         self.body = tokens[k + 1:self.end]
 
     def lent(self):
-        """The parameters whose words it may write; those of bytes and marks are none of the pool."""
-        marks = (["&", "mut", "[", "u8"], ["&", "mut", "[", "bool"])
-        return [name for name, kind in self.parameters.items() if "mut" in kind and kind[:4] not in marks]
+        """The parameters whose words it may write; those of bytes, marks, lines and texts are none of the pool."""
+        others = ("& mut [ u8", "& mut [ bool", "& mut LineSoFar", "& mut fmt :: Formatter <")
+        return [name for name, kind in self.parameters.items()
+                if "mut" in kind and not " ".join(kind).startswith(others)]
 
 
 class House:
@@ -128,12 +129,13 @@ def use(body, i):
     after = body[past] if past < len(body) else ""
     at = opening(body, i)
     argument = first > 0 and body[first - 1] in "(," and after in (",", ")") and body[at] == "("
+    called = body[past + 1] if after == "." and body[past + 2:past + 3] == ["("] else ""
+    if called:
+        return "length" if (past, called) == (i + 1, "len") else f"{'part' if past > i + 1 else 'whole'}.{called}"
     if past > i + 1 and ASSIGNS.fullmatch(after):
         return "store" if after == "=" and first == i else "changing store"
     if past > i + 1:
         return f"part to {path_before(body, at)}" if lent and argument else "read"
-    if body[i + 1:i + 4] == [".", "len", "("]:
-        return "length"
     if argument:
         return ("lent to " if lent else "shown to " if shown else "to ") + path_before(body, at)
     return "other use"

@@ -7,7 +7,7 @@ use mathlib.Core.Bool.{Bool, true, false, not, cond, ◌&&◌, ◌||◌, false�
 use native.Mathlib.Omega.{arith}
 use native.Mathlib.Decide.{ℕ_discrete, dec_lt}
 use lib.Dec.{eqb, ltb}
-use borrow.Author.Tests.{lt-ltb, le-ltb, eq-eqb, ne_eqb, eqb-true, eqb-false, not-true, not-false}
+use borrow.Author.Tests.{le-ltb, eq-eqb, ne_eqb, eqb-true, eqb-false, not-true, not-false}
 use lib.ListN.{length}
 use Rattle.theory.specs.Pool.{words}
 use Rattle.theory.proofs.Logic.{by_cases}
@@ -18,31 +18,25 @@ use Rattle.table.specs.Shape.{Fits, size}
 use Rattle.table.specs.Map.{block, leads, zone}
 use Rattle.places.specs.Count.{heights}
 use Rattle.places.proofs.HeightLaws.{each_height}
-use Rattle.targets.specs.Targets.{virtual_of}
 use Rattle.targets.specs.Steps.{inside}
 use Rattle.targets.proofs.EntryLaws.{leads_high}
 use Rattle.targets.proofs.PaintLaws.{inside_low, inside_high, said_after, after_apart}
-use Rattle.plan.specs.declared.Edge.{Edge}
 use Rattle.plan.specs.declared.Plan.{Plan}
-use Rattle.plan.specs.Plan.{ends_of, edge_of, InTable, of_table, of_new, entry_after, entry_before, new_word, PlanFits}
+use Rattle.plan.specs.Plan.{ends_of, edge_of, of_table, of_new, entry_after, new_word, PlanFits}
 use Rattle.plan.specs.Goals.{Planned}
 use Rattle.plan.specs.Aims.{Aim}
 use Rattle.plan.proofs.DraftLaws.{words_bytes}
-use Rattle.plan.proofs.AfterLaws.{each_end, after_any, new_in, in_new, new_any}
+use Rattle.plan.proofs.AfterLaws.{each_end, after_any, in_new, new_any}
 use Rattle.change.specs.Runs.{phases, At}
 use Rattle.change.specs.declared.ahead.Span.{Span}
 use Rattle.change.specs.Ahead.{Ahead, Outside, Untouched, EntriesIdle, TableIdle, HighIdle, LowIdle, NotNew}
 use Rattle.change.specs.Ahead.{NewIdle, InLeaf, Idle, EntriesBefore, PlainWords}
-use Rattle.change.proofs.TableLaws.{in_within, of_within, table_within, edges_order}
+use Rattle.change.proofs.TableLaws.{in_within, edges_order}
 use Rattle.change.proofs.StateLaws.{at_pass}
 
 -- What is passed may be known in other words.
 pub ahead_as : {k : ℕ} {best r : Span} {A B : ℕ → Type 0} → Ahead k best A r → ((j : ℕ) → A j → B j) → Ahead k best B r
 ahead_as a f = record { from = a.from; upto = a.upto; some = a.some; passed = λ j lo hi. f j (a.passed j lo hi) }
-
--- Nothing is of a table that is not there.
-pub ahead_all : {k : ℕ} {best : Span} {A : ℕ → Type 0} → k ≤ best.from.0 → ((j : ℕ) → A j) → Ahead k best A best
-ahead_all h f = record { from = h; upto = omega arith; some = inr refl; passed = λ j lo hi. f j }
 
 -- One more table was looked at.
 pub ahead_both : {k : ℕ} {best mid r : Span} {A B : ℕ → Type 0} → Ahead k best A mid → Ahead k mid B r
@@ -115,35 +109,6 @@ module _ (q : Plan) (r : PlanFits q) where
           | no f ↦ inr (let w = b.after_them (j - t) (omega arith) (omega arith) in omega arith)
         ]
       ]
-
--- The table of an edge that stays is idle where its entries are.
-pub table_idle : (q : Plan) (h : ℕ) (e : Edge) (j : ℕ) → EntriesIdle q h (size h * e.number) e.last j
-    → TableIdle q h e j
-table_idle q h e j f l t x small =
-    ap (λ y. entry_after q h (size h * e.number + (j - e.last)) y) (was l) ∙ f (of_within h e j t).1 x small
-  where
-    was : leads (suc h) e.old ≡ true → entry_before h e.old (size h * e.number + (j - e.last)) x ≡ x
-    was l = ap (λ b. cond b x (virtual_of h e.old (size h * e.number + (j - e.last)))) l
-
--- An edge without a table has no words.
-pub no_table : (h : ℕ) (e : Edge) (j : ℕ) → 2147483648 ≤ e.last → of_table h e j ≡ true → ⊥
-no_table h e j b z = false≢true (sym (rw (le-ltb e.last 2147483648 b) refl) ∙ z)
-
--- An edge without a table, one whose table stays, and words outside a new table.
-pub new_none : (h : ℕ) (e : Edge) → 2147483648 ≤ e.last → (j : ℕ) → NotNew h e j
-new_none h e b j = rw (le-ltb e.last 2147483648 b) refl
-
-pub new_kept : (h : ℕ) (e : Edge) → e.old < 2147483648 → (j : ℕ) → NotNew h e j
-new_kept h e b j = rw (lt-ltb e.old 2147483648 b) (none (leads (suc h) e.last))
-  where
-    none : (b : Bool) → ((b && false) && InTable e.last (size h) j) ≡ false
-    none true = refl
-    none false = refl
-
-pub new_outside : (h : ℕ) (e : Edge) (j : ℕ) → Outside e.last (e.last + size h) j → NotNew h e j
-new_outside h e j o = by_cases (of_new h e j)
-    (λ t. absurd (let (lo, up) = table_within h e j (new_in h e j t).0 in o lo up))
-    (λ f. f)
 
 module _ (q : Plan) (j : ℕ) where
   -- A word of an edge's table that stays is untouched where the table is idle there; of another, it is new.

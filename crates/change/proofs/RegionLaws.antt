@@ -1,6 +1,6 @@
 -- From a request to its plan, and from the end of the loop to the answer of a change.
 use Prim.Native.Nat.{ℕ, ◌≤◌, ◌<◌}
-use mathlib.Core.Path.{◌≡◌, sym, subst, ap, ◌∙◌}
+use mathlib.Core.Path.{◌≡◌, sym, ap, ◌∙◌}
 use mathlib.Core.Bool.{Bool, true, false}
 use mathlib.Core.List.{List}
 use native.Mathlib.Omega.{arith}
@@ -26,7 +26,7 @@ use Rattle.plan.proofs.PlannedLaws.{planned}
 use Rattle.targets.specs.Paints.{paint_of}
 use Rattle.plan.specs.Aims.{Aim, aim_of, change_aim, aimed_at}
 use Rattle.change.specs.declared.Ending.{Ending}
-use Rattle.change.specs.declared.Work.TheVariants.{Change}
+use Rattle.change.specs.Runs.{Change}
 use Rattle.change.specs.Answers.{Asked, ChangesRegion, Changes, in_order, done, cut}
 use Rattle.change.specs.Requests.{RegionIs, RequestIs}
 use Rattle.change.specs.Runs.{Ready, Ends, all_made, cut_short}
@@ -77,9 +77,6 @@ region_answers t (cut_short x c) = cut t x c
 
 -- A request that was planned.
 module _ {p : List ℕ} {s : Shape} {d start len r : ℕ} {q : Plan} (planned : RequestIs p s d start len r q (Ok tt)) where
-  pub request_ready : Ready s (aim_of q.domain q.paint) (Change q) p
-  request_ready = let (g, a, t, y) = planned in subst (λ (z : Aim). Ready s z (Change q) p) y.meant.aim y
-
   pub request_answers : {n : ℕ} {a : Ending} {y : List ℕ} → Ends p s (aim_of q.domain q.paint) n a y
       → Changes p s d start len r n (Ok a) y
   request_answers e = let (g, a, t, y) = planned in in_order g a (region_answers t (rw (← y.meant.aim) at e))

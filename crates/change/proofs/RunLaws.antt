@@ -1,5 +1,5 @@
 -- The one loop: how it begins, goes on from a store to the next, and ends.
-use Prim.Native.Nat.{ℕ, ◌+◌, ◌-◌, ◌≤◌}
+use Prim.Native.Nat.{ℕ, ◌+◌, ◌-◌}
 use mathlib.Core.Path.{◌≡◌, sym, ◌∙◌}
 use mathlib.Core.Logic.{◌≢◌}
 use mathlib.Core.Bool.{Bool, true, false, false≢true}
@@ -14,10 +14,10 @@ use Rattle.plan.specs.Aims.{Aim}
 use Rattle.change.specs.declared.Ending.TheVariants.{Done, Cut}
 use Rattle.change.specs.declared.Cursor.{Cursor}
 use Rattle.change.specs.declared.Store.{Store}
-use Rattle.change.specs.declared.Work.{Work}
-use Rattle.change.specs.declared.Work.TheVariants.{Change, Tidying}
+use Rattle.change.specs.Runs.{Work}
+use Rattle.change.specs.Runs.{Change, Tidying}
 use Rattle.change.specs.Cuts.{differing, Due}
-use Rattle.change.specs.Runs.{At, Meant, Run, Stands, Follows, Looks, Told, Stores, Wanted, NextIs, NextIn}
+use Rattle.change.specs.Runs.{At, Meant, Run, Stands, Follows, Told, Stores, Wanted, NextIs, NextIn}
 use Rattle.change.specs.Runs.{start, Ready, Ends, all_made, cut_short}
 use Rattle.change.proofs.State.{at_due, at_store}
 use Rattle.change.proofs.StateLaws.{at_begin}
@@ -87,9 +87,6 @@ none_left z a = rw z at a
 module _ {s : Shape} {o : List ℕ} {A : Aim} {w : Work} {old : List ℕ} {n : ℕ} {from : Cursor} {x :
     List ℕ} {left : ℕ}
     (m : Midst s o A w old n from x left) where
-  pub midst_looks : Looks s w from x
-  midst_looks = record { fits = m.fits; sound = m.at.cut.sound; follows = m.follows }
-
   pub midst_told : Told s w o x
   midst_told = told_now s o A w old m.goal m.kept n from x left m.fits m.meant m.follows m.at
       m.told
@@ -109,9 +106,6 @@ module _ {s : Shape} {o : List ℕ} {A : Aim} {w : Work} {old : List ℕ} {n : �
   module _ (e : NextIs s w x from.phase from.word.0 None) where
     made : left + differing old x ≡ n
     made = rw m.at.cut.count m.at.sum
-
-    pub ends_left : left ≤ n
-    ends_left = let z = made in omega arith
 
     pub ends_done : Ends old s A n (Done (n - left)) x
     ends_done =

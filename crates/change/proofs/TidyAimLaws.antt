@@ -22,7 +22,7 @@ use Rattle.targets.specs.Targets.{painted, target_of, Gives, Readable}
 use Rattle.targets.proofs.PoolLaws.{root_gives, middle_gives, root_readable, middle_readable}
 use Rattle.targets.proofs.WantedLaws.{unpainted_target}
 use Rattle.targets.specs.Paints.{no_paint}
-use Rattle.change.specs.declared.Work.TheVariants.{Tidying}
+use Rattle.change.specs.Runs.{Tidying}
 use Rattle.change.specs.Runs.{Run, Stands, OnlyFrom, MiddleOwners}
 use Rattle.change.specs.Tidying.{TidyAt, AimedAt, MiddlePlace, Owns, Table, Place}
 use Rattle.change.proofs.TidyWordLaws.{root_becomes, page_becomes, root_stays, still_leads, page_stays}
@@ -103,9 +103,6 @@ module _ (s : Shape) (x : List ℕ) where
   pub table_inside : (o t i : ℕ) → Table s x o t → i < 1024 → t + i < first_leaf s
   table_inside o t i y bi = ⊎_elim (λ h. omega arith) (λ w. let (p, b, e) = w.place in omega arith) y
 
-  pub table_end : (o t : ℕ) → Table s x o t → t + 1024 ≤ first_leaf s
-  table_end o t y = ⊎_elim (λ h. omega arith) (λ w. let (p, b, e) = w.place in omega arith) y
-
   pub table_root : (o t i : ℕ) → Table s x o t → i < 1024 → t < first_middle s
       → t + i < first_middle s
   table_root o t i y bi h = ⊎_elim (λ z. omega arith) (λ w. let (p, b, e) = w.place in absurd (omega arith)) y
@@ -158,10 +155,7 @@ module _ (s : Shape) (x : List ℕ) where
         | no b ↦ sym (leaf_stays s a.cut.sound (tidy_now a) j (omega arith))
       ]
 
--- Roots and middle places.
-pub place_root : (s : Shape) (t : ℕ) → Place s t → t < first_middle s → t + 1024 ≤ first_middle s
-place_root s t y h = ⊎_elim (λ z. z) (λ (p, b, e). absurd (omega arith)) y
-
+-- A place that does not begin among the roots is a middle place.
 pub place_middle : (s : Shape) (t : ℕ) → Place s t → first_middle s ≤ t → MiddlePlace s t
 place_middle s t y h = ⊎_elim (λ z. absurd (omega arith)) (λ z. z) y
 

@@ -11,7 +11,7 @@ use Rattle.table.specs.Map.{form_of}
 use Rattle.targets.specs.Paints.{no_paint}
 use Rattle.plan.specs.Aims.{Aim, aim_of, no_aim}
 use Rattle.change.specs.declared.Ending.{Ending}
-use Rattle.change.specs.declared.Work.TheVariants.{Tidying}
+use Rattle.change.specs.Runs.{Tidying}
 use Rattle.change.specs.Answers.{Tidies, done, cut}
 use Rattle.change.specs.Runs.{Ready, Ends, all_made, cut_short}
 use Rattle.change.proofs.GoalLaws.{no_paint_lem, tidy_goal}

@@ -19,7 +19,7 @@ use Rattle.table.specs.Map.{form_of}
 use Rattle.table.proofs.FormLaws.{lawful, exact}
 use Rattle.table.proofs.WantLaws.{wanting}
 use Rattle.plan.specs.Aims.{no_aim}
-use Rattle.change.specs.declared.Work.TheVariants.{Tidying}
+use Rattle.change.specs.Runs.{Tidying}
 use Rattle.change.specs.Runs.{phases, Run, Stands, Stores}
 use Rattle.change.specs.Tidying.{TidyAt, Becomes, AimedAt}
 use Rattle.change.proofs.State.{here_was}

@@ -9,7 +9,7 @@ use Rattle.theory.specs.Pool.{words}
 use Rattle.table.specs.declared.Shape.{Shape}
 use Rattle.plan.specs.declared.Plan.{Plan}
 use Rattle.plan.specs.Plan.{after, phase_of}
-use Rattle.change.specs.declared.Work.TheVariants.{Change}
+use Rattle.change.specs.Runs.{Change}
 use Rattle.change.specs.Runs.{Run, Stands, Stores}
 use Rattle.change.specs.Ahead.{Idle}
 use Rattle.change.proofs.State.{at_long, at_final, at_phase, at_skip}

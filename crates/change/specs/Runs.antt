@@ -6,6 +6,7 @@ use Rattle.theory.specs.Phase.{phase, midway}
 use Rattle.table.specs.declared.Shape.{Shape}
 use Rattle.table.specs.Shape.{Fits, first_middle}
 use Rattle.table.specs.Map.{form_of}
+use Rattle.plan.specs.declared.Plan.{Plan}
 use Rattle.plan.specs.Plan.{PlanFits}
 use Rattle.plan.specs.Aims.{Aim, no_aim, Goal}
 use Rattle.plan.specs.Goals.{Planned}
@@ -13,10 +14,13 @@ use Rattle.change.specs.declared.Ending.{Ending}
 use Rattle.change.specs.declared.Ending.TheVariants.{Done, Cut}
 use Rattle.change.specs.declared.Cursor.{Cursor}
 use Rattle.change.specs.declared.Store.{Store}
-use Rattle.change.specs.declared.Work.{Work}
-use Rattle.change.specs.declared.Work.TheVariants.{Change, Tidying}
 use Rattle.change.specs.Cuts.{differing, CutAt}
 use Rattle.change.specs.Answers.{IsDone, IsCut}
+
+-- What is made: a change, by its plan; or a tidying, which is the change of the empty region.
+pub data Work : Type 0 where
+  Change : Plan → Work
+  Tidying : Work
 
 -- The phase of a word: of the kept ones that lead first, then of those in no kept table, then of the others.
 abbrev pub phases : Shape → List ℕ → (ℕ → Bool) → ℕ → ℕ

@@ -2,12 +2,11 @@
 ghost use Rattle.std.specs.Prelude.{◌+◌, ◌<◌, ◌≤◌, [], length};
 ghost use Rattle.places.specs.Count.{heights, blocks};
 ghost use Rattle.plan.specs.Plan.{PlanFits, plan_in};
-ghost use Rattle.change.specs.declared.Work.TheVariants.{Change};
-ghost use Rattle.change.specs.Runs.{Looks, NextIs, NextIn};
+ghost use Rattle.change.specs.Runs.{Change, Looks, NextIs, NextIn};
 ghost use Rattle.change.specs.Ahead.{Ahead, Outside, EntriesIdle, TableIdle, NotNew, HighIdle, LowIdle, NewIdle};
 ghost use Rattle.change.specs.Ahead.{Idle, EntriesBefore, NextRow, PlainWords};
 
-use crate::{Cursor, Guide, Store, Work, final_word, phase_of};
+use crate::{Cursor, Guide, Store, final_word, phase_of};
 use plan::{Edge, PLAN_WORDS};
 use table::{ROOT, Shape, TABLE_WORDS};
 use words::PoolWord;
@@ -174,8 +173,8 @@ fn next_row(plan: &[u32; PLAN_WORDS], at: Cursor, end: PoolWord) -> Cursor
 
 // The store at the cursor's word, if the word changes in this phase.
 fn next_here(pool: &[u32], shape: Shape, plan: &[u32; PLAN_WORDS], at: Cursor) -> Option<Store>
-    requires { Looks shape (Work.Change (plan_in plan.now)) at pool.now × (at.word.0 < at.past.0) }
-    ensures { NextIn shape (Work.Change (plan_in plan.now)) pool.now at.phase
+    requires { Looks shape (Change (plan_in plan.now)) at pool.now × (at.word.0 < at.past.0) }
+    ensures { NextIn shape (Change (plan_in plan.now)) pool.now at.phase
         at.word.0 (at.word.0 + 1) result }
 {
     let k = at.word;
@@ -207,8 +206,8 @@ fn plain_words(pool: &[u32], phase: u32, from: PoolWord, count: usize) -> usize
 
 // The next store in the cursor's row.
 fn next_in_row(pool: &[u32], shape: Shape, plan: &[u32; PLAN_WORDS], at: Cursor) -> Option<Store>
-    requires { Looks shape (Work.Change (plan_in plan.now)) at pool.now }
-    ensures { NextIn shape (Work.Change (plan_in plan.now)) pool.now at.phase
+    requires { Looks shape (Change (plan_in plan.now)) at pool.now }
+    ensures { NextIn shape (Change (plan_in plan.now)) pool.now at.phase
         at.word.0 at.past.0 result }
 {
     let count = at.past.index() - at.word.index();
@@ -229,13 +228,13 @@ pub fn next_change(
     plan: &[u32; PLAN_WORDS],
     from: Cursor,
 ) -> Option<Store>
-    requires { Looks shape (Work.Change (plan_in plan.now)) from pool.now }
-    ensures { NextIs shape (Work.Change (plan_in plan.now)) pool.now from.phase
+    requires { Looks shape (Change (plan_in plan.now)) from pool.now }
+    ensures { NextIs shape (Change (plan_in plan.now)) pool.now from.phase
         from.word.0 result }
 {
     let end = PoolWord::from(pool.len() as u32);
     let mut at = from;
-    // A `while`, since rows are of any length, and a phase may have few.
+    // A `while`, since each row is found from the one before, and is of any length.
     while at.phase < 4 {
         let next = next_in_row(pool, shape, plan, at);
         if next.is_some() {

@@ -9,14 +9,13 @@ ghost use Rattle.plan.specs.Plan.{InTable, of_table, of_new, entry_after, entry_
 ghost use Rattle.plan.specs.Plan.{new_at, new_word, phase_of, PlanFits, plan_in};
 ghost use Rattle.plan.specs.Planning.{Regular};
 ghost use Rattle.plan.specs.Aims.{aim_of};
-ghost use Rattle.change.specs.declared.Work.{Work};
 ghost use Rattle.change.specs.Answers.{Changes};
 ghost use Rattle.change.specs.Cuts.{CutAt, Due};
 ghost use Rattle.change.specs.Requests.{RegionIs, RequestIs};
-ghost use Rattle.change.specs.Runs.{Looks, NextIs, Ready, Told, Ends};
+ghost use Rattle.change.specs.Runs.{Work, Looks, NextIs, Ready, Told, Ends};
 
 use census::PLACES;
-use plan::{Edge, PLAN_WORDS, Plan};
+use plan::{Edge, PLAN_WORDS};
 use refusals::Refusal;
 use table::{ROOT, Shape, TABLE_WORDS};
 use targets::Paint;
@@ -35,16 +34,8 @@ pub enum Ending {
     Cut,
 }
 
-// What is to be made, for the contracts, since the code goes by words that are lent: a change, by its plan; or a
-// tidying, which is the change of the empty region.
-#[derive(Clone, Copy)]
-pub enum Work {
-    Change(Plan),
-    Tidying,
-}
-
 // Where a run stands: the phase, and in it the word. The words from there up to `past` are a row, to be looked at one
-// by one.
+// by one. A phase is a number, from 1 on, since what a cut leaves is told by which phases come before it.
 #[derive(Clone, Copy)]
 pub struct Cursor {
     pub phase: u32,
@@ -162,10 +153,10 @@ fn final_word(plan: &[u32; PLAN_WORDS], k: PoolWord, x: u32) -> u32
         // What stands above a root always leads to it.
         return entry_after(plan, ROOT, 0, entry_number(root, k), x);
     }
-    match ends_after(plan, 1, k, x) {
-        Some(y) => y,
-        None => ends_after(plan, 0, k, x).unwrap_or(x),
+    if let Some(y) = ends_after(plan, 1, k, x) {
+        return y;
     }
+    ends_after(plan, 0, k, x).unwrap_or(x)
 }
 
 // Whether word `k` is of the table of an edge that had none.
@@ -344,6 +335,5 @@ pub fn change(
     let domain = plan::domain_in(&plan);
     let paint = plan::paint_in(&plan);
     let guide = ByPlan { plan: &plan };
-    let ending = make_stores(pool, shape, domain, paint, &guide, allowance);
-    Ok(ending)
+    Ok(make_stores(pool, shape, domain, paint, &guide, allowance))
 }

@@ -4,12 +4,11 @@ ghost use Rattle.std.specs.Prelude.{◌+◌, ◌<◌, ◌≤◌, length};
 ghost use Rattle.theory.specs.Pool.{words, SoundPool};
 ghost use Rattle.table.specs.Shape.{Fits};
 ghost use Rattle.table.specs.Map.{form_of};
-ghost use Rattle.change.specs.declared.Work.TheVariants.{Tidying};
 ghost use Rattle.change.specs.Answers.{Tidies};
-ghost use Rattle.change.specs.Runs.{Looks, MiddleOwners, NextIs, NextIn};
+ghost use Rattle.change.specs.Runs.{Tidying, Looks, MiddleOwners, NextIs, NextIn};
 ghost use Rattle.change.specs.Tidying.{AimedAt, Table, Place};
 
-use crate::{Cursor, Ending, Guide, Store, Work, make_stores};
+use crate::{Cursor, Ending, Guide, Store, make_stores};
 use census::PLACES;
 use refusals::Refusal;
 use table::{ROOT, Shape, TABLE_WORDS};
@@ -41,10 +40,10 @@ fn target_at(pool: &[u32], shape: Shape, owner: u32, base: PoolWord, i: u32) -> 
 fn next_given_up(pool: &[u32], shape: Shape, owner: u32, base: PoolWord, from: u32) -> Option<Store>
     requires fits { Fits shape (length pool.now) × SoundPool (form_of shape) (words pool.now) }
     requires table { Table shape pool.now owner base.0 × (from ≤ 1024) }
-    ensures { NextIn shape Work.Tidying pool.now 1 (base.0 + from) (base.0 + 1024) result }
+    ensures { NextIn shape Tidying pool.now 1 (base.0 + from) (base.0 + 1024) result }
 {
     let mut i = from;
-    // A `while`, since words that are plain are passed over many at a time.
+    // A `while`, since words that are eight rights are passed over many at a time.
     while i < TABLE_WORDS {
         let k = base.after(i as usize);
         let n = census::plain_ahead(pool, k, i);
@@ -77,7 +76,7 @@ fn next_in_place(
     requires fits { Fits shape (length pool.now) × SoundPool (form_of shape) (words pool.now) }
     requires middle_owners { MiddleOwners shape owners.now pool.now }
     requires place { Place shape base.0 × (from ≤ 1024) }
-    ensures { NextIn shape Work.Tidying pool.now 1 (base.0 + from) (base.0 + 1024) result }
+    ensures { NextIn shape Tidying pool.now 1 (base.0 + from) (base.0 + 1024) result }
 {
     let roots = TABLE_WORDS * shape.domains;
     let first = base.index();
@@ -99,9 +98,9 @@ pub fn next_tidying(
     owners: &[u32; PLACES],
     from: Cursor,
 ) -> Option<Store>
-    requires looks { Looks shape Work.Tidying from pool.now }
+    requires looks { Looks shape Tidying from pool.now }
     requires middle_owners { MiddleOwners shape owners.now pool.now }
-    ensures { NextIs shape Work.Tidying pool.now from.phase from.word.0 result }
+    ensures { NextIs shape Tidying pool.now from.phase from.word.0 result }
 {
     let mut k = from.word.index();
     for place in k / TABLE_SIZE..(shape.domains + shape.middles) as usize {
@@ -153,6 +152,5 @@ pub fn tidy(pool: &mut [u32], shape: Shape, allowance: u32) -> Result<Ending, Re
         return Ok(Ending::Done(0));
     }
     let guide = ByOwners { owners: &owners };
-    let ending = make_stores(pool, shape, 0, UNPAINTED, &guide, allowance);
-    Ok(ending)
+    Ok(make_stores(pool, shape, 0, UNPAINTED, &guide, allowance))
 }

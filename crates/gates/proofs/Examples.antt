@@ -16,8 +16,7 @@ use Rattle.refusals.specs.Refusals.{number}
 use Rattle.gates.specs.declared.Stepped.{Stepped}
 use Rattle.gates.specs.declared.Stepped.TheVariants.{Pass, Deny}
 use Rattle.gates.specs.States.{Gates, CallStack}
-use Rattle.gates.specs.Lists.{before, every}
-use Rattle.gates.specs.Gates.{no_gate, held, gate_in, gate_of, place_refusal, set_at_place, set_of, remove_of}
+use Rattle.gates.specs.Gates.{no_gate, held, place_of, gate_in, gate_of, place_refusal, set_at_place, set_of, remove_of}
 use Rattle.gates.specs.Steps.{numbers, no_frame, empty_stack, pushed, domains_known, step_refusal, switch_step}
 use Rattle.gates.specs.Steps.{given_back, gate_step}
 
@@ -38,12 +37,12 @@ four = gate 0 4096 (Switch 1) ∷ gate 1 8192 Return ∷ gate 0 4096 (Switch 2) 
 -- A new gate goes last, and one at an existing place in that place.
 goes_last : held (set_of 4 (holding four 2) 2 (at 64) Return).gates ≡ gate 0 4096 (Switch 1) ∷ gate 1 8192 Return ∷
     gate 2 64 Return ∷ []
-unfolding set_of place_refusal set_at_place before
+unfolding set_of place_refusal set_at_place place_of
 goes_last = refl
 
 replaces : held (set_of 4 (holding four 2) 0 (at 4096) (Switch 3)).gates ≡ gate 0 4096 (Switch 3) ∷ gate 1 8192
     Return ∷ []
-unfolding set_of place_refusal set_at_place before
+unfolding set_of place_refusal set_at_place place_of
 replaces = refl
 
 -- Of two gates at one place the earlier counts; without it the later one does.
@@ -52,13 +51,13 @@ unfolding gate_in
 earlier_counts = refl
 
 later_next : gate_of (remove_of 4 (holding four 4) 0 (at 4096)).gates 0 4096 ≡ Some (Switch 2)
-unfolding gate_in remove_of place_refusal before
+unfolding gate_in remove_of place_refusal place_of
 later_next = refl
 
 -- Later gates move down, and the place that comes free keeps what it held.
 moves_down : (remove_of 4 (holding four 3) 0 (at 4096)).gates
     ≡ holding (gate 1 8192 Return ∷ gate 0 4096 (Switch 2) ∷ gate 0 4096 (Switch 2) ∷ gate 1 8192 (Switch 0) ∷ []) 2
-unfolding remove_of place_refusal before
+unfolding remove_of place_refusal place_of
 moves_down = refl
 
 -- The number of a refusal, 0 for none.
@@ -77,7 +76,7 @@ setting_refuses :
     (holding four 63) 3 (at 4) (Switch 2)
     ∷ [])
     ≡ 1 ∷ 1 ∷ 18 ∷ 2 ∷ 2 ∷ 11 ∷ 14 ∷ 12 ∷ 0 ∷ []
-unfolding set_of place_refusal set_at_place before
+unfolding set_of place_refusal set_at_place place_of
 setting_refuses = refl
 
 -- Removing refuses in the order 1, 18, 2, 11, 13.
@@ -88,7 +87,7 @@ removing_refuses :
     ∷ remove_of 4 (holding four 2) 3 (at 2) ∷ remove_of 4 (holding four 2) 3 (at 4) ∷ remove_of 4 (holding four 2) 1
     (at 8192) ∷ [])
     ≡ 1 ∷ 18 ∷ 2 ∷ 11 ∷ 13 ∷ 0 ∷ []
-unfolding remove_of place_refusal before
+unfolding remove_of place_refusal place_of
 removing_refuses = refl
 
 -- Before the gate a step refuses in the order 1, 18, 2, 10. Domains past the counts are not looked at.
@@ -115,7 +114,7 @@ step_refuses :
     (stack 1 1) 4 2
     ∷ step_refusal 2048 two_roots (holding four 2) (stack 1 1) 4 4 ∷ [])
     ≡ 1 ∷ 18 ∷ 18 ∷ 2 ∷ 2 ∷ 2 ∷ 10 ∷ 10 ∷ 0 ∷ []
-unfolding step_refusal domains_known every
+unfolding step_refusal domains_known
 step_refuses = refl
 
 -- The fetch is denied in domain 1 and passes in every other.

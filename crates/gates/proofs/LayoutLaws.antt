@@ -9,8 +9,8 @@ use native.Mathlib.Numerals.{add-one}
 use native.Mathlib.Omega.{arith}
 use borrow.Author.Tests.{eqb-true, not-true}
 use lib.Dec.{eqb}
-use lib.ListN.{length, get_or, take, drop, set, length-set, length-append, drop_of_length-le}
-use lib.Seq.{sets, drop-cons, get_or_at, get_or-append_seam, get_or-append-add}
+use lib.ListN.{length, get_or, take, drop, set, length-set, drop_of_length-le}
+use lib.Seq.{get_or-take, length-take-le, sets, drop-cons, get_or_at, get_or-append_seam, get_or-append-add}
 use Rattle.std.proofs.Common.{Result, Ok, Err}
 use Rattle.refusals.specs.declared.Refusal.{Refusal}
 use Rattle.rows.specs.Rows.{words_of}
@@ -23,8 +23,8 @@ use Rattle.gates.specs.declared.GateAt.{GateAt}
 use Rattle.gates.specs.declared.Frame.{Frame}
 use Rattle.gates.specs.declared.Stepped.{Stepped}
 use Rattle.gates.specs.States.{Gates, GatesSet, CallStack, Step}
-use Rattle.gates.specs.Gates.{no_gate, stored, set_refused, set_done}
-use Rattle.gates.specs.Steps.{no_frame}
+use Rattle.gates.specs.Gates.{no_gate, held, stored, set_refused, set_done}
+use Rattle.gates.specs.Steps.{no_frame, in_use}
 use Rattle.gates.specs.Layout.{gates_long, stack_long, return_word, gate_said, gate_word, gate_at, gate_words, gates_of}
 use Rattle.gates.specs.Layout.{gates_words, frame_at, frame_words, stack_of, stack_words, SetAs, SteppedAs}
 
@@ -101,14 +101,17 @@ gates_again G h real =
 pub gates_at : (ws : List ℕ) (i : ℕ) → i < 64 → get_or (gates_of ws).places i no_gate ≡ gate_at ws (3 * i)
 gates_at ws i h = said_at gate_layout 64 ws i no_gate h
 
+-- The gates held, one after the other.
+module _ (ws : List ℕ) (few : (gates_of ws).count ≤ 64) where
+  pub held_said : length (held (gates_of ws)) ≡ (gates_of ws).count
+  held_said = let n = gates_said ws in length-take-le (gates_of ws).count (gates_of ws).places (omega arith)
+
+  pub held_at : (i : ℕ) → i < (gates_of ws).count → get_or (held (gates_of ws)) i no_gate ≡ gate_at ws (3 * i)
+  held_at i h = get_or-take (gates_of ws).count (gates_of ws).places i no_gate h ∙ gates_at ws i (omega arith)
+
 -- The words of a set of these gates, so many of them held.
 abbrev pub of_places : List GateAt → ℕ → List ℕ
 of_places x m = gates_words (record { places = x; count = m })
-
-pub places_long : (l : List GateAt) (n : ℕ) → length l ≡ 64 → length (of_places l n) ≡ 193
-places_long l n h =
-    let m = length_words gate_layout l in
-    length-append (words_of gate_words l) (n ∷ []) ∙ omega arith
 
 -- A gate and the count stored.
 module _ (l : List GateAt) (n : ℕ) where
@@ -172,6 +175,14 @@ frames_said ws = length_said frame_layout 16 ws
 pub frames_at : (ws : List ℕ) (i : ℕ) → i < 16 → get_or (stack_of ws).frames i no_frame ≡ frame_at ws (2 * i)
 frames_at ws i h = said_at frame_layout 16 ws i no_frame h
 
+-- The frames in use, one after the other.
+module _ (ws : List ℕ) (few : (stack_of ws).depth ≤ 16) where
+  pub in_use_said : length (in_use (stack_of ws)) ≡ (stack_of ws).depth
+  in_use_said = let n = frames_said ws in length-take-le (stack_of ws).depth (stack_of ws).frames (omega arith)
+
+  pub in_use_at : (i : ℕ) → i < (stack_of ws).depth → get_or (in_use (stack_of ws)) i no_frame ≡ frame_at ws (2 * i)
+  in_use_at i h = get_or-take (stack_of ws).depth (stack_of ws).frames i no_frame h ∙ frames_at ws i (omega arith)
+
 pub stack_words_lem : (ws : List ℕ) → length ws ≡ stack_long → stack_words (stack_of ws) ≡ ws
 stack_words_lem ws h =
     ap (λ (t : List ℕ). words_of frame_words (stack_of ws).frames ++ t)
@@ -190,11 +201,6 @@ stack_again k h =
     let s = get_or_at w k.depth (k.current ∷ []) 0 32 n in
     let t = ap (λ (m : ℕ). get_or (w ++ u) m 0) (sym (ap (λ (m : ℕ). m + 1) n)) ∙ get_or-append-add w u 1 0 in
     λ i. record { frames = e i; depth = s i; current = t i }
-
-pub stack_long_lem : (k : CallStack) → length k.frames ≡ 16 → length (stack_words k) ≡ 34
-stack_long_lem k h =
-    let m = length_words frame_layout k.frames in
-    length-append (words_of frame_words k.frames) (k.depth ∷ k.current ∷ []) ∙ omega arith
 
 -- A frame stored.
 pub frame_stored : (k : CallStack) (i : ℕ) (f : Frame) → i < length k.frames → sets (stack_words k) (2 * i)

@@ -1,69 +1,37 @@
 -- A series of calls on the words of a gate set or of a call stack is a series on the state: the words that a call
 -- leaves say the state that the definition leaves. No gate of a set that words say, or that a call makes of one, is a
 -- switch to 0xFFFFFFFF, which is the one gate without a word. Assumes nothing.
-use Prim.Native.Nat.{ℕ, zero, suc, ◌+◌, ◌-◌, ◌*◌, ◌≤◌, ◌<◌}
+use Prim.Native.Nat.{ℕ, suc, ◌+◌, ◌-◌, ◌*◌, ◌≤◌, ◌<◌}
 use mathlib.Core.Path.{◌≡◌, refl, ◌∙◌}
 use mathlib.Core.Bool.{Bool, true, false, cond, not, ◌&&◌}
-use mathlib.Core.List.{List, [], ◌∷◌, ◌++◌}
+use mathlib.Core.List.{List}
 use native.Mathlib.Omega.{arith}
 use borrow.Author.Tests.{ltb-true, ltb-false, leb-true, ne_eqb, not-false}
 use lib.Dec.{eqb, ltb, leb}
-use lib.ListN.{length, get_or, take, drop, set, length-append, length-drop, length-set}
+use lib.ListN.{length, get_or, take, drop, length-append, length-drop, length-set}
 use lib.Seq.{length-take-le}
 use Rattle.words.specs.declared.ByteAddr.{ByteAddr}
 use Rattle.table.specs.declared.Shape.{Shape}
 use Rattle.table.specs.Shape.{max_domains}
 use Rattle.theory.proofs.Logic.{by_cases, and_both}
-use Rattle.rows.specs.Rows.{rows_of}
-use Rattle.std.proofs.Common.{Ok}
-use Rattle.refusals.specs.declared.Refusal.TheVariants.{NoShape, NoDomain, GateToItself, GatesFull, BadState}
+use Rattle.std.proofs.Common.{Option, Some, None, Ok}
+use Rattle.std.proofs.lemmas.List.Edits.{length-remove}
+use Rattle.std.proofs.lemmas.List.Elements.{All-append, All-take, All-drop, All-set, All-from_get_or}
+use Rattle.std.specs.List.{All, remove}
+use Rattle.refusals.specs.declared.Refusal.TheVariants.{NoShape, NoDomain, BadState}
 use Rattle.gates.specs.declared.Gate.{Gate}
 use Rattle.gates.specs.declared.Gate.TheVariants.{Switch, Return}
 use Rattle.gates.specs.declared.GateAt.{GateAt}
 use Rattle.gates.specs.States.{Gates, CallStack, Step}
-use Rattle.gates.specs.Gates.{max_gates, no_gate, place_of, leads_below, leads_to, place_refusal, set_refused, set_done}
-use Rattle.gates.specs.Gates.{stored, set_at_place, set_of, without, remove_of}
+use Rattle.gates.specs.Gates.{max_gates, no_gate, place_of, leads_below, leads_to, place_refusal}
+use Rattle.gates.specs.Gates.{stored, set_in, set_at_place, set_of, without, remove_of}
 use Rattle.gates.specs.Steps.{step_of}
 use Rattle.gates.specs.Moves.{Moves, stays, calls, returns}
-use Rattle.gates.specs.Layout.{return_word, gate_said, gate_at, gates_of, gates_words, stack_of, stack_words}
-use Rattle.gates.proofs.ListLaws.{none_refuses, by_refusal}
+use Rattle.gates.specs.Layout.{return_word, gate_said, gates_of, gates_words, stack_of, stack_words}
+use Rattle.gates.proofs.ListLaws.{none_refuses, by_refusal, by_option}
+use Rattle.gates.proofs.GateLaws.{place_held}
 use Rattle.gates.proofs.StepLaws.{step_moves}
-use Rattle.gates.proofs.LayoutLaws.{has_word, gates_said, gates_again, frames_said, stack_again}
-
--- Every element of a list is as `P` says.
-module _ {A : Type 0} (P : A → Type 0) where
-  abbrev pub All : List A → Type 0
-  All [] = Unit {0}
-  All (x ∷ xs) = P x × All xs
-
-  all_append : (xs ys : List A) → All xs → All ys → All (xs ++ ys)
-  all_append [] ys h k = k
-  all_append (x ∷ xs) ys h k = (h.0, all_append xs ys h.1 k)
-
-  all_take : (n : ℕ) (xs : List A) → All xs → All (take n xs)
-  all_take zero xs h = tt
-  all_take (suc n) [] h = tt
-  all_take (suc n) (x ∷ xs) h = (h.0, all_take n xs h.1)
-
-  all_drop : (n : ℕ) (xs : List A) → All xs → All (drop n xs)
-  all_drop zero xs h = h
-  all_drop (suc n) [] h = tt
-  all_drop (suc n) (x ∷ xs) h = all_drop n xs h.1
-
-  all_set : (xs : List A) (i : ℕ) (x : A) → P x → All xs → All (set xs i x)
-  all_set [] i x h k = tt
-  all_set (y ∷ ys) zero x h k = (h, k.1)
-  all_set (y ∷ ys) (suc i) x h k = (k.0, all_set ys i x h k.1)
-
-  all_at : (xs : List A) (d : A) → P d → All xs → (i : ℕ) → P (get_or xs i d)
-  all_at [] d h k i = h
-  all_at (x ∷ xs) d h k zero = k.0
-  all_at (x ∷ xs) d h k (suc i) = all_at xs d h k.1 i
-
-  all_rows : (f : ℕ → A) → ((i : ℕ) → P (f i)) → (n : ℕ) → All (rows_of n f)
-  unfolding rows_of
-  all_rows f h zero = tt
-  all_rows f h (suc n) = all_append (rows_of n f) (f n ∷ []) (all_rows f h n) (h n, tt)
+use Rattle.gates.proofs.LayoutLaws.{has_word, gates_said, gates_at, gates_again, frames_said, stack_again}
 
 -- A gate with its place that has words.
 abbrev pub RealAt : GateAt → Type 0
@@ -82,35 +50,24 @@ pub record HasWords (G : Gates) : Type 0 where
   pub real : All RealAt G.places
 
 pub words_say : (G : Gates) → HasWords G → gates_of (gates_words G) ≡ G
-words_say G h = gates_again G h.long (λ i l. all_at RealAt G.places no_gate refl h.real i)
+words_say G h = let n = h.long in gates_again G h.long (λ i l. h.real i no_gate (omega arith))
 
 pub read_words : (ws : List ℕ) → HasWords (gates_of ws)
 read_words ws = record {
   long = gates_said ws;
-  real = all_rows RealAt (λ i. gate_at ws (3 * i)) (λ i. gate_real (get_or ws (3 * i + 2) 0)) 64;
+  real = let n = gates_said ws in
+      All-from_get_or RealAt (gates_of ws).places no_gate
+      (λ i h. rw (gates_at ws i (omega arith)) (gate_real (get_or ws (3 * i + 2) 0)));
 }
 
 stored_real : (G : Gates) (k : ℕ) (g : GateAt) (n : ℕ) → HasWords G → RealAt g → HasWords (stored G k g n)
 stored_real G k g n h r =
-    record { long = length-set G.places k g ∙ h.long; real = all_set RealAt G.places k g r h.real }
+    record { long = length-set G.places k g ∙ h.long; real = All-set RealAt G.places k g r h.real }
 
-placed_real : (G : Gates) (g : GateAt) → HasWords G → RealAt g → HasWords (set_at_place G g).gates
-unfolding set_at_place
-placed_real G g h r =
-    go (leads_to g.domain g.gate) (ltb (place_of G g.domain g.address.0) G.count)
-    (eqb G.count max_gates)
-  where
-    k : ℕ
-    k = place_of G g.domain g.address.0
-
-    go : (t u v : Bool) → HasWords
-        (cond t (set_refused GateToItself G)
-        (cond u (set_done (stored G k g G.count))
-        (cond v (set_refused GatesFull G) (set_done (stored G G.count g (G.count + 1)))))).gates
-    go true u v = h
-    go false true v = stored_real G k g G.count h r
-    go false false true = h
-    go false false false = stored_real G G.count g (G.count + 1) h r
+placed_real : (G : Gates) (g : GateAt) (o : Option ℕ) → HasWords G → RealAt g → HasWords (set_in G g o).gates
+placed_real G g (Some k) h r = stored_real G k g G.count h r
+placed_real G g None h r =
+    by_cases (eqb G.count max_gates) (λ e. rw e h) (λ e. rw e (stored_real G G.count g (G.count + 1) h r))
 
 -- What is not refused: at most 64 gates are held, and the gate has a word.
 below_real : (D : ℕ) (x : Gate) → D ≤ max_domains → leads_below D x ≡ true → has_word x ≡ true
@@ -130,40 +87,39 @@ in_order D n d x a e =
     (few, below_real D x small below)
 
 set_real : (D : ℕ) (G : Gates) (d : ℕ) (a : ByteAddr) (x : Gate) → HasWords G → HasWords (set_of D G d a x).gates
-unfolding set_of
+unfolding set_of set_at_place
 set_real D G d a x h =
     by_refusal (place_refusal D G.count d x a.0)
-    (λ e. rw e (placed_real G (record { domain = d; address = a; gate = x }) h (in_order D G.count d x a.0 e).1))
+    (λ e. by_cases (leads_to d x) (λ o. rw (e, o) h)
+    (λ o. rw (e, o) (placed_real G (record { domain = d; address = a; gate = x }) (place_of G d a.0) h
+    (in_order D G.count d x a.0 e).1)))
     (λ n e. rw e h)
 
 without_real : (G : Gates) (k : ℕ) → G.count ≤ 64 → k < G.count → HasWords G → HasWords (without G k)
 without_real G k few l h =
     let xs = take G.count G.places in
-    let z = all_take RealAt G.count G.places h.real in
     let m = h.long in
     let n = length-take-le G.count G.places (omega arith) in
-    let i = length-take-le k xs (omega arith) in
-    let j = length-drop (suc k) xs in
+    let i = length-remove xs k (omega arith) in
     let o = length-drop (G.count - 1) G.places in
+    let z = All-take RealAt G.count G.places h.real in
     record {
-      long = length-append (take k xs ++ drop (suc k) xs) (drop (G.count - 1) G.places)
-          ∙ rw (length-append (take k xs) (drop (suc k) xs)) (omega arith);
-      real = all_append RealAt (take k xs ++ drop (suc k) xs) (drop (G.count - 1) G.places)
-          (all_append RealAt (take k xs) (drop (suc k) xs) (all_take RealAt k xs z) (all_drop RealAt (suc k) xs z))
-          (all_drop RealAt (G.count - 1) G.places h.real);
+      long = length-append (remove xs k) (drop (G.count - 1) G.places) ∙ omega arith;
+      real = All-append RealAt (remove xs k) (drop (G.count - 1) G.places)
+          (All-append RealAt (take k xs) (drop (suc k) xs) (All-take RealAt k xs z) (All-drop RealAt (suc k) xs z))
+          (All-drop RealAt (G.count - 1) G.places h.real);
     }
 
 remove_real : (D : ℕ) (G : Gates) (d : ℕ) (a : ByteAddr) → HasWords G → HasWords (remove_of D G d a).gates
 unfolding remove_of
 remove_real D G d a h =
     by_refusal (place_refusal D G.count d Return a.0)
-    (λ e. rw e (by_cases (ltb k G.count)
-    (λ l. rw l (without_real G k (in_order D G.count d Return a.0 e).0 (ltb-true k G.count l) h))
-    (λ l. rw l h)))
+    (λ e. let (few, _) = in_order D G.count d Return a.0 e in
+    let long = h.long in
+    by_option (place_of G d a.0)
+    (λ k p. rw (e, p) (without_real G k few (place_held G d a.0 (omega arith) k p) h))
+    (λ p. rw (e, p) h))
     (λ n e. rw e h)
-  where
-    k : ℕ
-    k = place_of G d a.0
 
 pub set_says : (D : ℕ) (ws : List ℕ) (d : ℕ) (a : ByteAddr) (x : Gate)
     → let G = (set_of D (gates_of ws) d a x).gates in gates_of (gates_words G) ≡ G

@@ -2,44 +2,33 @@
 -- current domain.
 use Prim.Native.Nat.{ℕ, ◌+◌, ◌≤◌, ◌<◌}
 use mathlib.Core.Path.{◌≡◌, refl, sym, ap, ◌∙◌}
-use mathlib.Core.Bool.{Bool, true, false, cond, not, ◌||◌}
+use mathlib.Core.Bool.{Bool, true, false, cond}
 use mathlib.Core.List.{List}
 use mathlib.Core.Logic.{⊎_elim}
 use native.Mathlib.Nat.{eq-or-lt_of_le}
 use native.Mathlib.Omega.{arith}
-use borrow.Author.Tests.{ltb-true, ltb-false, eqb-true, eqb-false}
+use borrow.Author.Tests.{ltb-true, eqb-true, eqb-false}
 use lib.Dec.{ltb, eqb}
 use lib.ListN.{length, get_or, take, drop, length-set}
 use lib.Seq.{take-set-le, drop-set-lt, get_or-set_same, get_or-set_other}
 use Rattle.words.specs.declared.ByteAddr.{ByteAddr}
 use Rattle.table.specs.declared.Shape.{Shape}
 use Rattle.table.specs.declared.Deciding.{Deciding}
-use Rattle.table.specs.Shape.{fits_of}
 use Rattle.table.specs.Lookup.{lookup_of}
 use Rattle.refusals.specs.declared.Refusal.{Refusal}
-use Rattle.refusals.specs.declared.Refusal.TheVariants.{NoShape, StackFull, StackEmpty, OtherReturn, BadState}
+use Rattle.refusals.specs.declared.Refusal.TheVariants.{StackFull, StackEmpty, OtherReturn}
 use Rattle.gates.specs.declared.Gate.{Gate}
 use Rattle.gates.specs.declared.Gate.TheVariants.{Switch, Return}
 use Rattle.std.proofs.Common.{Option, Some, None, Result, Ok, Err}
 use Rattle.gates.specs.declared.Stepped.{Stepped}
 use Rattle.gates.specs.declared.Stepped.TheVariants.{Pass, Deny}
 use Rattle.gates.specs.States.{Gates, CallStack, Step}
-use Rattle.gates.specs.Gates.{max_gates, gate_of}
+use Rattle.gates.specs.Gates.{gate_of}
 use Rattle.gates.specs.Steps.{max_depth, no_frame, in_use, top, pushed, popped, step_refusal, step_refused, step_passed, verdict}
 use Rattle.gates.specs.Steps.{fetch_of, on_pass, switch_step, given_back, gate_step, step_of}
 use Rattle.gates.specs.Moves.{Moves, stays, calls, returns}
 use Rattle.theory.proofs.Logic.{by_cases}
-use Rattle.gates.proofs.ListLaws.{neither, none_refuses, by_refusal}
-
--- Nothing is refused before the gate: the counts are in range.
-pub step_in_order : (n : ℕ) (s : Shape) (G : Gates) (k : CallStack) (a t : ℕ) → step_refusal n s G k a t ≡ Ok tt
-    → (G.count ≤ max_gates) × (k.depth ≤ max_depth)
-unfolding step_refusal
-step_in_order n s G k a t e =
-    let (_, p) = none_refuses (not (fits_of s n)) NoShape _ e in
-    let (q, _) = none_refuses (ltb max_gates G.count || ltb max_depth k.depth) BadState _ p in
-    let (x, y) = neither (ltb max_gates G.count) (ltb max_depth k.depth) q in
-    (ltb-false max_gates G.count x, ltb-false max_depth k.depth y)
+use Rattle.gates.proofs.ListLaws.{by_refusal}
 
 module _ (p : List ℕ) (s : Shape) (G : Gates) (k : CallStack) (a t : ByteAddr) where
   abbrev pub refusal : Result (Unit {0}) Refusal

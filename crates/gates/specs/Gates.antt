@@ -1,5 +1,6 @@
 -- Gate sets: which gate is found, and what setting and removing answer and leave.
-use Rattle.std.specs.Prelude.{ℕ, ◌+◌, ◌-◌, ◌%◌, Bool, true, false, cond, not, ◌&&◌, Option, Some, None, Result, Ok, Err, List, [], ◌∷◌, ◌++◌, take, drop, set, replicate, eqb, ltb, leb}
+use Rattle.std.specs.Prelude.{ℕ, ◌+◌, ◌-◌, ◌%◌, Bool, true, false, cond, not, ◌&&◌, Option, Some, None, option_map, Result, Ok, Err, List, ◌++◌, take, drop, set, replicate, eqb, ltb, leb}
+use Rattle.std.specs.List.{filter, find, position, remove}
 use Rattle.words.specs.declared.ByteAddr.{ByteAddr}
 use Rattle.table.specs.Shape.{max_domains}
 use Rattle.refusals.specs.declared.Refusal.{Refusal}
@@ -8,7 +9,6 @@ use Rattle.gates.specs.declared.Gate.{Gate}
 use Rattle.gates.specs.declared.Gate.TheVariants.{Switch, Return}
 use Rattle.gates.specs.declared.GateAt.{GateAt}
 use Rattle.gates.specs.States.{Gates, GatesSet}
-use Rattle.gates.specs.Lists.{before, take_out}
 
 -- A set holds at most this many gates.
 abbrev pub max_gates : ℕ
@@ -30,18 +30,21 @@ held G = take G.count G.places
 abbrev pub stands_at : ℕ → ℕ → GateAt → Bool
 stands_at d a g = eqb g.domain d && eqb g.address.0 a
 
--- The place of the first gate that stands there; the count where none does.
-abbrev pub place_of : Gates → ℕ → ℕ → ℕ
-place_of G d a = before (stands_at d a) (held G)
+-- The place of the first gate that stands there, if one does.
+unfoldable pub place_of : Gates → ℕ → ℕ → Option ℕ
+place_of G d a = position (stands_at d a) (held G)
 
 -- The gate found in a list: of two at one place, the earlier counts.
 unfoldable pub gate_in : ℕ → ℕ → List GateAt → Option Gate
-gate_in d a [] = None
-gate_in d a (g ∷ gs) = cond (stands_at d a g) (Some g.gate) (gate_in d a gs)
+gate_in d a gs = option_map (λ g. g.gate) (find (stands_at d a) gs)
 
 -- The gate found in a set.
 abbrev pub gate_of : Gates → ℕ → ℕ → Option Gate
 gate_of G d a = gate_in d a (held G)
+
+-- The gates that stand elsewhere, in their order.
+abbrev pub others : ℕ → ℕ → List GateAt → List GateAt
+others d a gs = filter (λ g. not (stands_at d a g)) gs
 
 -- A switch's destination is below D; a return has none.
 abbrev pub leads_below : ℕ → Gate → Bool
@@ -77,15 +80,14 @@ set_if_in_order (Err n) G r = set_refused n G
 abbrev pub stored : Gates → ℕ → GateAt → ℕ → Gates
 stored G k g n = record { places = set G.places k g; count = n }
 
--- Setting the gate `g` once its place is in order: refused for a switch to its own domain; else in the place of the gate
--- that stands there, else last, and refused where 64 are present.
+-- Setting the gate `g` in the place of the one that stands there, else last; refused where 64 are present.
+abbrev pub set_in : Gates → GateAt → Option ℕ → GatesSet
+set_in G g (Some k) = set_done (stored G k g G.count)
+set_in G g None = cond (eqb G.count max_gates) (set_refused GatesFull G) (set_done (stored G G.count g (G.count + 1)))
+
+-- Setting it once its place is in order: refused for a switch to its own domain.
 unfoldable pub set_at_place : Gates → GateAt → GatesSet
-set_at_place G g =
-    let k = place_of G g.domain g.address.0 in
-    cond (leads_to g.domain g.gate) (set_refused GateToItself G)
-    (cond (ltb k G.count) (set_done (stored G k g G.count))
-    (cond (eqb G.count max_gates) (set_refused GatesFull G)
-    (set_done (stored G G.count g (G.count + 1)))))
+set_at_place G g = cond (leads_to g.domain g.gate) (set_refused GateToItself G) (set_in G g (place_of G g.domain g.address.0))
 
 -- What setting a gate answers and leaves.
 unfoldable pub set_of : ℕ → Gates → ℕ → ByteAddr → Gate → GatesSet
@@ -94,11 +96,13 @@ set_of D G d a x =
 
 -- The set without the gate of place `k`: later gates move down, and every place past the new count keeps what it held.
 abbrev pub without : Gates → ℕ → Gates
-without G k = record { places = take_out k (held G) ++ drop (G.count - 1) G.places; count = G.count - 1 }
+without G k = record { places = remove (held G) k ++ drop (G.count - 1) G.places; count = G.count - 1 }
 
--- What removing a gate answers and leaves: it is refused where none stands there.
+-- Removing the gate of the place found; refused where none stands there.
+abbrev pub remove_from : Gates → Option ℕ → GatesSet
+remove_from G (Some k) = set_done (without G k)
+remove_from G None = set_refused NoGate G
+
+-- What removing a gate answers and leaves.
 unfoldable pub remove_of : ℕ → Gates → ℕ → ByteAddr → GatesSet
-remove_of D G d a =
-    let k = place_of G d a.0 in
-    set_if_in_order (place_refusal D G.count d Return a.0) G
-    (cond (ltb k G.count) (set_done (without G k)) (set_refused NoGate G))
+remove_of D G d a = set_if_in_order (place_refusal D G.count d Return a.0) G (remove_from G (place_of G d a.0))

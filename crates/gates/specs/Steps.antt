@@ -1,5 +1,6 @@
 -- The call stack and one fetch step: what a step answers, and the stack that it leaves.
 use Rattle.std.specs.Prelude.{ℕ, ◌+◌, ◌-◌, ◌%◌, Bool, cond, not, ◌&&◌, ◌||◌, Option, Some, None, Result, Ok, Err, List, length, get_or, take, set, replicate, eqb, ltb}
+use Rattle.std.specs.List.{list_all}
 use Rattle.words.specs.declared.ByteAddr.{ByteAddr}
 use Rattle.refusals.specs.declared.Refusal.{Refusal}
 use Rattle.refusals.specs.declared.Refusal.TheVariants.{NoShape, NoDomain, NotAligned, StackFull, StackEmpty, OtherReturn, BadState}
@@ -16,7 +17,6 @@ use Rattle.gates.specs.declared.Frame.{Frame}
 use Rattle.gates.specs.declared.Stepped.{Stepped}
 use Rattle.gates.specs.declared.Stepped.TheVariants.{Pass, Deny}
 use Rattle.gates.specs.States.{Gates, CallStack, Step}
-use Rattle.gates.specs.Lists.{every}
 use Rattle.gates.specs.Gates.{max_gates, held, gate_of, leads_below}
 
 -- The paper's numbers for what a step answers.
@@ -73,7 +73,7 @@ gate_below D g = ltb g.domain D && leads_below D g.gate
 
 -- The current domain and every domain in a frame or gate held is below D.
 unfoldable pub domains_known : Gates → CallStack → ℕ → Bool
-domains_known G k D = ltb k.current D && every (frame_below D) (in_use k) && every (gate_below D) (held G)
+domains_known G k D = ltb k.current D && list_all (frame_below D) (in_use k) && list_all (gate_below D) (held G)
 
 -- What a step refuses before it looks at the gate, in the paper's order.
 unfoldable pub step_refusal : ℕ → Shape → Gates → CallStack → ℕ → ℕ → Result (Unit {0}) Refusal

@@ -1,4 +1,5 @@
-// Gates and frames in their lent words: one read, one stored.
+// Gates and frames in their lent words, as the C interface lays them out: one read, one stored. A supervisor keeps
+// them in its own memory, so they are no arrays of gates and frames.
 ghost use Rattle.std.specs.Prelude.{◌≡◌, ◌*◌, ◌<◌};
 ghost use Rattle.std.proofs.lemmas.List.Edits.{sets};
 ghost use Rattle.gates.specs.Layout.{gate_said, gate_word, gate_at, gate_words, frame_at, frame_words};

@@ -35,7 +35,7 @@ const DEPTH: usize = 32;
 const CURRENT: usize = 33;
 
 // What a gate does: it switches to a destination domain, or it returns.
-#[derive(Clone, Copy)]
+#[derive(Clone, Copy, Debug, PartialEq, Eq)]
 pub enum Gate {
     Switch(u32),
     Return,

@@ -1,5 +1,5 @@
 // The gates held: which one stands at a place, what setting and removing refuse, and the stores that they make.
-ghost use Rattle.std.specs.Prelude.{◌≡◌, ◌<◌, ◌≤◌, MatchOption, OnOk};
+ghost use Rattle.std.specs.Prelude.{◌≡◌, ◌<◌, ◌≤◌, IfSome, OnOk};
 ghost use Rattle.gates.specs.Gates.{stands_at, place_of, gate_of, leads_below, leads_to, place_refusal};
 ghost use Rattle.gates.specs.Gates.{stored, without};
 ghost use Rattle.gates.specs.Layout.{gates_of, gates_words};
@@ -21,7 +21,7 @@ pub(crate) fn leads_below(gate: Gate, domains: u32) -> bool
 pub(crate) fn leads_to(gate: Gate, domain: u32) -> bool
     ensures { result ≡ leads_to domain gate }
 {
-    matches!(gate, Gate::Switch(to) if to == domain)
+    gate == Gate::Switch(domain)
 }
 
 // What setting and removing refuse alike.
@@ -60,9 +60,8 @@ fn stands_at(g: GateAt, domain: u32, address: ByteAddr) -> bool
 // The place of the first gate that stands there, if one does. The earlier of two counts because the search goes up.
 pub(crate) fn place_of(gates: &[u32; GATES_WORDS], domain: u32, address: ByteAddr) -> Option<usize>
     requires { (gates_of gates.now).count ≤ 64 }
-    ensures { let G = gates_of gates.now in
-        MatchOption result (G.count ≤ place_of G domain address.0)
-        (λ k. (k ≡ place_of G domain address.0) × (k < G.count)) }
+    ensures place { result ≡ place_of (gates_of gates.now) domain address.0 }
+    ensures held { IfSome result (λ k. k < (gates_of gates.now).count) }
 {
     (0..gates[COUNT] as usize).find(|i| stands_at(layout::gate_at(gates, *i), domain, address))
 }

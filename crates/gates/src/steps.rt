@@ -1,6 +1,6 @@
 // The parts of a step: what it refuses before it looks at the gate, the fetch check, and the three ways to go on.
 ghost use Rattle.std.specs.Prelude.{◌≡◌, ◌+◌, ◌<◌, ◌≤◌, set, OnOk};
-ghost use Rattle.gates.specs.Lists.{every};
+ghost use Rattle.std.specs.List.{list_all};
 ghost use Rattle.gates.specs.Gates.{held};
 ghost use Rattle.gates.specs.Steps.{in_use, frame_below, gate_below, domains_known, step_refusal, fetch_of};
 ghost use Rattle.gates.specs.Steps.{plain_step, switch_step, given_back, return_step};
@@ -23,14 +23,14 @@ fn gate_below(g: GateAt, domains: u32) -> bool
 
 fn gates_below(gates: &[u32; GATES_WORDS], domains: u32) -> bool
     requires { (gates_of gates.now).count ≤ 64 }
-    ensures { result ≡ every (gate_below domains) (held (gates_of gates.now)) }
+    ensures { result ≡ list_all (gate_below domains) (held (gates_of gates.now)) }
 {
     (0..gates[COUNT] as usize).all(|i| gate_below(layout::gate_at(gates, i), domains))
 }
 
 fn frames_below(stack: &[u32; STACK_WORDS], domains: u32) -> bool
     requires { (stack_of stack.now).depth ≤ 16 }
-    ensures { result ≡ every (frame_below domains) (in_use (stack_of stack.now)) }
+    ensures { result ≡ list_all (frame_below domains) (in_use (stack_of stack.now)) }
 {
     (0..stack[DEPTH] as usize).all(|i| layout::frame_at(stack, i).domain < domains)
 }
@@ -143,7 +143,6 @@ pub(crate) fn switch_step(
 }
 
 // The top frame is popped where its return address is the target, and its domain becomes current.
-#[tactic(auto, unfolding(crate::specs::Steps::given_back))]
 fn give_back(stack: &mut [u32; STACK_WORDS], target: ByteAddr) -> Result<Stepped, Refusal>
     requires { (stack_of stack.old).depth ≤ 16 }
     ensures { SteppedAs (given_back (stack_of stack.old) target) result stack.new }

@@ -8,13 +8,13 @@ use native.Mathlib.Decide.{ℕ_discrete}
 use native.Mathlib.Omega.{arith}
 use borrow.Author.Tests.{eq-eqb, ne_eqb}
 use lib.ListN.{length, get_or}
-use Rattle.table.specs.declared.Found.{Found}
-use Rattle.table.specs.declared.Made.TheVariants.{Refused as NotFresh}
+use Rattle.std.specs.Prelude.{Result, Err}
+use Rattle.refusals.specs.declared.Refusal.{Refusal}
+use Rattle.refusals.specs.declared.Refusal.TheVariants.{NoShape}
+use Rattle.table.specs.declared.Deciding.{Deciding}
 use Rattle.table.specs.Shape.{Fits, fits_of}
 use Rattle.table.specs.Lookup.{numbers as foundNumbers}
-use Rattle.change.specs.declared.Answer.TheVariants.{Refused}
 use Rattle.change.specs.Answers.{no_shape}
-use Rattle.listing.specs.declared.Listed.TheVariants.{Refused as NotListed}
 use Rattle.listing.specs.Listing.{no_shape as list-no-shape}
 use Rattle.lookaside.specs.Check.{refusal_of, check_of}
 use Rattle.gates.specs.Steps.{step_refusal, step_of}
@@ -50,23 +50,23 @@ module _ {p sh : List ℕ} (h : OtherForm sh) where
   pub fresh_other : {n : ℕ} {q : List ℕ} → FreshCall p sh n q → n ≡ 1
   fresh_other x =
       let e = other_unfit h (length p) in
-      (one_fresh_call x (shaped h.long (NotFresh 1) p (record { answer = rw e; pool = rw e }))).0
+      (one_fresh_call x (shaped h.long (Err NoShape) p (record { answer = rw e; pool = rw e }))).0
 
   pub lookup_other : {d a n : ℕ} {out res : List ℕ} → LookupCall p sh d a out n res → n ≡ 1
   lookup_other (length_wrong f) = absurd (f h.long)
   lookup_other (shaped l f x) =
-      rw (other_unfit h (length p)) at (ap (λ (y : Found). (foundNumbers y).refusal) x.answer)
+      rw (other_unfit h (length p)) at (ap (λ (y : Result Deciding Refusal). (foundNumbers y).refusal) x.answer)
 
   pub change_other : {d start len right allowance n : ℕ} {out q res : List ℕ}
       → ChangeCall p sh d start len right allowance out n q res → n ≡ 1
-  change_other x = (one_change_call x (shaped h.long (Refused 1) p (no_shape (not_fits h (length p))))).0
+  change_other x = (one_change_call x (shaped h.long (Err NoShape) p (no_shape (not_fits h (length p))))).0
 
   pub tidy_other : {allowance n : ℕ} {out q res : List ℕ} → TidyCall p sh allowance out n q res → n ≡ 1
-  tidy_other x = (one_tidy_call x (shaped h.long (Refused 1) p (no_shape (not_fits h (length p))))).0
+  tidy_other x = (one_tidy_call x (shaped h.long (Err NoShape) p (no_shape (not_fits h (length p))))).0
 
   pub list_other : {from n : ℕ} {runs out shown res : List ℕ} → ListCall p sh from runs out n shown res → n ≡ 1
   list_other {runs = runs} x =
-      (one_list_call x (shaped h.long (NotListed 1) runs (list-no-shape (not_fits h (length p))))).0
+      (one_list_call x (shaped h.long (Err NoShape) runs (list-no-shape (not_fits h (length p))))).0
 
 module _ (p : List ℕ) {sh : List ℕ} (h : OtherForm sh) where
   pub check_other : (ws : List ℕ) (d kind size a : ℕ) (out : List ℕ) → length ws ≡ buffer_long

@@ -1,43 +1,37 @@
 -- A refused call on a lent state leaves the state as it came, and its result words are zero. Assumes nothing.
-use Prim.Native.Nat.{ℕ, ◌<◌}
+use Prim.Native.Nat.{ℕ}
 use mathlib.Core.Path.{◌≡◌, refl, ap, ◌∙◌}
 use mathlib.Core.Logic.{◌≢◌}
 use mathlib.Core.Bool.{Bool, true, false, cond, ◌&&◌}
 use mathlib.Core.List.{List, [], ◌∷◌}
-use native.Mathlib.Decide.{ℕ_discrete}
-use native.Mathlib.Omega.{arith}
 use borrow.Author.Tests.{eqb-true}
 use lib.Dec.{eqb}
 use lib.ListN.{length}
+use Rattle.std.specs.Prelude.{Option, Some, None, Result, Ok, Err}
+use Rattle.refusals.specs.declared.Refusal.{Refusal}
 use Rattle.words.specs.declared.ByteAddr.{ByteAddr}
 use Rattle.table.specs.declared.Shape.{Shape}
-use Rattle.table.specs.declared.Found.{Found}
-use Rattle.table.specs.declared.Found.TheVariants.{By, Refused as NotFound}
+use Rattle.table.specs.declared.Deciding.{Deciding}
+use Rattle.table.specs.Fresh.{made_number}
 use Rattle.table.specs.Access.{passes_of}
 use Rattle.table.specs.Lookup.{lookup_of}
-use Rattle.lookaside.specs.declared.Buffer.{Buffer}
-use Rattle.lookaside.specs.declared.Checked.{Checked}
-use Rattle.lookaside.specs.declared.Flushed.{Flushed}
-use Rattle.lookaside.specs.declared.Hit.{Hit}
-use Rattle.lookaside.specs.declared.Hit.TheVariants.{At, Miss}
+use Rattle.lookaside.specs.declared.Slot.{Slot}
 use Rattle.lookaside.specs.declared.Verdict.{Verdict}
-use Rattle.lookaside.specs.declared.Verdict.TheVariants.{Pass, Deny, Refused}
-use Rattle.lookaside.specs.Slots.{first_match}
-use Rattle.lookaside.specs.Check.{refusal_of, walked, answered, check_of, numbers as verdictNumbers}
-use Rattle.lookaside.proofs.CheckLaws.{check_refused, check_answered}
+use Rattle.lookaside.specs.declared.Verdict.TheVariants.{Pass, Deny}
+use Rattle.lookaside.specs.Slots.{Buffer, first_match}
+use Rattle.lookaside.specs.Check.{Checked, walked, answered, check_of, numbers as verdictNumbers}
+use Rattle.lookaside.specs.Flushes.{Flushed}
+use Rattle.lookaside.proofs.CheckLaws.{check_cases}
 use Rattle.gates.specs.declared.Gate.{Gate}
-use Rattle.gates.specs.declared.Gates.{Gates}
-use Rattle.gates.specs.declared.GatesSet.{GatesSet}
-use Rattle.gates.specs.declared.Step.{Step}
 use Rattle.gates.specs.declared.Stepped.{Stepped}
-use Rattle.gates.specs.declared.Stepped.TheVariants.{Pass as StepPass, Deny as StepDeny, Refused as StepRefused}
+use Rattle.gates.specs.declared.Stepped.TheVariants.{Pass as StepPass, Deny as StepDeny}
+use Rattle.gates.specs.States.{Gates, GatesSet, Step}
 use Rattle.gates.specs.Gates.{set_of, remove_of}
 use Rattle.gates.specs.Steps.{step_of, numbers as stepNumbers}
 use Rattle.theory.proofs.Logic.{and_both}
 use Rattle.gates.proofs.SetLaws.{set_refusal_keeps, remove_refusal_keeps}
 use Rattle.gates.proofs.StepLaws.{step_moves, moves_unless_pass}
-use Rattle.rows.specs.Lent.{wrong_length}
-use Rattle.goleuthan.specs.Out.{out_with}
+use Rattle.goleuthan.specs.Out.{out_with, wrong_length}
 use Rattle.goleuthan.specs.Calls.{shape_long, shape_in}
 use Rattle.goleuthan.specs.StateCalls.{state_after, Back, back, verdict_results, checked_back, check_call}
 use Rattle.goleuthan.specs.StateCalls.{flushed_kept, flush_call, gates_kept, gates_call, step_results, stepped_back}
@@ -53,28 +47,25 @@ module _ (p : List ℕ) (s : Shape) (b : Buffer) (d kind size a : ℕ) where
   abbrev Keeps : Checked → Type 0
   Keeps c = (verdictNumbers c.verdict).refusal ≢ 0 → c.buffer ≡ b
 
-  walk_keeps : (f : Found) → Keeps (walked f b d kind a)
-  walk_keeps (By x) h = absurd (go (passes_of kind x.right) h)
+  walk_keeps : (f : Result Deciding Refusal) → Keeps (walked f b d kind a)
+  walk_keeps (Ok x) h = absurd (go (passes_of kind x.right) h)
     where
-      go : (t : Bool) → (verdictNumbers (cond t (Pass x.loads) (Deny x.loads))).refusal ≢ 0 → ⊥
+      go : (t : Bool) → (verdictNumbers (Ok (cond t (Pass x.loads) (Deny x.loads)))).refusal ≢ 0 → ⊥
       go true k = k refl
       go false k = k refl
-  walk_keeps (NotFound n) h = refl
+  walk_keeps (Err r) h = refl
 
-  answer_keeps : (t : Hit) → Keeps (answered t p s b d kind a)
-  answer_keeps (At t) h = refl
-  answer_keeps Miss h = walk_keeps (lookup_of p s d a) h
+  answer_keeps : (t : Option Slot) → Keeps (answered t p s b d kind a)
+  answer_keeps (Some t) h = refl
+  answer_keeps None h = walk_keeps (lookup_of p s d a) h
 
   check_keeps : Keeps (check_of p s b d kind size a)
-  check_keeps = elim (ℕ_discrete (refusal_of s (length p) b.next d kind size a) 0) [
-    | yes e ↦ rw (check_answered p s b d kind size a e) (answer_keeps (first_match b.slots d a))
-    | no e ↦ rw (check_refused p s b d kind size a _ refl e) (λ h. refl)
-  ]
+  check_keeps = check_cases p s b d kind size a Keeps (λ r e h. refl) (λ e. answer_keeps (first_match b.slots d a))
 
-verdict_zeros : (v : Verdict) → (verdictNumbers v).refusal ≢ 0 → verdict_results v ≡ 0 ∷ 0 ∷ []
-verdict_zeros (Pass n) h = absurd (h refl)
-verdict_zeros (Deny n) h = absurd (h refl)
-verdict_zeros (Refused n) h = refl
+verdict_zeros : (v : Result Verdict Refusal) → (verdictNumbers v).refusal ≢ 0 → verdict_results v ≡ 0 ∷ 0 ∷ []
+verdict_zeros (Ok (Pass n)) h = absurd (h refl)
+verdict_zeros (Ok (Deny n)) h = absurd (h refl)
+verdict_zeros (Err r) h = refl
 
 module _ (p sh ws : List ℕ) (d kind size a : ℕ) (out : List ℕ) where
   abbrev CheckLeaves : Back → Type 0
@@ -98,7 +89,7 @@ module _ (p sh ws : List ℕ) (d kind size a : ℕ) (out : List ℕ) where
       go false e h = (refl, refl)
 
 -- A flush that is refused keeps the buffer.
-flush_keeps : {b : Buffer} {r : Flushed} → Flushes b r → r.refusal ≢ 0 → r.buffer ≡ b
+flush_keeps : {b : Buffer} {r : Flushed} → Flushes b r → made_number r.answer ≢ 0 → r.buffer ≡ b
 flush_keeps (refuses n) h = refl
 flush_keeps (empties f) h = absurd (h refl)
 
@@ -112,8 +103,14 @@ flush_call_refused f x ws = go (eqb (length ws) buffer_long) refl
     go true e h = ap buffer_words (flush_keeps (x (buffer_of ws)) h) ∙ buffer_words_lem ws (eqb-true (length ws) buffer_long e)
     go false e h = refl
 
+-- An answer whose number is not 0 is a refusal.
+is_refusal : (r : Result (Unit {0}) Refusal) → made_number r ≢ 0 → (k : Refusal) × (r ≡ Err k)
+is_refusal (Ok _) h = absurd (h refl)
+is_refusal (Err k) h = (k, refl)
+
 -- Setting and removing, where a refusal keeps the set.
-pub gates_call_refused : (f : Gates → GatesSet) → ((G : Gates) → 0 < (f G).refusal → (f G).gates ≡ G) → (ws : List ℕ)
+pub gates_call_refused : (f : Gates → GatesSet)
+    → ((G : Gates) (k : Refusal) → (f G).answer ≡ Err k → (f G).gates ≡ G) → (ws : List ℕ)
     → (gates_call f ws).number ≢ 0
     → (gates_call f ws).state ≡ ws
 unfolding gates_call
@@ -121,7 +118,9 @@ gates_call_refused f x ws = go (eqb (length ws) gates_long) refl
   where
     go : (t : Bool) → eqb (length ws) gates_long ≡ t → let r = cond t (gates_kept (f (gates_of ws)))
         (state_after wrong_length ws) in r.number ≢ 0 → r.state ≡ ws
-    go true e h = ap gates_words (x (gates_of ws) (omega arith)) ∙ gates_words_lem ws (eqb-true (length ws) gates_long e)
+    go true e h =
+        let (k, z) = is_refusal (f (gates_of ws)).answer h in
+        ap gates_words (x (gates_of ws) k z) ∙ gates_words_lem ws (eqb-true (length ws) gates_long e)
     go false e h = refl
 
 pub set_call_refused : (D : ℕ) (ws : List ℕ) (d : ℕ) (a : ByteAddr) (x : Gate)
@@ -133,10 +132,11 @@ pub remove_call_refused : (D : ℕ) (ws : List ℕ) (d : ℕ) (a : ByteAddr) →
 remove_call_refused D ws d a = gates_call_refused (λ G. remove_of D G d a) (λ G. remove_refusal_keeps D G d a) ws
 
 -- A step.
-step_zeros : (r : Stepped) → (stepNumbers r).refusal ≢ 0 → (r ≡ StepPass → ⊥) × (step_results r ≡ 0 ∷ [])
-step_zeros StepPass h = absurd (h refl)
-step_zeros StepDeny h = absurd (h refl)
-step_zeros (StepRefused n) h = ((λ e. let z : ◌≡◌ {A = ℕ} 0 1 = cc in omega arith), refl)
+step_zeros : (r : Result Stepped Refusal) → (stepNumbers r).refusal ≢ 0
+    → (r ≡ Ok StepPass → ⊥) × (step_results r ≡ 0 ∷ [])
+step_zeros (Ok StepPass) h = absurd (h refl)
+step_zeros (Ok StepDeny) h = absurd (h refl)
+step_zeros (Err r) h = ((λ e. cc), refl)
 
 module _ (p sh gs ws : List ℕ) (a t : ℕ) (out : List ℕ) where
   abbrev StepLeaves : Back → Type 0

@@ -2,17 +2,18 @@
 use Prim.Native.Nat.{ℕ}
 use mathlib.Core.Path.{◌≡◌, refl, sym, ap, ◌∙◌}
 use mathlib.Core.List.{List}
-use Rattle.table.specs.declared.Found.{Found}
+use Rattle.std.specs.Prelude.{Result}
+use Rattle.refusals.specs.declared.Refusal.{Refusal}
+use Rattle.table.specs.declared.Deciding.{Deciding}
 use Rattle.table.specs.Fresh.{made_number}
 use Rattle.table.specs.Lookup.{numbers as foundNumbers}
 use Rattle.table.proofs.FreshLaws.{one_fresh}
 use Rattle.table.proofs.LookupLaws.{one_lookup}
-use Rattle.change.specs.declared.Answer.{Answer}
+use Rattle.change.specs.declared.Ending.{Ending}
 use Rattle.change.proofs.ChangesLaws.{one_change}
 use Rattle.change.proofs.TidiesLaws.{one_tidy}
-use Rattle.owners.specs.Calls.{Outcome, outcome}
+use Rattle.owners.specs.Calls.{Numbers, told}
 use Rattle.owners.proofs.ByLaws.{one_change_by}
-use Rattle.listing.specs.declared.Listed.{Listed}
 use Rattle.listing.specs.Listing.{numbers as listedNumbers}
 use Rattle.listing.proofs.ListingLaws.{one_listing}
 use Rattle.goleuthan.specs.Out.{out_with}
@@ -21,9 +22,9 @@ use Rattle.goleuthan.specs.Calls.{LookupCall, ChangeCall, ChangeByCall, TidyCall
 use Rattle.goleuthan.specs.StateCalls.{Back, StateAfter, back, state_after}
 
 -- One answer and one pool are one number, one pool and one result.
-answered : {a b : Answer} {q r : List ℕ} (out : List ℕ) → (a ≡ b) × (q ≡ r)
+answered : {a b : Result Ending Refusal} {q r : List ℕ} (out : List ℕ) → (a ≡ b) × (q ≡ r)
     → (answer_number a ≡ answer_number b) × (q ≡ r) × (out_with (answer_results a) out ≡ out_with (answer_results b) out)
-answered out e = (ap answer_number e.0, e.1, ap (λ (a : Answer). out_with (answer_results a) out) e.0)
+answered out e = (ap answer_number e.0, e.1, ap (λ (a : Result Ending Refusal). out_with (answer_results a) out) e.0)
 
 module _ {p sh : List ℕ} where
   pub one_fresh_call : {m n : ℕ} {q r : List ℕ} → FreshCall p sh m q → FreshCall p sh n r → (m ≡ n) × (q ≡ r)
@@ -40,8 +41,8 @@ module _ {p sh : List ℕ} where
   one_lookup_call (shaped h k x) (length_wrong f) = absurd (f h)
   one_lookup_call {out = out} (shaped h k x) (shaped i l y) =
       let e = one_lookup x y in (
-        ap (λ (f : Found). (foundNumbers f).refusal) e,
-        ap (λ (f : Found). out_with (found_results f) out) e,
+        ap (λ (f : Result Deciding Refusal). (foundNumbers f).refusal) e,
+        ap (λ (f : Result Deciding Refusal). out_with (found_results f) out) e,
       )
 
   pub one_change_call : {d start len right allowance m n : ℕ} {out q r t u : List ℕ}
@@ -76,9 +77,9 @@ module _ {p sh : List ℕ} where
   one_list_call (shaped h k q x) (length_wrong f) = absurd (f h)
   one_list_call {from = from} {runs = runs} {out = out} (shaped h k q x) (shaped i l r y) =
       let e = one_listing p (shape_in sh) from runs x y in (
-        ap (λ (l : Listed). (listedNumbers l).refusal) e.0,
+        ap (λ (l : Result ℕ Refusal). (listedNumbers l).refusal) e.0,
         e.1,
-        ap (λ (l : Listed). out_with (listed_results l) out) e.0,
+        ap (λ (l : Result ℕ Refusal). out_with (listed_results l) out) e.0,
       )
 
 -- A check or a step, of which the contract says what comes back whole.
@@ -90,5 +91,5 @@ pub one_kept : {c : StateAfter} {m n : ℕ} {q r : List ℕ} → state_after m q
 one_kept x y = let e = x ∙ sym y in (ap (λ b. b.number) e, ap (λ b. b.state) e)
 
 -- A call on a list of owned regions.
-pub one_outcome : {c : Outcome} {m n : ℕ} {q r : List ℕ} → outcome m q ≡ c → outcome n r ≡ c → (m ≡ n) × (q ≡ r)
+pub one_outcome : {c : Numbers} {m n : ℕ} {q r : List ℕ} → told m q ≡ c → told n r ≡ c → (m ≡ n) × (q ≡ r)
 one_outcome x y = let e = x ∙ sym y in (ap (λ b. b.refusal) e, ap (λ b. b.list) e)

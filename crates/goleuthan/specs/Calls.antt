@@ -1,19 +1,17 @@
 -- What each call on a pool gives back. Where the lent shape is not five words long: 101 before all else, with nothing
 -- touched and zeros in the result words. Else the library's promise holds of some answer on the shape that the words
 -- say, and the number and the result words are that answer's.
-use Rattle.std.specs.Prelude.{ℕ, ◌≡◌, cond, ◌&&◌, List, [], ◌∷◌, eqb, length, get_or}
+use Rattle.std.specs.Prelude.{ℕ, ◌≡◌, cond, ◌&&◌, Result, List, [], ◌∷◌, eqb, length, get_or}
+use Rattle.refusals.specs.declared.Refusal.{Refusal}
 use Rattle.table.specs.declared.Shape.{Shape}
-use Rattle.table.specs.declared.Made.{Made}
-use Rattle.table.specs.declared.Found.{Found}
+use Rattle.table.specs.declared.Deciding.{Deciding}
 use Rattle.table.specs.Fresh.{MakesFresh, made_number}
 use Rattle.table.specs.Lookup.{LooksUp, numbers as foundNumbers}
-use Rattle.change.specs.declared.Answer.{Answer}
+use Rattle.change.specs.declared.Ending.{Ending}
 use Rattle.change.specs.Answers.{Changes, Tidies, numbers as answerNumbers}
-use Rattle.listing.specs.declared.Listed.{Listed}
 use Rattle.listing.specs.Listing.{Lists, numbers as listedNumbers}
 use Rattle.owners.specs.Changes.{ChangesBy}
-use Rattle.rows.specs.Lent.{wrong_length}
-use Rattle.goleuthan.specs.Out.{out_with, was_cut, in_one_word}
+use Rattle.goleuthan.specs.Out.{out_with, wrong_length, was_cut, in_one_word}
 
 -- The words of a lent shape: form, D, M, L, V.
 abbrev pub shape_long : ℕ
@@ -36,19 +34,19 @@ shape_in sh = record {
 }
 
 -- The number of a change or a tidying: 0 done, 100 cut, else the paper's.
-abbrev pub answer_number : Answer → ℕ
+abbrev pub answer_number : Result Ending Refusal → ℕ
 answer_number a = cond (eqb (answerNumbers a).cuts 1) was_cut (answerNumbers a).refusal
 
 -- The result words of a lookup: right, entry, loads, first byte, last byte.
-abbrev pub found_results : Found → List ℕ
+abbrev pub found_results : Result Deciding Refusal → List ℕ
 found_results f = let n = foundNumbers f in n.right ∷ n.entry ∷ n.loads ∷ n.first ∷ n.last ∷ []
 
 -- The result word of a change or a tidying: the stores made, 0 for a cut.
-abbrev pub answer_results : Answer → List ℕ
+abbrev pub answer_results : Result Ending Refusal → List ℕ
 answer_results a = (answerNumbers a).stores ∷ []
 
 -- The result word of a listing: how many runs there are.
-abbrev pub listed_results : Listed → List ℕ
+abbrev pub listed_results : Result ℕ Refusal → List ℕ
 listed_results r = in_one_word (listedNumbers r).count ∷ []
 
 -- A lent shape is not of its length.
@@ -58,19 +56,20 @@ NotLong sh = length sh ≡ shape_long → ⊥
 -- gol_fresh on the pool `p` with the lent shape `sh`: the number that it returns, and the pool that it leaves.
 pub data FreshCall (p sh : List ℕ) : ℕ → List ℕ → Type 0 where
   length_wrong : NotLong sh → FreshCall p sh wrong_length p
-  shaped : length sh ≡ shape_long → (made : Made) (q : List ℕ) → MakesFresh (shape_in sh) p made q
+  shaped : length sh ≡ shape_long → (made : Result (Unit {0}) Refusal) (q : List ℕ) → MakesFresh (shape_in sh) p made q
       → FreshCall p sh (made_number made) q
 
 -- gol_lookup with the lent words `out`: the number, and what it leaves in them.
 pub data LookupCall (p sh : List ℕ) (d a : ℕ) (out : List ℕ) : ℕ → List ℕ → Type 0 where
   length_wrong : NotLong sh → LookupCall p sh d a out wrong_length (out_with (0 ∷ 0 ∷ 0 ∷ 0 ∷ 0 ∷ []) out)
-  shaped : length sh ≡ shape_long → (f : Found) → LooksUp p (shape_in sh) d a f
+  shaped : length sh ≡ shape_long → (f : Result Deciding Refusal) → LooksUp p (shape_in sh) d a f
       → LookupCall p sh d a out (foundNumbers f).refusal (out_with (found_results f) out)
 
 -- gol_change: the number, the pool that it leaves, and the words of `out`.
 pub data ChangeCall (p sh : List ℕ) (d start len r allowance : ℕ) (out : List ℕ) : ℕ → List ℕ → List ℕ → Type 0 where
   length_wrong : NotLong sh → ChangeCall p sh d start len r allowance out wrong_length p (out_with (0 ∷ []) out)
-  shaped : length sh ≡ shape_long → (a : Answer) (q : List ℕ) → Changes p (shape_in sh) d start len r allowance a q
+  shaped : length sh ≡ shape_long → (a : Result Ending Refusal) (q : List ℕ)
+      → Changes p (shape_in sh) d start len r allowance a q
       → ChangeCall p sh d start len r allowance out (answer_number a) q (out_with (answer_results a) out)
 
 -- gol_change_by: the same, by a caller, beside the words of a list of owned regions, of any length.
@@ -78,18 +77,18 @@ pub data ChangeByCall (p sh list : List ℕ) (caller d start len r allowance : �
     : ℕ → List ℕ → List ℕ → Type 0 where
   length_wrong : NotLong sh → ChangeByCall p sh list caller d start len r allowance out wrong_length p
       (out_with (0 ∷ []) out)
-  shaped : length sh ≡ shape_long → (a : Answer) (q : List ℕ)
+  shaped : length sh ≡ shape_long → (a : Result Ending Refusal) (q : List ℕ)
       → ChangesBy p (shape_in sh) list caller d start len r allowance a q
       → ChangeByCall p sh list caller d start len r allowance out (answer_number a) q (out_with (answer_results a) out)
 
 -- gol_tidy: the same.
 pub data TidyCall (p sh : List ℕ) (allowance : ℕ) (out : List ℕ) : ℕ → List ℕ → List ℕ → Type 0 where
   length_wrong : NotLong sh → TidyCall p sh allowance out wrong_length p (out_with (0 ∷ []) out)
-  shaped : length sh ≡ shape_long → (a : Answer) (q : List ℕ) → Tidies p (shape_in sh) allowance a q
+  shaped : length sh ≡ shape_long → (a : Result Ending Refusal) (q : List ℕ) → Tidies p (shape_in sh) allowance a q
       → TidyCall p sh allowance out (answer_number a) q (out_with (answer_results a) out)
 
 -- gol_list with the lent words `runs` and `out`: the number, and what it leaves in the two.
 pub data ListCall (p sh : List ℕ) (from : ℕ) (runs out : List ℕ) : ℕ → List ℕ → List ℕ → Type 0 where
   length_wrong : NotLong sh → ListCall p sh from runs out wrong_length runs (out_with (0 ∷ []) out)
-  shaped : length sh ≡ shape_long → (l : Listed) (shown : List ℕ) → Lists p (shape_in sh) from runs l shown
+  shaped : length sh ≡ shape_long → (l : Result ℕ Refusal) (shown : List ℕ) → Lists p (shape_in sh) from runs l shown
       → ListCall p sh from runs out (listedNumbers l).refusal shown (out_with (listed_results l) out)

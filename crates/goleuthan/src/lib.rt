@@ -2,8 +2,9 @@
 // words. Results go into the lent words `out`, as many as fit; include/goleuthan.h says what a caller owes and gets.
 #![tactic(auto)]
 
+mod calls; // calls.rt: each call with its answer or its refusal
 mod regions; // regions.rt: the calls on owned regions, and the change by a caller
-mod results; // results.rt: the result words of an answer
+mod results; // results.rt: the number of an answer, and its result words
 mod shapes; // shapes.rt: the lent shape
 
 ghost use Rattle.std.specs.Prelude.{◌≡◌};
@@ -13,18 +14,14 @@ ghost use Rattle.goleuthan.specs.StateCalls.{step_call};
 ghost use Rattle.goleuthan.specs.Calls.{FreshCall, LookupCall, ChangeCall, TidyCall, ListCall};
 
 use gates::Gate;
+use words::ByteAddr;
 
 // Makes a pool fresh.
 #[unsafe(no_mangle)]
 pub extern "C" fn gol_fresh(pool: &mut [u32], shape: &[u32]) -> u32
     ensures { FreshCall pool.old shape.now result pool.new }
 {
-    if shape.len() != shapes::SHAPE_WORDS {
-        return rows::WRONG_LENGTH;
-    }
-    let by = shapes::read_shape(shape);
-    let made = table::fresh(pool, by);
-    results::made_number(made)
+    results::number(calls::fresh(pool, shape))
 }
 
 // The right of an address, the deciding entry, the loads made, and the first and the last byte that the right reaches
@@ -40,14 +37,8 @@ pub extern "C" fn gol_lookup(
     ensures { LookupCall pool.now shape.now domain address out.old result
         out.new }
 {
-    if shape.len() != shapes::SHAPE_WORDS {
-        results::five(out, 0, 0, 0, 0, 0);
-        return rows::WRONG_LENGTH;
-    }
-    let by = shapes::read_shape(shape);
-    let at = words::byte_addr(address);
-    let found = table::lookup(pool, by, domain, at);
-    results::give_found(found, out)
+    let address = ByteAddr::from(address);
+    results::give(calls::look_up(pool, shape, domain, address), out)
 }
 
 // A change of rights.
@@ -65,14 +56,9 @@ pub extern "C" fn gol_change(
     ensures { ChangeCall pool.old shape.now domain start length right allowance
         out.old result pool.new out.new }
 {
-    if shape.len() != shapes::SHAPE_WORDS {
-        results::one(out, 0);
-        return rows::WRONG_LENGTH;
-    }
-    let by = shapes::read_shape(shape);
-    let first = words::byte_addr(start);
-    let answer = change::change(pool, by, domain, first, length, right, allowance);
-    results::give_answer(answer, out)
+    let start = ByteAddr::from(start);
+    let answer = calls::change(pool, shape, domain, start, length, right, allowance);
+    results::give_ending(answer, out)
 }
 
 // A tidying.
@@ -81,13 +67,7 @@ pub extern "C" fn gol_tidy(pool: &mut [u32], shape: &[u32], allowance: u32, out:
     ensures { TidyCall pool.old shape.now allowance out.old result pool.new
         out.new }
 {
-    if shape.len() != shapes::SHAPE_WORDS {
-        results::one(out, 0);
-        return rows::WRONG_LENGTH;
-    }
-    let by = shapes::read_shape(shape);
-    let answer = change::tidy(pool, by, allowance);
-    results::give_answer(answer, out)
+    results::give_ending(calls::tidy(pool, shape, allowance), out)
 }
 
 // The runs of a pool from number `from` on, four words each, as many as fit into `runs`.
@@ -102,13 +82,7 @@ pub extern "C" fn gol_list(
     ensures { ListCall pool.now shape.now from runs.old out.old result
         runs.new out.new }
 {
-    if shape.len() != shapes::SHAPE_WORDS {
-        results::one(out, 0);
-        return rows::WRONG_LENGTH;
-    }
-    let by = shapes::read_shape(shape);
-    let listed = listing::list_runs(pool, by, from, runs);
-    results::give_listed(listed, out)
+    results::give(calls::list(pool, shape, from, runs), out)
 }
 
 // The check of an access, through a lookaside buffer. A hit writes nothing to the buffer, and a miss one slot and the
@@ -127,18 +101,9 @@ pub extern "C" fn gol_check(
     ensures { back result buffer.new out.new ≡ check_call pool.now shape.now
         buffer.old domain kind size address out.old }
 {
-    if shape.len() != shapes::SHAPE_WORDS {
-        results::two(out, 0, 0);
-        return rows::WRONG_LENGTH;
-    }
-    if buffer.len() != lookaside::BUFFER_WORDS {
-        results::two(out, 0, 0);
-        return rows::WRONG_LENGTH;
-    }
-    let by = shapes::read_shape(shape);
-    let at = words::byte_addr(address);
-    let verdict = lookaside::check(pool, by, buffer, domain, kind, size, at);
-    results::give_verdict(verdict, out)
+    let address = ByteAddr::from(address);
+    let answer = calls::check(pool, shape, buffer, domain, kind, size, address);
+    results::give(answer, out)
 }
 
 // Empties every slot of a buffer.
@@ -146,10 +111,7 @@ pub extern "C" fn gol_check(
 pub extern "C" fn gol_flush_all(buffer: &mut [u32]) -> u32
     ensures { state_after result buffer.new ≡ flush_all_call buffer.old }
 {
-    if buffer.len() != lookaside::BUFFER_WORDS {
-        return rows::WRONG_LENGTH;
-    }
-    lookaside::flush_all(buffer)
+    results::number(calls::flush_all(buffer))
 }
 
 // Empties the slots of a domain.
@@ -157,10 +119,7 @@ pub extern "C" fn gol_flush_all(buffer: &mut [u32]) -> u32
 pub extern "C" fn gol_flush_domain(buffer: &mut [u32], domain: u32) -> u32
     ensures { state_after result buffer.new ≡ flush_domain_call buffer.old domain }
 {
-    if buffer.len() != lookaside::BUFFER_WORDS {
-        return rows::WRONG_LENGTH;
-    }
-    lookaside::flush_domain(buffer, domain)
+    results::number(calls::flush_domain(buffer, domain))
 }
 
 // Empties the slots of a domain whose block meets a region.
@@ -168,11 +127,8 @@ pub extern "C" fn gol_flush_domain(buffer: &mut [u32], domain: u32) -> u32
 pub extern "C" fn gol_flush_region(buffer: &mut [u32], domain: u32, start: u32, length: u32) -> u32
     ensures { state_after result buffer.new ≡ flush_region_call buffer.old domain start length }
 {
-    if buffer.len() != lookaside::BUFFER_WORDS {
-        return rows::WRONG_LENGTH;
-    }
-    let first = words::byte_addr(start);
-    lookaside::flush_region(buffer, domain, first, length)
+    let start = ByteAddr::from(start);
+    results::number(calls::flush_region(buffer, domain, start, length))
 }
 
 // Sets a switch gate.
@@ -187,12 +143,9 @@ pub extern "C" fn gol_set_switch_gate(
     ensures { state_after result gates.new ≡ set_switch_call d gates.old domain address
         destination }
 {
-    if gates.len() != gates::GATES_WORDS {
-        return rows::WRONG_LENGTH;
-    }
-    let at = words::byte_addr(address);
     let gate = Gate::Switch(destination);
-    gates::set_gate(d, gates, domain, at, gate)
+    let address = ByteAddr::from(address);
+    results::number(calls::set_gate(d, gates, domain, address, gate))
 }
 
 // Sets a return gate.
@@ -200,12 +153,8 @@ pub extern "C" fn gol_set_switch_gate(
 pub extern "C" fn gol_set_return_gate(d: u32, gates: &mut [u32], domain: u32, address: u32) -> u32
     ensures { state_after result gates.new ≡ set_return_call d gates.old domain address }
 {
-    if gates.len() != gates::GATES_WORDS {
-        return rows::WRONG_LENGTH;
-    }
-    let at = words::byte_addr(address);
-    let gate = Gate::Return;
-    gates::set_gate(d, gates, domain, at, gate)
+    let address = ByteAddr::from(address);
+    results::number(calls::set_gate(d, gates, domain, address, Gate::Return))
 }
 
 // Removes a gate.
@@ -213,11 +162,8 @@ pub extern "C" fn gol_set_return_gate(d: u32, gates: &mut [u32], domain: u32, ad
 pub extern "C" fn gol_remove_gate(d: u32, gates: &mut [u32], domain: u32, address: u32) -> u32
     ensures { state_after result gates.new ≡ remove_call d gates.old domain address }
 {
-    if gates.len() != gates::GATES_WORDS {
-        return rows::WRONG_LENGTH;
-    }
-    let at = words::byte_addr(address);
-    gates::remove_gate(d, gates, domain, at)
+    let address = ByteAddr::from(address);
+    results::number(calls::remove_gate(d, gates, domain, address))
 }
 
 // One fetch step, by the gates and the call stack.
@@ -234,21 +180,7 @@ pub extern "C" fn gol_step(
     ensures { back result stack.new out.new ≡ step_call pool.now shape.now
         gates.now stack.old address target out.old }
 {
-    if shape.len() != shapes::SHAPE_WORDS {
-        results::one(out, 0);
-        return rows::WRONG_LENGTH;
-    }
-    if gates.len() != gates::GATES_WORDS {
-        results::one(out, 0);
-        return rows::WRONG_LENGTH;
-    }
-    if stack.len() != gates::STACK_WORDS {
-        results::one(out, 0);
-        return rows::WRONG_LENGTH;
-    }
-    let by = shapes::read_shape(shape);
-    let at = words::byte_addr(address);
-    let to = words::byte_addr(target);
-    let answer = gates::fetch_step(pool, by, gates, stack, at, to);
-    results::give_step(answer, out)
+    let address = ByteAddr::from(address);
+    let target = ByteAddr::from(target);
+    results::give(calls::step(pool, shape, gates, stack, address, target), out)
 }

@@ -1,9 +1,10 @@
 // The calls on a list of owned regions, and the change by a caller whom the list allows.
 ghost use Rattle.std.specs.Prelude.{◌≡◌};
-ghost use Rattle.owners.specs.Calls.{outcome, make_of, pass_of, give_of};
+ghost use Rattle.owners.specs.Calls.{told, numbers, make_of, pass_of, give_of};
 ghost use Rattle.goleuthan.specs.Calls.{ChangeByCall};
 
-use crate::{results, shapes};
+use crate::{calls, results};
+use words::ByteAddr;
 
 // Makes a region of words that lie in none.
 #[unsafe(no_mangle)]
@@ -15,10 +16,10 @@ pub extern "C" fn gol_make_region(
     start: u32,
     length: u32,
 ) -> u32
-    ensures { outcome result regions.new ≡ make_of d regions.old caller owner start length }
+    ensures { told result regions.new ≡ numbers (make_of d regions.old caller owner start length) }
 {
-    let first = words::byte_addr(start);
-    owners::make_region(d, regions, caller, owner, first, length)
+    let start = ByteAddr::from(start);
+    results::number(owners::make_region(d, regions, caller, owner, start, length))
 }
 
 // Passes a region on.
@@ -31,10 +32,10 @@ pub extern "C" fn gol_pass_region(
     start: u32,
     length: u32,
 ) -> u32
-    ensures { outcome result regions.new ≡ pass_of d regions.old caller owner start length }
+    ensures { told result regions.new ≡ numbers (pass_of d regions.old caller owner start length) }
 {
-    let first = words::byte_addr(start);
-    owners::pass_region(d, regions, caller, owner, first, length)
+    let start = ByteAddr::from(start);
+    results::number(owners::pass_region(d, regions, caller, owner, start, length))
 }
 
 // Gives a domain an export on a region.
@@ -48,11 +49,11 @@ pub extern "C" fn gol_give_export(
     start: u32,
     length: u32,
 ) -> u32
-    ensures { outcome result regions.new ≡ give_of d regions.old caller receiver right start
-        length }
+    ensures { told result regions.new ≡ numbers (give_of d regions.old caller receiver right start
+        length) }
 {
-    let first = words::byte_addr(start);
-    owners::give_export(d, regions, caller, receiver, right, first, length)
+    let start = ByteAddr::from(start);
+    results::number(owners::give_export(d, regions, caller, receiver, right, start, length))
 }
 
 // A change of rights by a caller.
@@ -72,14 +73,9 @@ pub extern "C" fn gol_change_by(
     ensures { ChangeByCall pool.old shape.now regions.now caller domain start
         length right allowance out.old result pool.new out.new }
 {
-    if shape.len() != shapes::SHAPE_WORDS {
-        results::one(out, 0);
-        return rows::WRONG_LENGTH;
-    }
-    let by = shapes::read_shape(shape);
-    let first = words::byte_addr(start);
-    let answer = owners::change_by(
-        pool, by, regions, caller, domain, first, length, right, allowance,
+    let start = ByteAddr::from(start);
+    let answer = calls::change_by(
+        pool, shape, regions, caller, domain, start, length, right, allowance,
     );
-    results::give_answer(answer, out)
+    results::give_ending(answer, out)
 }

@@ -45,7 +45,7 @@ pub fn find(ws: &[u32; BUFFER_WORDS], domain: u32, address: ByteAddr) -> Option<
     let middle = slots::block_of(2, address);
     let leaf = slots::block_of(3, address);
     (0..SLOTS as usize).map(|i| slot_at(ws, 4 * i)).find(|s| {
-        one_of(s.block, root, middle, leaf) && slots::slot_matches(*s, domain, address)
+        one_of(s.block, root, middle, leaf) && s.matches(domain, address)
     })
 }
 

@@ -42,8 +42,8 @@ pub enum Verdict {
     Deny(u32),
 }
 
-// Whether there are accesses of this kind and size. Both stay numbers: they come from outside, `check` answers for any, and
-// `table::passes` takes the kind as it came.
+// Whether there are accesses of this kind and size. Both stay numbers: they come from outside, `check` answers for any,
+// and `table::passes` takes the kind as it came.
 fn is_access(kind: u32, size: u32) -> bool
     ensures { result ≡ is_access kind size }
 {
@@ -68,7 +68,7 @@ fn past_size(a: u32, size: u32) -> u32
 }
 
 // Whether the pointer is a slot's.
-fn pointed(next: u32) -> Result<(), Refusal>
+fn pointer_refusal(next: u32) -> Result<(), Refusal>
     ensures { result ≡ demand (ltb next SLOTS) Refusal.BadState (Ok tt) }
 {
     if next >= SLOTS {
@@ -79,7 +79,7 @@ fn pointed(next: u32) -> Result<(), Refusal>
 
 // The refusal of a check before it asks the buffer. The size is a divisor only once it is known to be a size.
 #[tactic(auto, using(crate::proofs::CheckLaws::access_some), unfolding(crate::specs::Check::refusal_of))]
-fn refusal(
+fn check_refusal(
     shape: Shape,
     long: usize,
     next: u32,
@@ -93,7 +93,7 @@ fn refusal(
     if !table::shape_fits(shape, long) {
         return Err(Refusal::NoShape);
     }
-    pointed(next)?;
+    pointer_refusal(next)?;
     if domain >= shape.domains {
         return Err(Refusal::NoDomain);
     }
@@ -133,9 +133,9 @@ pub fn check(
     ensures { CheckedAs (check_of pool.now shape (buffer_of buffer.old) domain kind size
         address.0) result buffer.new }
 {
-    refusal(shape, pool.len(), buffer[NEXT], domain, kind, size, address)?;
+    check_refusal(shape, pool.len(), buffer[NEXT], domain, kind, size, address)?;
     if let Some(slot) = layout::find(buffer, domain, address) {
-        return Ok(judge(kind, slots::slot_right(slot, address), 0));
+        return Ok(judge(kind, slot.right_at(address), 0));
     }
     let by = table::decide(pool, shape, domain, address)?;
     let slot = Slot {
@@ -158,7 +158,7 @@ where
     for i in 0..SLOTS as usize {
         let s = layout::slot_at(ws, 4 * i);
         if empties(s) {
-            layout::put_slot(ws, 4 * i, slots::empty_slot());
+            layout::put_slot(ws, 4 * i, Slot::empty());
         }
     }
 }
@@ -175,7 +175,7 @@ pub fn emptied(buffer: &mut [u32; BUFFER_WORDS])
 pub fn flush_all(buffer: &mut [u32; BUFFER_WORDS]) -> Result<(), Refusal>
     ensures { FlushedAs (flushed_whole (buffer_of buffer.old)) result buffer.new }
 {
-    pointed(buffer[NEXT])?;
+    pointer_refusal(buffer[NEXT])?;
     flush(buffer, |_| true);
     Ok(())
 }
@@ -185,8 +185,8 @@ pub fn flush_all(buffer: &mut [u32; BUFFER_WORDS]) -> Result<(), Refusal>
 pub fn flush_domain(buffer: &mut [u32; BUFFER_WORDS], domain: u32) -> Result<(), Refusal>
     ensures { FlushedAs (flushed_domain (buffer_of buffer.old) domain) result buffer.new }
 {
-    pointed(buffer[NEXT])?;
-    flush(buffer, |s| slots::slot_of(s, domain));
+    pointer_refusal(buffer[NEXT])?;
+    flush(buffer, |s| s.holds_for(domain));
     Ok(())
 }
 
@@ -201,10 +201,8 @@ pub fn flush_region(
     ensures { FlushedAs (flushed_region (buffer_of buffer.old) domain start.0 length) result
         buffer.new }
 {
-    pointed(buffer[NEXT])?;
+    pointer_refusal(buffer[NEXT])?;
     let region = words::round_region(start, length)?;
-    flush(buffer, |s| {
-        slots::slot_of(s, domain) && slots::block_meets(s, region)
-    });
+    flush(buffer, |s| { s.holds_for(domain) && s.meets(region) });
     Ok(())
 }

@@ -33,14 +33,6 @@ pub fn is_level(level: u32) -> bool
     matches!(level, 1..=3)
 }
 
-// Whether the slot holds anything, for this domain. A block is aligned where it is the block of its own first byte.
-#[tactic(auto, using(crate::proofs::SlotLaws::holds_test))]
-pub fn slot_of(s: Slot, domain: u32) -> bool
-    ensures { result ≡ holds_for s domain }
-{
-    s.domain == domain && is_level(s.level) && block_of(s.level, s.block) == s.block
-}
-
 // Whether an entry is good rights for a level; in a leaf every value is.
 pub fn good_entry(level: u32, entry: u32) -> bool
     ensures { result ≡ good_entry level entry }
@@ -48,44 +40,56 @@ pub fn good_entry(level: u32, entry: u32) -> bool
     level == 3 || words::good_rights(entry)
 }
 
-// Whether the slot answers for an address. One comparison says that the block is aligned and that the address lies in
-// it.
-#[tactic(auto, using(crate::proofs::SlotLaws::match_test))]
-pub fn slot_matches(s: Slot, domain: u32, address: ByteAddr) -> bool
-    ensures { result ≡ matches s domain address.0 }
-{
-    s.domain == domain
-        && is_level(s.level)
-        && block_of(s.level, address) == s.block
-        && good_entry(s.level, s.entry)
-}
-
-// The right that the entry of a slot that matches gives to an address.
-pub fn slot_right(s: Slot, address: ByteAddr) -> u32
-    requires { is_level s.level ≡ true }
-    ensures { result ≡ slot_right s address.0 }
-{
-    words::right_at(s.entry, table::part_in(3 - s.level, address))
-}
-
-// An emptied slot: zero in every field.
-pub fn empty_slot() -> Slot
-    ensures { result ≡ empty_slot }
-{
-    Slot {
-        domain: 0,
-        level: 0,
-        block: ByteAddr::from(0),
-        entry: 0,
+impl Slot {
+    // An emptied slot: zero in every field.
+    pub(crate) fn empty() -> Slot
+        ensures { result ≡ empty_slot }
+    {
+        Slot {
+            domain: 0,
+            level: 0,
+            block: ByteAddr::from(0),
+            entry: 0,
+        }
     }
-}
 
-// Whether the slot's block and a region share a byte. An end may be 2^32, which 32 bits do not hold.
-#[tactic(auto, unfolding(crate::specs::Flushes::meets))]
-pub fn block_meets(s: Slot, region: Region) -> bool
-    ensures { result ≡ meets s region }
-{
-    let first = u64::from(u32::from(s.block));
-    let size = u64::from(block_bytes(s.level));
-    first < 4 * u64::from(region.hi) && 4 * u64::from(region.lo) < first + size
+    // Whether the slot holds anything, for this domain. A block is aligned where it is the block of its own first byte.
+    #[tactic(auto, using(crate::proofs::SlotLaws::holds_test))]
+    pub(crate) fn holds_for(self, domain: u32) -> bool
+        ensures { result ≡ holds_for self domain }
+    {
+        self.domain == domain
+            && is_level(self.level)
+            && block_of(self.level, self.block) == self.block
+    }
+
+    // Whether the slot answers for an address. One comparison says that the block is aligned and that the address lies
+    // in it.
+    #[tactic(auto, using(crate::proofs::SlotLaws::match_test))]
+    pub(crate) fn matches(self, domain: u32, address: ByteAddr) -> bool
+        ensures { result ≡ matches self domain address.0 }
+    {
+        self.domain == domain
+            && is_level(self.level)
+            && block_of(self.level, address) == self.block
+            && good_entry(self.level, self.entry)
+    }
+
+    // The right that the entry of a slot that matches gives to an address.
+    pub(crate) fn right_at(self, address: ByteAddr) -> u32
+        requires { is_level self.level ≡ true }
+        ensures { result ≡ slot_right self address.0 }
+    {
+        words::right_at(self.entry, table::part_in(3 - self.level, address))
+    }
+
+    // Whether the slot's block and a region share a byte. An end may be 2^32, which 32 bits do not hold.
+    #[tactic(auto, unfolding(crate::specs::Flushes::meets))]
+    pub(crate) fn meets(self, region: Region) -> bool
+        ensures { result ≡ meets self region }
+    {
+        let first = u64::from(u32::from(self.block));
+        let size = u64::from(block_bytes(self.level));
+        first < 4 * u64::from(region.hi) && 4 * u64::from(region.lo) < first + size
+    }
 }

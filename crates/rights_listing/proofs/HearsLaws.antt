@@ -1,5 +1,5 @@
 -- An input in chunks is heard as its lines, whatever the chunks.
-use Prim.Native.Nat.{ℕ, ◌+◌, ◌-◌, ◌<◌}
+use Prim.Native.Nat.{ℕ, ◌+◌, ◌<◌}
 use native.Mathlib.Omega.{arith}
 use mathlib.Core.Path.{◌≡◌, refl, ◌∙◌}
 use mathlib.Core.List.{List, [], ◌∷◌, ◌++◌, append_assoc, map, flatten}
@@ -13,7 +13,7 @@ use Rattle.lines.proofs.FeedLaws.{feeding_lines}
 use Rattle.std.specs.Prelude.{⊤, IfErr}
 use Rattle.std.proofs.Common.{true, false, Result, Ok, Err}
 use Rattle.rights_listing.specs.declared.Stopped.{Stopped}
-use Rattle.rights_listing.specs.declared.Stopped.TheVariants.{TooLong, NoInput, NoOutput}
+use Rattle.rights_listing.specs.declared.Stopped.TheVariants.{TooLong, NoOutput}
 use Rattle.rights_listing.specs.declared.serving.Served.{Served}
 use Rattle.rights_listing.specs.Serves.{Replies, Chunk, ServesChunk, Last, ServesLast, Hears}
 use Rattle.rights_listing.specs.Serves.{HearsOnce, HearsLast, Chunks, most_chunks, HearsAll}

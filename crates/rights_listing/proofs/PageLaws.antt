@@ -1,27 +1,23 @@
 -- A page of the listing.
-use Prim.Native.Nat.{ℕ, ◌+◌, ◌*◌, ◌-◌, ◌/◌, ◌%◌, ◌<◌, ◌≤◌}
+use Prim.Native.Nat.{ℕ, ◌+◌, ◌*◌, ◌-◌, ◌/◌, ◌%◌, ◌≤◌, min}
 use native.Mathlib.Omega.{arith}
 use native.Mathlib.Nat.{add-zero}
-use mathlib.Core.Path.{◌≡◌, refl, sym, ap, subst, ◌∙◌}
+use mathlib.Core.Path.{◌≡◌, refl, sym, ap, ◌∙◌}
 use mathlib.Core.List.{List, [], ◌∷◌, ◌++◌, append_assoc}
 use mathlib.Core.Logic.{⊎_elim}
 use lib.ListN.{length, take, drop, length-append, length-drop, take-append-drop}
 use lib.Seq.{length-take-le, take_all, take_at}
-use Rattle.theory.specs.Pool.{words, SoundPool}
-use Rattle.table.specs.Shape.{Fits}
-use Rattle.table.specs.Map.{form_of}
 use Rattle.listing.specs.declared.Run.{Run}
-use Rattle.listing.specs.declared.Listed.{Listed}
-use Rattle.listing.specs.declared.Listed.TheVariants.{Runs, Refused}
-use Rattle.listing.specs.Runs.{memory_words, AllRuns, four_of, flat, shown}
-use Rattle.listing.specs.Listing.{word_right, Lists, no_shape, unsound, listed}
+use Rattle.std.proofs.Common.{Ok, Err}
+use Rattle.refusals.specs.declared.Refusal.{Refusal}
+use Rattle.listing.specs.Runs.{four_of, flat, shown}
+use Rattle.listing.specs.Listing.{Lists, no_shape, unsound, listed}
 use Rattle.listing.proofs.RunLaws.{lt_or_ge, one_all_runs}
 use Rattle.rights_listing.specs.declared.pages.Page.{Page}
 use Rattle.io.specs.Counts.{IsPrefixLen}
 use Rattle.rights_listing.specs.Text.{numeral, end_of, text_from, text}
 use Rattle.rights_listing.specs.Serves.{whole}
 use Rattle.rights_listing.specs.Pages.{ShowsPage, no_listing, page}
-use Rattle.rights_listing.proofs.TextLaws.{text_none}
 
 length_flat : (rs : List Run) → length (flat rs) ≡ 4 * length rs
 unfolding flat
@@ -44,65 +40,27 @@ shown_begins from m rs old l e =
     rw k (take_at (flat (take 1024 (drop from rs))) _ (4 * m) l)
 
 -- How many runs a page has.
-page_many : (from m : ℕ) (rs : List Run) → from + m ≤ length rs → m ≤ 1024 → (m < 1024 → from + m ≡ length rs)
-    → length (take 1024 (drop from rs)) ≡ m
-page_many from m rs h b w = ⊎_elim
-    (λ k. let e = w k in let z = length-drop from rs in
-    ap length (take_all 1024 (drop from rs) (omega arith)) ∙ (omega arith))
-    (λ k. let z = length-drop from rs in length-take-le 1024 (drop from rs) (omega arith) ∙ (omega arith))
-    (lt_or_ge m 1024)
+page_many : (from m : ℕ) (rs : List Run) → m ≡ min (length rs - from) 1024 → length (take 1024 (drop from rs)) ≡ m
+page_many from m rs e = let z = length-drop from rs in ⊎_elim
+    (λ k. ap length (take_all 1024 (drop from rs) (omega arith)) ∙ (omega arith))
+    (λ k. length-take-le 1024 (drop from rs) (omega arith) ∙ (omega arith))
+    (lt_or_ge (length rs - from) 1024)
 
-not_runs : {n k : ℕ} → Refused k ≡ Runs n → ⊥
-not_runs e = let z : ◌≡◌ {A = ℕ} 0 1 = cc in omega arith
-
-runs_same : {n k : ℕ} → Runs n ≡ Runs k → n ≡ k
-runs_same e = cc
-
--- A listing that was answered with a number of runs.
-record Found (p : List ℕ) (from : ℕ) (old new : List ℕ) (n : ℕ) : Type 0 where
-  fits : Fits whole (length p)
-  sound : SoundPool (form_of whole) (words p)
-  runs : List Run
-  all : AllRuns 4 memory_words (word_right whole p) runs
-  many : length runs ≡ n
-  words : new ≡ shown from runs old
-
-found : {p : List ℕ} {from n : ℕ} {old new : List ℕ} {a : Listed} → Lists p whole from old a new → a ≡ Runs n
-    → Found p from old new n
-found (no_shape f) e = absurd (not_runs e)
-found (unsound f u) e = absurd (not_runs e)
-found (listed f s rs all) e = record { fits = f; sound = s; runs = rs; all = all; many = runs_same e; words = refl }
-
-pub page_refused : {p : List ℕ} {from k : ℕ} {old new out : List ℕ} {a : Listed} → Lists p whole from old a new → a ≡ Refused k
+pub page_refused : {p : List ℕ} {from : ℕ} {k : Refusal} {old new out : List ℕ} → Lists p whole from old (Err k) new
     → ShowsPage p from (record { len = 0; left = 0 }) out
-page_refused (no_shape f) e = no_listing (λ g s. f g)
-page_refused (unsound f u) e = no_listing (λ g s. u s)
-page_refused (listed f s rs all) e = absurd (not_runs (sym e))
+page_refused (no_shape f) = no_listing (λ g s. f g)
+page_refused (unsound f u) = no_listing (λ g s. u s)
 
-module _ {p old new out : List ℕ} {from n : ℕ} {a : Listed} (found_it : Lists p whole from old a new)
-    (e : a ≡ Runs n) where
-  pub page_past : n ≤ from → ShowsPage p from (record { len = 0; left = 0 }) out
-  unfolding flat
-  page_past h =
-      let f = found found_it e in
-      let l = f.many in
-      let z : length f.runs - (from + 1024) ≡ 0 = omega arith in
-      let d = drop_past from f.runs (omega arith) in
-      subst (λ k. ShowsPage p from (record { len = 0; left = k }) out) z
-      (page {n = 0} {out = out} f.fits f.sound f.runs f.all (sym (rw d (text_none 4))) (omega arith, refl))
-
-  -- A page that has runs: `m` of them.
-  pub page_some : (m len : ℕ) → length old ≡ 4096 → from + m ≤ n → m ≤ 1024 → (m < 1024 → from + m ≡ n)
-      → len ≤ 11 * (4 * m) → 45056 ≤ length out → take len out ≡ text 4 (take (4 * m) new)
-      → (left : ℕ) → left ≡ n - (from + 1024) → ShowsPage p from (record { len = len; left = left }) out
-  page_some m len l h b w i o t left y =
-      let f = found found_it e in
-      let z = f.many in
-      let x : left ≡ length f.runs - (from + 1024) = omega arith in
-      let g = page_many from m f.runs (omega arith) b (λ k. w k ∙ sym z) in
-      let v : len ≤ length out = omega arith in
-      let q = t ∙ ap (λ q. text 4 (take (4 * m) q)) f.words ∙ ap (text 4) (shown_begins from m f.runs old l g) in
-      rw x (page f.fits f.sound f.runs f.all q (v, sym (length-take-le len out v)))
+-- A page: `m` runs of it, which may be none.
+pub page_shown : {from n : ℕ} {p old new : List ℕ} → Lists p whole from old (Ok n) new → (out : List ℕ) (m len : ℕ)
+    → length old ≡ 4096 → m ≡ min (n - from) 1024 → len ≤ 11 * (4 * m) → 45056 ≤ length out
+    → take len out ≡ text 4 (take (4 * m) new) → ShowsPage p from (record { len = len; left = n - from - m }) out
+page_shown {from = from} {old = old} (listed f s rs all) out m len l e w o t =
+    let g = page_many from m rs e in
+    let x : length rs - from - m ≡ length rs - (from + 1024) = omega arith in
+    let v : len ≤ length out = omega arith in
+    let q = t ∙ ap (text 4) (shown_begins from m rs old l g) in
+    rw x (page f s rs all q (v, sym (length-take-le len out v)))
 
 -- The text stands in the lent bytes.
 pub shows_counts : {p out : List ℕ} {from : ℕ} {r : Page} → ShowsPage p from r out → IsPrefixLen r.len out

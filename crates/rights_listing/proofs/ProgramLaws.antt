@@ -1,7 +1,7 @@
 -- The whole program: its output is one for each input, and is what it hears and shows.
 use Prim.Native.Nat.{ℕ}
 use native.Mathlib.Omega.{arith}
-use mathlib.Core.Path.{◌≡◌, refl, sym, ap, ◌∙◌}
+use mathlib.Core.Path.{◌≡◌, sym, ap, ◌∙◌}
 use mathlib.Core.List.{List, ◌++◌, flatten}
 use lib.ListN.{length, replicate, length-append, length-replicate}
 use Rattle.theory.specs.Pool.{words}
@@ -10,7 +10,9 @@ use Rattle.table.specs.Shape.{Fits}
 use Rattle.table.specs.Map.{form_of}
 use Rattle.table.specs.Fresh.{fresh_pool}
 use Rattle.table.proofs.FreshWordLaws.{fresh_settled}
-use Rattle.change.specs.declared.Answer.{Answer}
+use Rattle.std.proofs.Common.{Result}
+use Rattle.refusals.specs.declared.Refusal.{Refusal}
+use Rattle.change.specs.declared.Ending.{Ending}
 use Rattle.change.specs.Answers.{Changes}
 use Rattle.change.specs.Answers as answers
 use Rattle.lines.specs.Forms.{Said}
@@ -61,7 +63,7 @@ good_fresh = record {
 }
 
 -- a change leaves one,
-good_change : {p q : List ℕ} {d start len r : ℕ} {a : Answer} → Good p → Changes p whole d start len r suffices a q
+good_change : {p q : List ℕ} {d start len r : ℕ} {a : Result Ending Refusal} → Good p → Changes p whole d start len r suffices a q
     → Good q
 good_change g (answers.no_shape f) = g
 good_change g (answers.no_domain f h) = g
@@ -73,7 +75,7 @@ good_change g (answers.in_order x o (answers.no_room u v)) = g
 good_change g (answers.in_order x o (answers.done t q z)) =
     record { fits = rw z.long g.fits; settled = z.finished.settled }
 good_change g (answers.in_order x o (answers.cut t q z)) =
-    absurd (never_cut refl (answers.in_order x o (answers.cut t q z)))
+    absurd (never_cut (answers.in_order x o (answers.cut t q z)))
 
 -- and so do all the lines.
 good_replies : {p q : List ℕ} {said : List Said} {ns : List ℕ} → Good p → Replies p said ns q → Good q

@@ -8,16 +8,17 @@ use mathlib.Core.List.{List, [], ◌∷◌}
 use lib.Dec.{eqb}
 use lib.ListN.{length}
 use Rattle.words.proofs.RegionLaws.{region_number}
-use Rattle.change.specs.declared.Answer.{Answer}
-use Rattle.change.specs.declared.Answer.TheVariants.{Done, Cut, Refused}
+use Rattle.refusals.specs.declared.Refusal.{Refusal}
+use Rattle.refusals.specs.Refusals.{number}
+use Rattle.change.specs.declared.Ending.{Ending}
+use Rattle.change.specs.declared.Ending.TheVariants.{Done, Cut}
 use Rattle.change.specs.Cuts.{differing}
 use Rattle.change.specs.Answers.{numbers, Changes}
 use Rattle.change.specs.Answers as answers
-use Rattle.change.proofs.AnswerLaws.{done_cut, refused_cut, same_number}
 use Rattle.change.proofs.ChangesLaws.{one_change}
-use Rattle.std.proofs.Common.{Err}
+use Rattle.std.proofs.Common.{Result, Ok, Err}
 use Rattle.lines.specs.declared.NotOfForm.{NotOfForm}
-use Rattle.lines.specs.Forms.{Said, asks, no_form}
+use Rattle.lines.specs.Forms.{Said, asks}
 use Rattle.rights_listing.specs.Serves.{whole, suffices, Serves, not_of_form, request, Replies, none, next}
 
 -- ---- One line.
@@ -33,24 +34,15 @@ differing_most (x ∷ p) (y ∷ q) = go (eqb x y) (differing_most p q)
     go false h = omega arith
 
 -- The allowance suffices: no change is cut.
-pub never_cut : {p q : List ℕ} {d start len r : ℕ} {a : Answer} → a ≡ Cut
-    → Changes p whole d start len r suffices a q → ⊥
-never_cut e (answers.no_shape f) = refused_cut e
-never_cut e (answers.no_domain f h) = refused_cut e
-never_cut e (answers.no_right f h g) = refused_cut e
-never_cut e (answers.no_region f h g k z) = refused_cut e
-never_cut e (answers.in_order g o (answers.unsound u)) = refused_cut e
-never_cut e (answers.in_order g o (answers.unsettled u v)) = refused_cut e
-never_cut e (answers.in_order g o (answers.no_room u v)) = refused_cut e
-never_cut e (answers.in_order g o (answers.done t q z)) = done_cut e
-never_cut {p = p} e (answers.in_order g o (answers.cut t x z)) =
+pub never_cut : {p q : List ℕ} {d start len r : ℕ} → Changes p whole d start len r suffices (Ok Cut) q → ⊥
+never_cut {p = p} (answers.in_order g o (answers.cut t x z)) =
     let n = z.cut.count in
     let m = differing_most p x in
     let l = o.fits.long in
     omega arith
 
 -- A request is answered by its change.
-pub serves_request : {p q : List ℕ} {d start len r k : ℕ} {said : Said} {a : Answer} → said ≡ asks d start len r
+pub serves_request : {p q : List ℕ} {d start len r k : ℕ} {said : Said} {a : Result Ending Refusal} → said ≡ asks d start len r
     → (numbers a).refusal ≡ k → Changes p whole d start len r suffices a q → Serves p said k q
 serves_request e z h = rw (e, ← z) (request h)
 
@@ -60,30 +52,32 @@ serves_none e = rw e not_of_form
 -- ---- 0 means done.
 
 -- No refusal has the number 0.
-refused_some : {p q : List ℕ} {d start len r n k : ℕ} {a : Answer} → a ≡ Refused k
-    → Changes p whole d start len r n a q → 0 < k
-refused_some e (answers.no_shape f) = let z = same_number e in omega arith
-refused_some e (answers.no_domain f h) = let z = same_number e in omega arith
-refused_some e (answers.no_right f h g) = let z = same_number e in omega arith
-refused_some {start = start} {len = len} e (answers.no_region f h g k z) =
-    let x = same_number e in
-    ⊎_elim (λ y. omega arith) (λ y. omega arith) (region_number start len k z)
-refused_some e (answers.in_order g o (answers.unsound u)) = let z = same_number e in omega arith
-refused_some e (answers.in_order g o (answers.unsettled u v)) = let z = same_number e in omega arith
-refused_some e (answers.in_order g o (answers.no_room u v)) = let z = same_number e in omega arith
-refused_some e (answers.in_order g o (answers.done t q z)) = let y : ◌≡◌ {A = ℕ} 0 1 = cc in omega arith
-refused_some e (answers.in_order g o (answers.cut t x z)) = let y : ◌≡◌ {A = ℕ} 0 1 = cc in omega arith
+refused_some : {p q : List ℕ} {d start len r n : ℕ} {k : Refusal} → Changes p whole d start len r n (Err k) q
+    → 0 < number k
+refused_some (answers.no_shape f) = omega arith
+refused_some (answers.no_domain f h) = omega arith
+refused_some (answers.no_right f h g) = omega arith
+refused_some {start = start} {len = len} (answers.no_region f h g k z) =
+    ⊎_elim (λ y. rw y (omega arith)) (λ y. rw y (omega arith)) (region_number start len k z)
+refused_some (answers.in_order g o (answers.unsound u)) = omega arith
+refused_some (answers.in_order g o (answers.unsettled u v)) = omega arith
+refused_some (answers.in_order g o (answers.no_room u v)) = omega arith
 
 -- A request that is answered with 0 was done.
 pub zero_done : {p q : List ℕ} {d start len r k : ℕ} → k ≡ 0 → Serves p (asks d start len r) k q
-    → (n : ℕ) × Changes p whole d start len r suffices (Done n) q
+    → (n : ℕ) × Changes p whole d start len r suffices (Ok (Done n)) q
 zero_done {p} {q} {d} {start} {len} {r} e (request {a = a} h) = go a e h
   where
-    go : (a : Answer) → (numbers a).refusal ≡ 0 → Changes p whole d start len r suffices a q
-        → (n : ℕ) × Changes p whole d start len r suffices (Done n) q
-    go (Done n) e h = (n, h)
-    go Cut e h = absurd (never_cut refl h)
-    go (Refused k) e h = let z = refused_some refl h in absurd (omega arith)
+    go : (a : Result Ending Refusal) → (numbers a).refusal ≡ 0 → Changes p whole d start len r suffices a q
+        → (n : ℕ) × Changes p whole d start len r suffices (Ok (Done n)) q
+    go (Ok (Done n)) e h = (n, h)
+    go (Ok Cut) e h = absurd (never_cut h)
+    go (Err k) e h = let z = refused_some h in absurd (omega arith)
+
+-- Done and cut are both answered with 0.
+pub ended_zero : (e : Ending) → (numbers (Ok e)).refusal ≡ 0
+ended_zero (Done n) = refl
+ended_zero Cut = refl
 
 -- ---- One outcome.
 

@@ -17,9 +17,8 @@ use Rattle.listing.specs.Listing.{word_right}
 use Rattle.listing.proofs.RunLaws.{one_all_runs}
 use Rattle.listing.proofs.ScanLaws.{listing_all}
 use Rattle.listing.proofs.ListingLaws.{listing_few}
-use Rattle.std.proofs.Common.{Result, Ok, Err}
+use Rattle.std.proofs.Common.{Ok, Err}
 use Rattle.rights_listing.specs.declared.Stopped.{Stopped}
-use Rattle.rights_listing.specs.declared.Stopped.TheVariants.{NoOutput}
 use Rattle.rights_listing.specs.declared.pages.Page.{Page}
 use Rattle.rights_listing.specs.Text.{text}
 use Rattle.rights_listing.specs.Serves.{whole}

@@ -2,7 +2,8 @@
 use Rattle.std.specs.Prelude.{ℕ, ◌<◌, ◌≡◌, Bool, true, false, List, [], ◌∷◌, ◌++◌, Some, None, Result, Ok, Err, ⊤, length, take, drop}
 use Rattle.io.specs.Counts.{IsPrefixLen}
 use Rattle.table.specs.declared.Shape.{Shape}
-use Rattle.change.specs.declared.Answer.{Answer}
+use Rattle.refusals.specs.declared.Refusal.{Refusal}
+use Rattle.change.specs.declared.Ending.{Ending}
 use Rattle.change.specs.Answers.{numbers, Changes}
 use Rattle.lines.specs.declared.LineSoFar.{LineSoFar}
 use Rattle.lines.specs.Forms.{Said, asks, no_form}
@@ -24,7 +25,7 @@ suffices = 4294967295
 -- (`ServesLaws`). A line that is not of the form is answered with 99.
 pub data Serves (p : List ℕ) : Said → ℕ → List ℕ → Type 0 where
   not_of_form : Serves p no_form 99 p
-  request : {d start len r : ℕ} {a : Answer} {q : List ℕ} → Changes p whole d start len r suffices a q
+  request : {d start len r : ℕ} {a : Result Ending Refusal} {q : List ℕ} → Changes p whole d start len r suffices a q
       → Serves p (asks d start len r) (numbers a).refusal q
 
 -- Lines are answered one after the other, each from the pool that the one before it left.

@@ -121,7 +121,7 @@ fn show_all(output: Stdout, pool: &[u32]) -> Result<usize, Stopped>
 // Hears the input and shows the listing.
 fn run(input: Stdin, output: Stdout) -> Result<usize, Stopped> {
     let mut pool = [0u32; 16384];
-    table::fresh(&mut pool, serving::shape());
+    table::fresh(&mut pool, serving::shape()).unwrap();
     hear_all(input, output, &mut pool)?;
     show_all(output, &pool)
 }

@@ -5,7 +5,6 @@ ghost use Rattle.rights_listing.specs.Pages.{ShowsPage};
 
 use crate::serving::shape;
 use crate::text::write_number;
-use listing::Listed;
 
 // The runs of a page.
 pub const RUNS: usize = 1024;
@@ -43,7 +42,7 @@ pub fn write_page(pool: &[u32], from: u32, out: &mut [u8]) -> Page
     ensures { ShowsPage pool.now from result out.new }
 {
     let mut runs = [0u32; 4 * RUNS];
-    let Listed::Runs(n) = listing::list_runs(pool, shape(), from, &mut runs) else {
+    let Ok(n) = listing::list_runs(pool, shape(), from, &mut runs) else {
         return Page { len: 0, left: 0 };
     };
     let rest = n.saturating_sub(from as usize);

@@ -3,9 +3,9 @@ ghost use Rattle.std.specs.Prelude.{◌*◌, ◌≤◌, ◌≡◌, length};
 ghost use Rattle.rights_listing.specs.Serves.{whole, Serves, ServesChunk, ServesLast};
 
 use crate::text::write_number;
-use change::Answer;
 use lines::{LineSoFar, NotOfForm, Request};
 use table::Shape;
+use words::ByteAddr;
 
 // An allowance that suffices: no pool has as many words.
 const SUFFICES: u32 = u32::MAX;
@@ -38,7 +38,7 @@ fn reply(pool: &mut [u32], said: Result<Request, NotOfForm>) -> u32
     let Ok(asked) = said else {
         return NOT_OF_FORM;
     };
-    let start = words::byte_addr(asked.start);
+    let start = ByteAddr::from(asked.start);
     match change::change(
         pool,
         shape(),
@@ -48,9 +48,8 @@ fn reply(pool: &mut [u32], said: Result<Request, NotOfForm>) -> u32
         asked.right,
         SUFFICES,
     ) {
-        Answer::Done(_) => 0,
-        Answer::Cut => 0,
-        Answer::Refused(k) => k,
+        Ok(_) => 0,
+        Err(refusal) => u32::from(refusal),
     }
 }
 

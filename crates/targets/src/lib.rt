@@ -41,13 +41,17 @@ enum Cover {
 }
 
 // How the region meets the `n` memory words from `s` on. The first test is for an empty region: inside the stretch it
-// would seem to part it.
+// would seem to part it. (It stands by itself, since in one condition with the others the compiler made all of them at
+// each of the leaf entries that a search passes.)
 fn meeting(paint: Paint, s: u32, n: u32) -> Cover
     requires { s + n ≤ 0x40000000 }
     ensures { CoverIs result paint s n }
 {
+    if paint.hi <= paint.lo {
+        return Cover::Apart;
+    }
     let end = s + n;
-    if paint.hi <= paint.lo || paint.hi <= s || end <= paint.lo {
+    if paint.hi <= s || end <= paint.lo {
         Cover::Apart
     } else if s < paint.lo || paint.hi < end {
         Cover::Partly

@@ -1,8 +1,8 @@
 -- Laws of words that all pass a test: what a fold that asks each of them says, and how far those at the front go, found
 -- a part at a time. Assumes nothing.
-use Prim.Native.Nat.{ℕ, ◌+◌, ◌-◌, ◌≤◌, ◌<◌}
-use mathlib.Core.Path.{◌≡◌, refl, sym, ap, ◌∙◌}
-use mathlib.Core.Bool.{Bool, true, false, ◌&&◌, false≢true}
+use Prim.Native.Nat.{ℕ, zero, suc, ◌+◌, ◌-◌, ◌*◌, ◌≤◌, ◌<◌}
+use mathlib.Core.Path.{◌≡◌, sym, ap, ◌∙◌}
+use mathlib.Core.Bool.{Bool, true, ◌&&◌, false≢true}
 use mathlib.Core.List.{List, [], ◌∷◌}
 use native.Mathlib.Omega.{arith}
 use native.Mathlib.Decide.{dec_lt}
@@ -10,7 +10,7 @@ use lib.Dec.{eqb}
 use lib.ListN.{length, get_or, take, drop}
 use borrow.Author.Tests.{eqb-true, eq-eqb}
 use Rattle.std.specs.List.{fold, prefix_len, list_all}
-use Rattle.std.proofs.Common.{length-drop}
+use Rattle.std.proofs.Common.{length-drop, suc-mul}
 use Rattle.std.proofs.Math.Bool.{and-true, and_assoc}
 use Rattle.std.proofs.lemmas.List.{get_or-drop, get_or-take, length-take-le}
 use Rattle.std.proofs.lemmas.List.Elements.{All-get_or, All-from_get_or}
@@ -64,6 +64,17 @@ module _ (p : ℕ → Bool) where
         ∙ all_pass (take m (drop n xs)) e i (omega arith) in
         absurd (false≢true (sym (prefix_len_stops p xs 0 (omega arith)) ∙ good))
   ]
+
+  -- The first n parts of m words pass.
+  pub prefix_parts : (xs : List ℕ) (n m : ℕ) → n * m ≤ length xs
+      → ((k : ℕ) → k < n → fold (λ all w. all && p w) true (take m (drop (k * m) xs)) ≡ true)
+      → n * m ≤ prefix_len p xs
+  prefix_parts xs zero m long e = omega arith
+  prefix_parts xs (suc n) m long e =
+      let z : suc n * m ≡ n * m + m = suc-mul n m in
+      let y : n * m + m ≤ length xs = omega arith in
+      let h = prefix_parts xs n m (omega arith) (λ k b. e k (omega arith)) in
+      rw z (prefix_more xs (n * m) m h y (e n (omega arith)))
 
 -- What is found in a part of the pool, said of the pool.
 

@@ -146,12 +146,11 @@ fn pass_by(words: &[u32], step: usize) -> usize
     requires { 0 < step }
     ensures { (result ≤ length words.now) × (result ≤ prefix_len good_rights words.now) }
 {
-    let mut n = 0;
-    // no chain: of chunks_exact, take_while and count the search did not prove that each part passed is eight rights
-    while step <= words.len() - n && all_rights(&words[n..n + step]) {
-        n += step;
-    }
-    n
+    let whole = words
+        .chunks_exact(step)
+        .take_while(|part| all_rights(part))
+        .count();
+    whole * step
 }
 
 // How many of the `count` words from `from` on stand before the first that is not eight rights. Most entries are:

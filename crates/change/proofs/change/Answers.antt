@@ -4,4 +4,4 @@ use Rattle.change.proofs.change.Goals as goal
 
 pub returns : goal.returns
 returns c = request_answers c.in_ok-plan_request.ensures
-    (rw (c.domain_in-domain.ensures, c.paint_in-paint.ensures) at c.make_stores-ending.ensures)
+    (rw (c.domain_in-domain.ensures, c.paint_in-paint.ensures) at c.make_stores.ensures)

@@ -20,26 +20,9 @@ pub returns-then-not-census : goal.returns-then-not-census
 returns-then-not-census c = λ n. unsound (λ z. true≢false
     (sym (c.census.ensures.whole z) ∙ c.if-not-census.true))
 
-pub settled-requires : goal.settled-requires
-settled-requires c = let sound = c.if-not-census.false in
-    record {
-      fits = c.requires.fits;
-      sound_pool = c.census.ensures.sound sound;
-      owners = c.census.ensures.owners sound;
-    }
-
 pub returns-then-not-settled : goal.returns-then-not-settled
 returns-then-not-settled c = λ n. unsettled (c.census.ensures.sound (c.if-not-census.false))
     (λ z. true≢false (sym (c.settled.ensures.passes z) ∙ c.if-not-settled.true))
-
-pub plan_change-requires : goal.plan_change-requires
-plan_change-requires c = record {
-  fits = c.requires.fits;
-  settled = settled_here (goal.at.plan_change-requires c).Else-not-settled;
-  owners = c.census.ensures.owners (c.if-not-census.false);
-  domain_lt_domains = c.requires.domain_lt_domains.0;
-  regular = c.requires.domain_lt_domains.1;
-}
 
 pub returns-then-not-plan_change : goal.returns-then-not-plan_change
 returns-then-not-plan_change c = let a = c.args in

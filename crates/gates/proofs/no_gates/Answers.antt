@@ -1,3 +1,4 @@
+-- `gates::no_gates` meets its contract.
 use Prim.Native.Nat.{ℕ, ◌*◌}
 use mathlib.Core.Path.{sym, ap, ◌∙◌}
 use mathlib.Core.List.{List}

@@ -11,8 +11,8 @@ use Rattle.lookaside.proofs.LayoutLaws.{buffer_words_lem}
 use Rattle.lookaside.proofs.CheckLaws.{allowed}
 use Rattle.lookaside.proofs.check.Goals as goal
 
-pub slot_right-requires : goal.slot_right-requires
-slot_right-requires c = let a = c.args in
+pub right_at-requires : goal.right_at-requires
+right_at-requires c = let a = c.args in
     (match_is _ a.domain a.address.0
     (first_matches (buffer_of a.buffer.now).slots a.domain a.address.0 _ (sym c.find.ensures ∙ c.in-Some.is))).level
 
@@ -24,4 +24,4 @@ returns-in_err-by c = let a = c.args in
     search rules
 
 pub fill_next-requires : goal.fill_next-requires
-fill_next-requires c = (allowed _ _ _ _ _ _ _ (sym c.refusal.ensures ∙ c.in_ok-refusal.was)).pointer
+fill_next-requires c = (allowed _ _ _ _ _ _ _ (sym c.check_refusal.ensures ∙ c.in_ok-check_refusal.was)).pointer

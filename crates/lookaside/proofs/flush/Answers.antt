@@ -27,7 +27,7 @@ loop-i-preserved g c = λ f tells.
     let is = ap (flushes f) (sym c.slot_at-s.ensures) ∙ sym (tells _ _ c.empties.ensures) in
     elim c.if-empties.branch [
       | then-empties w ↦ w.ws-is ∙ w.put_slot.ensures
-          ∙ ap (λ (s : Slot). sets c.loop-i.ws (4 * c.loop-i.i) (slot_words s)) w.empty_slot.ensures
+          ∙ ap (λ (s : Slot). sets c.loop-i.ws (4 * c.loop-i.i) (slot_words s)) w.empty.ensures
           ∙ flush_empties f old n c.loop-i.i (omega arith) c.loop-i.ws now (is ∙ w.if-empties.true)
       | else-empties w ↦ w.ws-is ∙ flush_skips f old n c.loop-i.i (omega arith) c.loop-i.ws now (is ∙ w.if-empties.false)
     ]

@@ -7,5 +7,5 @@ use Rattle.lookaside.proofs.flush_all.Goals as goal
 
 pub returns : goal.returns
 unfolding flushes
-returns c = flush_done_as _ _ _ _ refl (sym c.pointed.ensures ∙ c.in_ok-pointed.was)
+returns c = flush_done_as _ _ _ _ refl (sym c.pointer_refusal.ensures ∙ c.in_ok-pointer_refusal.was)
     (c.flush.ensures _ (λ s b p. search rules))

@@ -11,4 +11,4 @@ unfolding flushes
 returns c = let b = buffer_of c.args.buffer.now in
     flush_done_as b _ _ _
     (ap (λ r. pointed b (flushed_rounded r b c.args.domain)) (sym c.round_region.ensures ∙ c.in_ok-region.was))
-    (sym c.pointed.ensures ∙ c.in_ok-pointed.was) (c.flush.ensures _ (λ s b p. search rules))
+    (sym c.pointer_refusal.ensures ∙ c.in_ok-pointer_refusal.was) (c.flush.ensures _ (λ s b p. search rules))

@@ -1,8 +1,6 @@
 -- `show` meets its contract.
-use Rattle.std.proofs.Common.{rules}
 use Rattle.std.proofs.lemmas.Result.{err_from_is_err_and}
 use Rattle.rights_listing.specs.Pages.{written, not_written}
-use Rattle.rights_listing.proofs.PageLaws.{shows_counts}
 use Rattle.rights_listing.proofs.show.Goals as goal
 
 pub returns-in_err-write : goal.returns-in_err-write

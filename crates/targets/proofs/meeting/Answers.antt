@@ -27,13 +27,16 @@ above_edge p s n a b d = record {
   miss_is = inside_high p (s + (p.hi - s)) (omega arith);
 }
 
+pub returns-then-paint : goal.returns-then-paint
+returns-then-paint c = λ j h. inside_not _ _ (λ a b. omega arith)
+
 pub returns-then-end-paint : goal.returns-then-end-paint
 returns-then-end-paint c = λ j h. inside_not _ _ (λ a b. omega arith)
 
 pub returns-then-paint-end : goal.returns-then-paint-end
 returns-then-paint-end c =
-    let (some, before, after) = c.if-end-paint.false in
-    ⊎_elim (λ l. below_edge _ _ _ l some after) (λ (l, m). above_edge _ _ _ l before m) c.if-paint-end.either
+    let (before, after) = c.if-end-paint.false in
+    ⊎_elim (λ l. below_edge _ _ _ l c.if-paint.false after) (λ (l, m). above_edge _ _ _ l before m) c.if-paint-end.either
 
 pub returns-else-paint-end : goal.returns-else-paint-end
 returns-else-paint-end c = λ j h. inside_is _ _ (omega arith) (omega arith)

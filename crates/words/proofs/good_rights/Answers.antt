@@ -1,6 +1,5 @@
 -- `words::good_rights` meets its contract. Assumes nothing.
-use Rattle.std.proofs.Common.{ltb, leb, ◌≡◌, false}
-use mathlib.Core.Path.{sym, ◌∙◌}
+use mathlib.Core.Path.{sym}
 use native.Mathlib.Omega.{arith}
 use Rattle.words.proofs.RightsLaws.{good_low, good_high}
 use Rattle.words.proofs.good_rights.Goals as goal

@@ -2,7 +2,7 @@
 use Prim.Native.Nat.{◌+◌, ◌*◌, ◌-◌, ◌≤◌}
 use lib.ListN.{length}
 use Rattle.plan.specs.Plan.{plan_in}
-use Rattle.change.specs.declared.Work.TheVariants.{Change}
+use Rattle.change.specs.Runs.{Change}
 use Rattle.change.specs.Runs.{Run, Stands}
 use Rattle.change.proofs.ahead.next_change.Given as goal
 

@@ -1,7 +1,7 @@
 -- `ahead::next_in_row` meets its contract. The loop takes every run that stands at the cursor to word `i` of its row.
 use Prim.Native.Nat.{◌+◌}
 use Rattle.plan.specs.Plan.{plan_in}
-use Rattle.change.specs.declared.Work.TheVariants.{Change}
+use Rattle.change.specs.Runs.{Change}
 use Rattle.change.specs.Runs.{Run, Stands}
 use Rattle.change.proofs.ahead.next_in_row.Given as goal
 

@@ -8,7 +8,7 @@ use borrow.Author.Tests.{eqb-true, eqb-false}
 use lib.ListN.{length}
 use Rattle.table.specs.declared.Shape.{Shape}
 use Rattle.plan.specs.Plan.{plan_in}
-use Rattle.change.specs.declared.Work.TheVariants.{Change}
+use Rattle.change.specs.Runs.{Change}
 use Rattle.change.specs.Runs.{Run, Stands}
 use Rattle.change.proofs.TurnLaws.{row_turn, row_ahead}
 use Rattle.change.proofs.ahead.next_row.Goals as goal

@@ -1,7 +1,7 @@
 -- `tidying::next_given_up` meets its contract. The loop takes every tidying that stands at word `from` of the table
 -- to its word `i`.
 use Prim.Native.Nat.{◌+◌, ◌-◌, ◌≤◌}
-use Rattle.change.specs.declared.Work.TheVariants.{Tidying}
+use Rattle.change.specs.Runs.{Tidying}
 use Rattle.change.specs.Runs.{Run, Stands}
 use Rattle.change.proofs.tidying.next_given_up.Given as goal
 

@@ -8,9 +8,6 @@ use Rattle.change.proofs.TidyAimLaws.{place_at, tidy_end}
 use Rattle.change.proofs.tidying.next_tidying.Goals as goal
 use Rattle.change.proofs.tidying.next_tidying.Goals.{After-from}
 
-pub loop-place-init : goal.loop-place-init
-loop-place-init c = (omega arith, omega arith, λ u y. rw c.index-k.ensures (rw c.requires.looks.follows at y))
-
 -- Where the place begins, and how far on word `k` is.
 begins : (c : After-from) → let l = c.loop-place in
     (c.from.result.0 ≡ 1024 * l.place) × (c.from.result.0 + (l.k - 1024 * l.place) ≡ l.k)

@@ -1,7 +1,7 @@
 -- `tidying::next_tidying` meets its contract. The loop takes every tidying that stands at the cursor to word `k`, which
 -- is of the place that comes next.
 use Prim.Native.Nat.{◌+◌, ◌*◌, ◌≤◌}
-use Rattle.change.specs.declared.Work.TheVariants.{Tidying}
+use Rattle.change.specs.Runs.{Tidying}
 use Rattle.change.specs.Runs.{Run, Stands}
 use Rattle.change.proofs.tidying.next_tidying.Given as goal
 

@@ -33,15 +33,15 @@ pub returns-then-settled : goal.returns-then-settled
 returns-then-settled c = settled_tidies (fits_at (goal.at.returns-then-settled c).Else-not-shape_fits)
     (c.settled.ensures.holds c.if-settled.true)
 
-pub make_stores-ending-requires-clause-ready : goal.make_stores-ending-requires-clause-ready
-make_stores-ending-requires-clause-ready c = tidy_ready _ _ (fits_at (goal.at.make_stores-ending-requires-clause-ready c).Else-not-shape_fits)
-    (sound_at (goal.at.make_stores-ending-requires-clause-ready c).Else-not-census)
+pub make_stores-requires-clause-ready : goal.make_stores-requires-clause-ready
+make_stores-requires-clause-ready c = tidy_ready _ _ (fits_at (goal.at.make_stores-requires-clause-ready c).Else-not-shape_fits)
+    (sound_at (goal.at.make_stores-requires-clause-ready c).Else-not-census)
 
-pub make_stores-ending-requires-clause-told : goal.make_stores-ending-requires-clause-told
-make_stores-ending-requires-clause-told c =
-    owners_begin (fits_at (goal.at.make_stores-ending-requires-clause-told c).Else-not-shape_fits)
+pub make_stores-requires-clause-told : goal.make_stores-requires-clause-told
+make_stores-requires-clause-told c =
+    owners_begin (fits_at (goal.at.make_stores-requires-clause-told c).Else-not-shape_fits)
     (c.census.ensures.owners (c.if-not-census.false))
 
 pub returns : goal.returns
 returns c = tidy_answers (fits_at (goal.at.returns c).Else-not-shape_fits) (sound_at (goal.at.returns c).Else-not-census)
-    c.make_stores-ending.ensures
+    c.make_stores.ensures

@@ -1,4 +1,4 @@
--- `gates::places::store_gate` meets its contract. Assumes nothing.
+-- `gates::places::store_gate` meets its contract.
 use Rattle.gates.proofs.LayoutLaws.{stored_words}
 use Rattle.gates.proofs.places.store_gate.Goals as goal
 

@@ -1,4 +1,4 @@
--- `gates::steps::push` meets its contract. Assumes nothing.
+-- `gates::steps::push` meets its contract.
 use Rattle.gates.proofs.LayoutLaws.{pushed_words}
 use Rattle.gates.proofs.steps.push.Goals as goal
 

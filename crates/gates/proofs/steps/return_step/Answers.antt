@@ -1,3 +1,4 @@
+-- `gates::steps::return_step` meets its contract.
 use mathlib.Core.Path.{sym}
 use Rattle.std.proofs.lemmas.Result.{err_from_is_err_and}
 use Rattle.gates.proofs.LayoutLaws.{step_stays_as}
