@@ -24,13 +24,13 @@ fn end_of(i: usize) -> u8
     if i % 4 == 3 { b'\n' } else { b' ' }
 }
 
-// Writes words, four to a line: how many bytes they took.
-fn write_fours(out: &mut [u8], words: &[u32]) -> usize
-    requires { 11 * length words.now ≤ length out.old }
-    ensures { (result ≤ 11 * length words.now) × (take result out.new ≡ text 4 words.now) }
+// Writes the words of runs, four to a line: how many bytes they took.
+fn write_fours(out: &mut [u8], runs: &[u32]) -> usize
+    requires { 11 * length runs.now ≤ length out.old }
+    ensures { (result ≤ 11 * length runs.now) × (take result out.new ≡ text 4 runs.now) }
 {
     let mut len = 0;
-    for (i, word) in words.iter().enumerate() {
+    for (i, word) in runs.iter().enumerate() {
         len = write_number(out, len, *word, end_of(i));
     }
     len

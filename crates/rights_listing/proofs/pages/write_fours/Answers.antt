@@ -9,7 +9,7 @@ loop-i-init c = (omega arith, refl, sym (text_none 4))
 pub loop-i-preserved : goal.loop-i-preserved
 loop-i-preserved c = let i = c.loop-i.invariant in
     let w = c.write_number-len in
-    let t = text_took 4 c.loop-i.i c.args.words.now (omega arith) in (
+    let t = text_took 4 c.loop-i.i c.args.runs.now (omega arith) in (
       omega arith,
       w.auto.out ∙ i.1,
       w.ensures.1 ∙ rw (i.2, c.end_of.ensures) (sym t),
