@@ -179,10 +179,10 @@ fn plan_ends(
     let first = draft_edge(pool, height, domain, paint, begin);
     layout::put_edge(plan, f, first);
     if begin == end {
-        layout::copy_edge(plan, f, l);
-        let only = take_place(owners, shape, height, domain, plan, f, 0);
-        layout::copy_edge(plan, f, l);
-        return only.is_some();
+        layout::put_edge(plan, l, first);
+        let next = take_place(owners, shape, height, domain, plan, f, 0);
+        layout::put_edge(plan, l, layout::edge_in(plan, f));
+        return next.is_some();
     }
     let last = draft_edge(pool, height, domain, paint, end);
     layout::put_edge(plan, l, last);

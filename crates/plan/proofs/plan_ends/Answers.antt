@@ -34,9 +34,10 @@ module _ (h : ℕ) {m : ℕ} (e : m ≡ block (h + 1) / 4) where
 -- Where the words of the edges begin.
 module _ (h : ℕ) {f l : ℕ} (x : f ≡ edge_word h true) (y : l ≡ edge_word h false) where
   -- The first edge is stored once more, where the last edge has its words.
-  copied : (m : List ℕ) {n : List ℕ} → n ≡ put_edge m l (edge_in m f)
+  copied : (m : List ℕ) {n : List ℕ} {d : Edge} → d ≡ edge_in m f → n ≡ put_edge m l d
       → n ≡ put_edge m (edge_word h false) (edge_in m (edge_word h true))
-  copied m e = e ∙ ap (λ i. put_edge m i (edge_in m f)) y ∙ ap (λ i. put_edge m (edge_word h false) (edge_in m i)) x
+  copied m z e = e ∙ ap (put_edge m l) z ∙ ap (λ i. put_edge m i (edge_in m f)) y
+      ∙ ap (λ i. put_edge m (edge_word h false) (edge_in m i)) x
 
 -- An edge is drafted and stored: said of the word and the block that are told.
 drafted : (edge : ℕ → Edge) (l : List ℕ) {m : List ℕ} {i j n o : ℕ} {d : Edge} → i ≡ j → n ≡ o → d ≡ edge n
@@ -70,17 +71,16 @@ returns-then-begin-end c =
     let l = c.edge_index-l.ensures in
     let b = begins c.args.height c.block_words-long.ensures a.paint r low in
     let e = ends c.args.height c.block_words-long.ensures a.paint r low in
+    let d = c.draft_edge-first.ensures _ (pool_gives a.shape (words a.pool.now) a.domain) in
     rw c.is_some.ensures (
     one_planned a.pool.now a.shape a.owners.now a.domain a.paint pre.fits pre.settled pre.owners domain r a.height low
-    a.plan.now c.put_edge.new.plan c.told-plan
-    (drafted edge a.plan.now f b (c.draft_edge-first.ensures _ (pool_gives a.shape (words a.pool.now) a.domain))
-    c.put_edge.ensures)
-    c.copy_edge.new.plan c.take_place-only.new.plan c.copy_edge-then-begin-end.new.plan
+    a.plan.now c.put_edge.new.plan c.told-plan (drafted edge a.plan.now f b d c.put_edge.ensures)
+    c.put_edge-then-begin-end.new.plan c.take_place-next.new.plan c.put_edge-then-begin-end-2.new.plan
     (sym b ∙ c.if-begin-end.true ∙ e)
-    (copied a.height f l c.put_edge.new.plan c.copy_edge.ensures)
-    c.take_place-only.result
-    (takes_at f c.take_place-only.ensures)
-    (copied a.height f l c.take_place-only.new.plan c.copy_edge-then-begin-end.ensures))
+    (drafted edge c.put_edge.new.plan l b d c.put_edge-then-begin-end.ensures)
+    c.take_place-next.result
+    (takes_at f c.take_place-next.ensures)
+    (copied a.height f l c.take_place-next.new.plan c.edge_in.ensures c.put_edge-then-begin-end-2.ensures))
 
 pub returns-in_default : goal.returns-in_default
 returns-in_default c =
