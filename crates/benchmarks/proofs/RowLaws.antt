@@ -47,7 +47,8 @@ pub always_change : {p : List ℕ} {s : Shape} {d start len r n : ℕ} {a : Resu
     → Changes p s d start len r n a q → Is a q → Always (Changes p s d start len r n) Is
 always_change c x = record { some = (_, _, c); each = λ b y z. let (e, f) = one_change z c in rw (e, f) x }
 
-pub always_tidy : {p : List ℕ} {s : Shape} {n : ℕ} {a : Result Ending Refusal} {q : List ℕ} {Is : Result Ending Refusal → List ℕ → Type 0}
+pub always_tidy : {p : List ℕ} {s : Shape} {n : ℕ} {a : Result Ending Refusal} {q : List ℕ}
+    {Is : Result Ending Refusal → List ℕ → Type 0}
     → Tidies p s n a q → Is a q → Always (Tidies p s n) Is
 always_tidy c x = record { some = (_, _, c); each = λ b y z. let (e, f) = one_tidy z c in rw (e, f) x }
 
@@ -86,7 +87,8 @@ by right entry loads first last =
       last = record { 0 = last };
     })
 
-pub finds : (p : List ℕ) (s : Shape) (a : ℕ) (r : Result Deciding Refusal) → lookup_of p s 0 a ≡ r → Finds p s a (numbers r)
+pub finds : (p : List ℕ) (s : Shape) (a : ℕ) (r : Result Deciding Refusal) → lookup_of p s 0 a ≡ r
+    → Finds p s a (numbers r)
 finds p s a r e = record { some = (r, looks_up p s 0 a r (sym e)); each = λ t l. ap numbers (l.answer ∙ e) }
 
 -- A fresh pool has its length.

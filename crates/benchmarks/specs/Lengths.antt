@@ -76,7 +76,10 @@ pub record FlushesFollow : Type 0 where
   pub both_lines : (w : ℕ) → flushed_region (held w) 0 0x103E 4
       ≡ record { answer = Ok tt; buffer = four_slots empty_slot empty_slot (line_at w 0x1080) (line_at w 0xFFFFFFC0) }
   pub last_line : (w : ℕ) → flushed_region (held w) 0 0xFFFFFFFE 2
-      ≡ record { answer = Ok tt; buffer = four_slots (line_at w 0x1000) (line_at w 0x1040) (line_at w 0x1080) empty_slot }
+      ≡ record {
+        answer = Ok tt;
+        buffer = four_slots (line_at w 0x1000) (line_at w 0x1040) (line_at w 0x1080) empty_slot;
+      }
   pub past_the_end : (w : ℕ) → flushed_region (held w) 0 0xFFFFFFFE 3 ≡ refused PastTheEnd (held w)
   pub no_length : (w : ℕ) → flushed_region (held w) 0 0x1002 0 ≡ refused EmptyRegion (held w)
 

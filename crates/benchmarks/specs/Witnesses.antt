@@ -119,7 +119,8 @@ pub record SomeStale : Type 0 where
   pub series : Series shape pool list
       (after (after made (setting 0 0x1000 512 2 (Ok (Done made_stores)))) (setting 0 0 528384 1 (Ok Cut)))
   pub filled_buffer : Buffer
-  pub missed : check_of old shape empty_buffer 0 store 4 0x1000 ≡ record { verdict = Ok (Pass 2); buffer = filled_buffer }
+  pub missed : check_of old shape empty_buffer 0 store 4 0x1000
+      ≡ record { verdict = Ok (Pass 2); buffer = filled_buffer }
   pub cut : Changes old shape 0 0 528384 1 stores (Ok Cut) pool
   pub stale : Places
   pub watched : Watched shape pool filled_buffer stale
@@ -141,7 +142,8 @@ pub record SomeTidied : Type 0 where
   pub stores : ℕ
   pub some : 0 < stores
   pub filled_buffer : Buffer
-  pub missed : check_of old shape empty_buffer 0 store 4 0x1000 ≡ record { verdict = Ok (Deny 2); buffer = filled_buffer }
+  pub missed : check_of old shape empty_buffer 0 store 4 0x1000
+      ≡ record { verdict = Ok (Deny 2); buffer = filled_buffer }
   pub tidied : Tidies old shape stores (Ok (Done stores)) pool
   pub watched : Watched shape pool filled_buffer nowhere
   pub by_slot : (check_of pool shape filled_buffer 0 store 4 0x1000).verdict ≡ Ok (Deny 0)

@@ -149,7 +149,8 @@ module _ (p : List ℕ) (s : Shape) (b : Buffer) (g : AllClear p s b) where
   region_clear f (done t q y) = sound_clear q s y.finished.settled.sound (rw y.long f) b
   region_clear f (cut t q y) = sound_clear q s y.cut.sound (rw y.cut.long f) b
 
-  pub change_clear : {q : List ℕ} {d start len r n : ℕ} {c : Result Ending Refusal} → Changes p s d start len r n c q → AllClear q s b
+  pub change_clear : {q : List ℕ} {d start len r n : ℕ} {c : Result Ending Refusal}
+      → Changes p s d start len r n c q → AllClear q s b
   change_clear (no_shape x) = g
   change_clear (no_domain x y) = g
   change_clear (no_right x y w) = g

@@ -25,7 +25,8 @@ use Rattle.demands.specs.Series.{History, Series, RoomFor, ByRoom, full, finishe
 use Rattle.demands.proofs.SeriesLaws.{one_region, series_tidy_ends}
 
 -- A finished change and a finished tidying leave a settled pool ..
-pub changed_settled : {s : Shape} {p q : List ℕ} {d start len r n k : ℕ} {c : Result Ending Refusal} → Changes p s d start len r n c q
+pub changed_settled : {s : Shape} {p q : List ℕ} {d start len r n k : ℕ} {c : Result Ending Refusal}
+    → Changes p s d start len r n c q
     → c ≡ Ok (Done k) → Settled (form_of s) (words q)
 changed_settled (no_shape y) e = cc
 changed_settled (no_domain y z) e = cc
@@ -37,7 +38,8 @@ changed_settled (in_order g asked (no_room y z)) e = cc
 changed_settled (in_order g asked (done y q z)) e = z.finished.settled
 changed_settled (in_order g asked (cut y q z)) e = cc
 
-pub tidied_settled : {s : Shape} {p q : List ℕ} {n k : ℕ} {c : Result Ending Refusal} → Tidies p s n c q → c ≡ Ok (Done k)
+pub tidied_settled : {s : Shape} {p q : List ℕ} {n k : ℕ} {c : Result Ending Refusal} → Tidies p s n c q
+    → c ≡ Ok (Done k)
     → Settled (form_of s) (words q)
 tidied_settled (no_shape y) e = cc
 tidied_settled (unsound y z) e = cc
@@ -64,7 +66,8 @@ region_by_room t (no_room y z) = full z
 region_by_room {s = s} t (done y q z) = finishes (finished_fits s z.finished) _
 region_by_room {s = s} t (cut y q z) = is_cut (finished_fits s z.cut.finished)
 
-pub settled_by_room : {p : List ℕ} {s : Shape} {d start len r n : ℕ} {g : Region} {c : Result Ending Refusal} {q : List ℕ}
+pub settled_by_room : {p : List ℕ} {s : Shape} {d start len r n : ℕ} {g : Region} {c : Result Ending Refusal}
+    {q : List ℕ}
     → Settled (form_of s) (words p) → Asked p s d start len r g → Changes p s d start len r n c q
     → ByRoom s p (change_aim d g r) c
 settled_by_room t a x = region_by_room t (asked_region a x)
@@ -87,15 +90,16 @@ pub settled_not_7 : {p : List ℕ} {s : Shape} {d start len r n : ℕ} {g : Regi
     → Changes p s d start len r n c q → (c ≢ Err NotSound) × (c ≢ Err NotSettled)
 settled_not_7 t a x = by_room_not_7 (settled_by_room t a x)
 
-pub settled_exactly_8 : {p : List ℕ} {s : Shape} {d start len r n : ℕ} {g : Region} {c : Result Ending Refusal} {q : List ℕ}
+pub settled_exactly_8 : {p : List ℕ} {s : Shape} {d start len r n : ℕ} {g : Region} {c : Result Ending Refusal}
+    {q : List ℕ}
     → Settled (form_of s) (words p) → Asked p s d start len r g → Changes p s d start len r n c q
     → (c ≡ Err NoRoom → RoomFor s p (change_aim d g r) → ⊥) × ((RoomFor s p (change_aim d g r) → ⊥) → c ≡ Err NoRoom)
 settled_exactly_8 t a x = by_room_8 (settled_by_room t a x)
 
 -- In a series, after a tidying that was not cut: a change in order is refused 8 exactly where there is no room for the
 -- finished rights, and is otherwise done or cut.
-pub room_exactly : {s : Shape} {p list q x : List ℕ} {h : History} {n m : ℕ} {b c : Result Ending Refusal} {d start len r : ℕ}
-    {g : Region} → Series s p list h → Tidies p s n b q → b ≢ Ok Cut → Asked q s d start len r g
+pub room_exactly : {s : Shape} {p list q x : List ℕ} {h : History} {n m : ℕ} {b c : Result Ending Refusal}
+    {d start len r : ℕ} {g : Region} → Series s p list h → Tidies p s n b q → b ≢ Ok Cut → Asked q s d start len r g
     → Changes q s d start len r m c x → ByRoom s q (change_aim d g r) c
 room_exactly y t whole a z =
     let settled = ⊎_elim (λ (k, e). tidied_settled t e) (λ e. absurd (whole e)) (series_tidy_ends y t) in

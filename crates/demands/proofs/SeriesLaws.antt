@@ -143,12 +143,13 @@ pub series_never_6 : {s : Shape} {p list q : List ℕ} {h : History} {d start le
 series_never_6 x (no_shape y) e = y (series_holds x).fits
 series_never_6 x (no_domain y z) e = cc
 series_never_6 x (no_right y z w) e = cc
-series_never_6 {start = start} {len = len} x (no_region y z w k v) e = ⊎_elim (λ a. cc) (λ a. cc) (region_number start len k v)
+series_never_6 {start = start} {len = len} x (no_region y z w k v) e =
+    ⊎_elim (λ a. cc) (λ a. cc) (region_number start len k v)
 series_never_6 x (in_order g asked y) e = never_unsound (series_holds x).sound y e
 
 -- .. whoever asks for the change ..
-pub series_by_never_6 : {s : Shape} {p list m q : List ℕ} {h : History} {caller d start len r n : ℕ} {c : Result Ending Refusal}
-    → Series s p list h → ChangesBy p s m caller d start len r n c q → c ≢ Err NotSound
+pub series_by_never_6 : {s : Shape} {p list m q : List ℕ} {h : History} {caller d start len r n : ℕ}
+    {c : Result Ending Refusal} → Series s p list h → ChangesBy p s m caller d start len r n c q → c ≢ Err NotSound
 series_by_never_6 {s} {p} {m = m} {caller = caller} {d} {start} {len} {r} x (not_asked k e) z =
     let w : k ≡ NotSound = cc in
     let v = ap number w in
@@ -158,13 +159,15 @@ series_by_never_6 x (not_allowed g e f) z = cc
 series_by_never_6 x (allowed g e f y) z = series_never_6 x y z
 
 -- .. and a tidying is done or cut.
-pub series_tidy_ends : {s : Shape} {p list q : List ℕ} {h : History} {n : ℕ} {c : Result Ending Refusal} → Series s p list h
+pub series_tidy_ends : {s : Shape} {p list q : List ℕ} {h : History} {n : ℕ} {c : Result Ending Refusal}
+    → Series s p list h
     → Tidies p s n c q → ((k : ℕ) × (c ≡ Ok (Done k))) ⊎ (c ≡ Ok Cut)
 series_tidy_ends x (no_shape y) = absurd (y (series_holds x).fits)
 series_tidy_ends x (unsound y z) = absurd (z (series_holds x).sound)
 series_tidy_ends x (done y z q w) = inl (_, refl)
 series_tidy_ends x (cut y z q w) = inr refl
 
-pub series_tidy_never_6 : {s : Shape} {p list q : List ℕ} {h : History} {n : ℕ} {c : Result Ending Refusal} → Series s p list h
+pub series_tidy_never_6 : {s : Shape} {p list q : List ℕ} {h : History} {n : ℕ} {c : Result Ending Refusal}
+    → Series s p list h
     → Tidies p s n c q → c ≢ Err NotSound
 series_tidy_never_6 x y e = ⊎_elim (λ (k, z). cc) (λ z. cc) (series_tidy_ends x y)

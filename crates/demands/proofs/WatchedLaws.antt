@@ -65,7 +65,8 @@ region_same {p} {s = s} {A} (done t q f) e a be ba z =
     sym (f.finished.rights e a be ba ∙ aimed_other s A (words p) e a z)
 region_same (cut t x f) e a be ba z = sym (f.cut.others e a be ba z)
 
-pub change_same : {p q : List ℕ} {s : Shape} {d start len r n : ℕ} {c : Result Ending Refusal} → Changes p s d start len r n c q
+pub change_same : {p q : List ℕ} {s : Shape} {d start len r n : ℕ} {c : Result Ending Refusal}
+    → Changes p s d start len r n c q
     → SameBut s.domains (altered c (aim_in (region_of start len) d r)) (rights_of s p) (rights_of s q)
 change_same (no_shape x) e a be ba z = refl
 change_same (no_domain x y) e a be ba z = refl
@@ -175,11 +176,13 @@ watched_sees (region_flushed w d start len) =
     let o = watched_sees w in pointed_sees o _ (rounded_sees o (region_of start len) d)
 
 -- Whether a lookup is refused for a pool that is not sound can be told.
-six_or_not : (p : List ℕ) (s : Shape) (d a : ℕ) → (lookup_of p s d a ≡ Err NotSound) ⊎ (lookup_of p s d a ≢ Err NotSound)
+six_or_not : (p : List ℕ) (s : Shape) (d a : ℕ)
+    → (lookup_of p s d a ≡ Err NotSound) ⊎ (lookup_of p s d a ≢ Err NotSound)
 six_or_not p s d a = go (fits_of s (length p)) (ltb d s.domains)
     (walk (form_of s) (words p) a 2 (entry (form_of s) d a))
   where
-    go : (f t : Bool) (e : End) → let r = cond f (cond t (found_at (form_of s) (words p) a e) (Err NoDomain)) (Err NoShape) in
+    go : (f t : Bool) (e : End)
+        → let r = cond f (cond t (found_at (form_of s) (words p) a e) (Err NoDomain)) (Err NoShape) in
         (r ≡ Err NotSound) ⊎ (r ≢ Err NotSound)
     go true true bad = inl refl
     go true true (decides h k) = inr (λ z. cc)
@@ -223,7 +226,8 @@ pub series_verdict : {s : Shape} {p list : List ℕ} {b : Buffer} {x : Places} {
     → Watched s p b x
     → (d kind size a : ℕ) → d < s.domains → a < addresses → x d a ≡ false
     → refusal_of s (length p) b.next d kind size a ≡ Ok tt
-    → (n : ℕ) × (n ≤ 3) × ((check_of p s b d kind size a).verdict ≡ Ok (verdict_of kind (right_of (form_of s) (words p) d a) n))
+    → (n : ℕ) × (n ≤ 3)
+    × ((check_of p s b d kind size a).verdict ≡ Ok (verdict_of kind (right_of (form_of s) (words p) d a) n))
 series_verdict {s} {p} {b} {x} y w d kind size a hd ha z e =
     let o = series_holds y in
     let (_, found, _) = sound_lookup p s d a o.sound o.fits hd in

@@ -34,7 +34,8 @@ pub data Watched (s : Shape) : List ℕ → Buffer → Places → Type 0 where
   checked : {p : List ℕ} {b : Buffer} {x : Places} → Watched s p b x
       → (d kind size a : ℕ) → Watched s p (check_of p s b d kind size a).buffer x
   changed : {p q : List ℕ} {b : Buffer} {x : Places} {d start len r n : ℕ} {c : Result Ending Refusal}
-      → Watched s p b x → Changes p s d start len r n c q → Watched s q b (both x (altered c (aim_in (region_of start len) d r)))
+      → Watched s p b x → Changes p s d start len r n c q
+      → Watched s q b (both x (altered c (aim_in (region_of start len) d r)))
   changed_by : {p q list : List ℕ} {b : Buffer} {x : Places} {caller d start len r n : ℕ}
       {c : Result Ending Refusal} → Watched s p b x → ChangesBy p s list caller d start len r n c q
       → Watched s q b (both x (altered c (aim_in (region_of start len) d r)))

@@ -13,7 +13,11 @@ use Rattle.theory.proofs.Logic.{by_cases}
 use Rattle.words.specs.declared.Region.{Region}
 use Rattle.std.proofs.Common.{Result, Ok, Err}
 use Rattle.refusals.specs.declared.Refusal.{Refusal}
-use Rattle.refusals.specs.declared.Refusal.TheVariants.{NotAllowed, RegionsFull}
+use Rattle.refusals.specs.declared.Refusal.TheVariants.{NoShape, NoDomain, NoRight, EmptyRegion, PastTheEnd, NotSound, NotSettled}
+use Rattle.refusals.specs.declared.Refusal.TheVariants.{NoRoom, NoAccess, NotAligned, GateNotAligned, GatesFull, NoGate}
+use Rattle.refusals.specs.declared.Refusal.TheVariants.{GateToItself, StackFull, StackEmpty, OtherReturn, BadState, NotAllowed}
+use Rattle.refusals.specs.declared.Refusal.TheVariants.{RegionsFull, WrongLength}
+use Rattle.refusals.specs.Refusals.{number}
 use Rattle.owners.specs.Regions.{max_regions, list_long, count_of, region_at, place_of}
 use Rattle.owners.specs.Calls.{Outcome, outcome, refusal_number, in_range, answered, meets, same_words, owned_at}
 use Rattle.owners.specs.Calls.{fresh_region, put_at, added, with_export, made, passed, gave, make_of, pass_of, give_of}
@@ -31,6 +35,36 @@ pub refused_kept : {list : List ℕ} {Done : List ℕ → Type 0} {x : Outcome} 
     → refusal_number x.answer ≢ 0 → x.list ≡ list
 refused_kept (kept k) r = refl
 refused_kept (done after d) r = absurd (r refl)
+
+-- No refusal has the number 0 ..
+number_some : (k : Refusal) → 0 < number k
+number_some NoShape = omega arith
+number_some NoDomain = omega arith
+number_some NoRight = omega arith
+number_some EmptyRegion = omega arith
+number_some PastTheEnd = omega arith
+number_some NotSound = omega arith
+number_some NotSettled = omega arith
+number_some NoRoom = omega arith
+number_some NoAccess = omega arith
+number_some NotAligned = omega arith
+number_some GateNotAligned = omega arith
+number_some GatesFull = omega arith
+number_some NoGate = omega arith
+number_some GateToItself = omega arith
+number_some StackFull = omega arith
+number_some StackEmpty = omega arith
+number_some OtherReturn = omega arith
+number_some BadState = omega arith
+number_some NotAllowed = omega arith
+number_some RegionsFull = omega arith
+number_some WrongLength = omega arith
+
+-- .. so that 0 is answered only where the call is done.
+pub zero_done : {list : List ℕ} {Done : List ℕ → Type 0} {x : Outcome} → Ends list Done x
+    → refusal_number x.answer ≡ 0 → (x.answer ≡ Ok tt) × Done x.list
+zero_done (kept k) e = let z = number_some k in absurd (omega arith)
+zero_done (done after d) e = (refl, d)
 
 -- A region was made: domain 0 asked for words that lie in none, and there was room.
 pub record Made (list : List ℕ) (caller owner : ℕ) (after : List ℕ) : Type 0 where

@@ -14,7 +14,8 @@ pub(crate) fn in_range(domains: u32) -> bool
     (1..=table::MAX_DOMAINS).contains(&domains)
 }
 
-// The region that a call asks for, or what it refuses up to 5, in the paper's order.
+// The region that a call asks for, or what it refuses up to 5, in the paper's order. The list is lent as a slice, since
+// a list of another length is refused, here.
 #[tactic(auto, unfolding(crate::specs::Calls::asked_of))]
 pub(crate) fn ask(
     fits: bool,

@@ -130,7 +130,7 @@ fn leave_of(
     }
 }
 
-// A change by a caller: refused 19 where a covered word does not allow it, else the change itself.
+// A change by a caller: refused where a covered word does not allow it, else the change itself.
 pub fn change_by(
     pool: &mut [u32],
     shape: Shape,

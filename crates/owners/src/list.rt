@@ -47,7 +47,8 @@ pub(crate) fn put_region(ws: &mut [u32], i: usize, r: Owned)
     ws[at + 4] = r.rights;
 }
 
-// The number of the first region held that passes the test. The earlier of two counts because the search goes up.
+// The number of the first region held that passes the test. The earlier of two counts because the search goes up. A
+// `find` over the numbers is no plainer: what its closure asks for `region_at` would stand in clauses of its own.
 #[tactic(auto, using(crate::proofs::PlaceLaws::searching))]
 pub(crate) fn place_of<F: Fn(Owned) -> bool>(ws: &[u32], passes: F) -> Option<usize>
     ghost test: { AnOwned → Bool }

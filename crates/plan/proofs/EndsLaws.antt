@@ -135,15 +135,16 @@ module _ (p : List ℕ) (s : Shape) (o : List ℕ) (d : ℕ) (paint : Paint) (fi
       drafted q = ends_are l₂ h first_stays (last_told ∙ q)
 
     -- Both edges are one, which takes its place before it is stored again.
-    module _ (l₂ l₃ l₄ : List ℕ) (same : first_of h paint ≡ last_of h paint) (put₂ : l₂ ≡ put_edge l₁ L (edge_in l₁ F))
+    module _ (l₂ l₃ l₄ : List ℕ) (same : first_of h paint ≡ last_of h paint)
+        (put₂ : l₂ ≡ put_edge l₁ L (edge (first_of h paint)))
         (r : Option ℕ) (t : TakesPlace (kept l₂) 0 s h F l₂ l₃ r) (put₄ : l₄ ≡ put_edge l₃ L (edge_in l₃ F)) where
       -- It is read back in both places ..
       again : (edge_in l₄ L ≡ edge_in l₃ F) × Beside L 3 l₃ l₄
-      again = put_told l₃ L (edge_in l₃ F) put₄ (room₃ l₂ l₃ (edge_in l₁ F) put₂ r t)
+      again = put_told l₃ L (edge_in l₃ F) put₄ (room₃ l₂ l₃ (edge (first_of h paint)) put₂ r t)
 
       -- .. what was known of it lets the places be given out ..
       one_gives : GivesOut s d paint P h (kept l₂) (ends_in l₂ h)
-      one_gives = gives l₂ (drafted l₂ l₃ (edge_in l₁ F) put₂ r t (first_told ∙ ap edge same))
+      one_gives = gives l₂ (drafted l₂ l₃ (edge (first_of h paint)) put₂ r t (ap edge same))
 
       -- .. and so the height is planned.
       one_ends : ends_in l₄ h ≡ record { first = edge_in l₃ F; last = edge_in l₃ F }
@@ -163,7 +164,7 @@ module _ (p : List ℕ) (s : Shape) (o : List ℕ) (d : ℕ) (paint : Paint) (fi
           record {
             ends = one_are r t.taken;
             beside = beside_both F 6 (omega arith) (omega arith) (omega arith) (omega arith)
-                (beside₃ l₂ l₃ (edge_in l₁ F) put₂ r t) again.1;
+                (beside₃ l₂ l₃ (edge (first_of h paint)) put₂ r t) again.1;
           }
 
     -- The last edge is another ..

@@ -37,7 +37,7 @@ pub fn paint_in(plan: &[u32; PLAN_WORDS]) -> Paint
 }
 
 // The edge whose words begin at `i`.
-fn edge_in(plan: &[u32; PLAN_WORDS], i: usize) -> Edge
+pub fn edge_in(plan: &[u32; PLAN_WORDS], i: usize) -> Edge
     requires { i < 14 }
     ensures { result ≡ edge_in plan.now i }
 {
@@ -78,14 +78,4 @@ pub fn put_edge(plan: &mut [u32; PLAN_WORDS], i: usize, edge: Edge)
     plan[i] = edge.number;
     plan[i + 1] = edge.old;
     plan[i + 2] = edge.last;
-}
-
-// The edge whose words begin at `i` is stored once more, in the words from `j` on, which come after.
-pub fn copy_edge(plan: &mut [u32; PLAN_WORDS], i: usize, j: usize)
-    requires { (i + 3 ≤ j) × (j < 14) }
-    ensures { plan.new ≡ put_edge plan.old j (edge_in plan.old i) }
-{
-    plan[j] = plan[i];
-    plan[j + 1] = plan[i + 1];
-    plan[j + 2] = plan[i + 2];
 }

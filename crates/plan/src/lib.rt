@@ -96,28 +96,19 @@ fn old_entry(pool: &[u32], height: u32, domain: u32, n: u32) -> u32
 }
 
 // The edge of a block, before places are given out: where a new table is wanted, its pointer waits.
-fn draft_edge(
-    pool: &[u32],
-    height: u32,
-    domain: u32,
-    paint: Paint,
-    n: u32,
-    plan: &mut [u32; PLAN_WORDS],
-    i: usize,
-)
+fn draft_edge(pool: &[u32], height: u32, domain: u32, paint: Paint, n: u32) -> Edge
     requires readable_root { ReadableRoot pool.now domain }
-    requires height_lt_heights { (height < heights) × (domain < 4) × (n < blocks height) × (paint.right < 4) × (i < 14) }
-    ensures { (R : ℕ → ℕ) → RootGives (words pool.now) domain R → plan.new
-        ≡ put_edge plan.old i (edge_at (words pool.now) domain paint R height n) }
+    requires height_lt_heights { (height < heights) × (domain < 4) × (n < blocks height) × (paint.right < 4) }
+    ensures { (R : ℕ → ℕ) → RootGives (words pool.now) domain R
+        → result ≡ edge_at (words pool.now) domain paint R height n }
 {
     let old = old_entry(pool, height, domain, n);
     let target = targets::entry_target(pool, paint, height + 1, old, n);
-    let edge = edge_of(n, old, target);
-    layout::put_edge(plan, i, edge);
+    edge_of(n, old, target)
 }
 
-// The first place from `from` on, below `to`, where no kept table stands. Places that the change gives up count as free;
-// a place that a table of any domain keeps does not.
+// The first place from `from` on, below `to`, where no kept table stands. Places that the change gives up count as
+// free; a place that a table of any domain keeps does not.
 fn next_free(
     owners: &[u32; PLACES],
     height: u32,
@@ -185,14 +176,16 @@ fn plan_ends(
     let end = (paint.hi - 1) / long;
     let f = layout::edge_index(height, true);
     let l = layout::edge_index(height, false);
-    draft_edge(pool, height, domain, paint, begin, plan, f);
+    let first = draft_edge(pool, height, domain, paint, begin);
+    layout::put_edge(plan, f, first);
     if begin == end {
-        layout::copy_edge(plan, f, l);
-        let only = take_place(owners, shape, height, domain, plan, f, 0);
-        layout::copy_edge(plan, f, l);
-        return only.is_some();
+        layout::put_edge(plan, l, first);
+        let next = take_place(owners, shape, height, domain, plan, f, 0);
+        layout::put_edge(plan, l, layout::edge_in(plan, f));
+        return next.is_some();
     }
-    draft_edge(pool, height, domain, paint, end, plan, l);
+    let last = draft_edge(pool, height, domain, paint, end);
+    layout::put_edge(plan, l, last);
     let Some(next) = take_place(owners, shape, height, domain, plan, f, 0) else {
         return false;
     };

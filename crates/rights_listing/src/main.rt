@@ -109,6 +109,7 @@ fn show_all(output: Stdout, pool: &[u32]) -> Result<usize, Stopped>
     ensures { ShowsAll pool.now result }
 {
     let mut count = 0;
+    // How many pages there are is known only at the last.
     loop {
         let left = show(output, pool, (count * pages::RUNS) as u32)?;
         count += 1;

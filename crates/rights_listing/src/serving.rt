@@ -62,6 +62,7 @@ pub fn serve(pool: &mut [u32], chunk: &[u8], line: LineSoFar, out: &mut [u8]) ->
     let mut begun = line;
     let mut at = 0;
     let mut len = 0;
+    // By unequal strides, from line to line.
     loop {
         let fed = lines::feed(chunk, at, begun);
         let Some(said) = fed.found else {
