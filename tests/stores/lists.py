@@ -68,7 +68,7 @@ TOLD = {
 BELOW = next(line.split()[1:] for line in open("crates.txt") if line.startswith("change:"))
 OWNERS = {name: ["owners"] for name in ("give_place", "table_check", "entry_check", "census")}
 PLANNERS = {
-    name: ["plan"] for name in ("put_edge", "copy_edge", "draft_edge", "take_place", "plan_ends", "plan_change")
+    name: ["plan"] for name in ("put_edge", "take_place", "plan_ends", "plan_change")
 }
 
 # What the functions that C calls are lent to write in.

@@ -158,7 +158,8 @@ fn entry_check(
 }
 
 // Whether the pool is sound, and, where it is, the owners of its places: of each place the number of the block whose
-// table stands there, over all domains (1024 * d + b for block b of domain d, 1048576 * d + p for page p), or NONE.
+// table stands there, over all domains (1024 * d + b for block b of domain d, 1048576 * d + p for page p), or NONE. It
+// answers a bool, and the owners are lent: by value they would stand twice on a stack of 1,024 bytes.
 #[inline(never)]
 pub fn census(pool: &[u32], shape: Shape, owners: &mut [u32; PLACES]) -> bool
     requires fits { Fits shape (length pool.now) }

@@ -129,7 +129,7 @@ fn next_new(plan: &[u32; PLAN_WORDS], k: PoolWord, best: Span) -> Span
 }
 
 // By the phase: in the first only words that lead are given up, and no word of a leaf leads; new tables are filled in
-// the second.
+// the second. A match of three lines: with a closure for each phase they would stand apart.
 fn next_in(plan: &[u32; PLAN_WORDS], c: u32, k: PoolWord, none: Span) -> Span
     requires { PlanFits (plan_in plan.now) × (k.0 ≤ none.from.0) }
     ensures { Ahead k.0 none (Idle (plan_in plan.now) c) result }

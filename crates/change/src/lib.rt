@@ -35,7 +35,7 @@ pub enum Ending {
 }
 
 // Where a run stands: the phase, and in it the word. The words from there up to `past` are a row, to be looked at one
-// by one. A phase is a number, from 1 on, since what a cut leaves is told by which phases come before it.
+// by one. A phase is a number, from 1 on, as in `midway`, which tells what a cut leaves by which phases come before it.
 #[derive(Clone, Copy)]
 pub struct Cursor {
     pub phase: u32,

@@ -102,6 +102,7 @@ pub fn next_tidying(
     requires middle_owners { MiddleOwners shape owners.now pool.now }
     ensures { NextIs shape Tidying pool.now from.phase from.word.0 result }
 {
+    // The first place may be entered in its middle.
     let mut k = from.word.index();
     for place in k / TABLE_SIZE..(shape.domains + shape.middles) as usize {
         let base = TABLE_SIZE * place;

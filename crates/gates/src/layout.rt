@@ -1,5 +1,6 @@
 // Gates and frames in their lent words, as the C interface lays them out: one read, one stored. A supervisor keeps
-// them in its own memory, so they are no arrays of gates and frames.
+// them in its own memory, so they are no arrays of gates and frames. Each kind has fields of its own, and so its own two
+// functions.
 ghost use Rattle.std.specs.Prelude.{◌≡◌, ◌*◌, ◌<◌};
 ghost use Rattle.std.proofs.lemmas.List.Edits.{sets};
 ghost use Rattle.gates.specs.Layout.{gate_said, gate_word, gate_at, gate_words, frame_at, frame_words};

@@ -57,7 +57,9 @@ fn stands_at(g: GateAt, domain: u32, address: ByteAddr) -> bool
     g.domain == domain && g.address == address
 }
 
-// The place of the first gate that stands there, if one does. The earlier of two counts because the search goes up.
+// The place of the first gate that stands there, if one does. The earlier of two counts because the search goes up. That
+// the count is at most 64 is a clause here and below: lent words may hold any, and the calls refuse what is more. The
+// search of a list of regions goes over rows of another kind, of any test.
 pub(crate) fn place_of(gates: &[u32; GATES_WORDS], domain: u32, address: ByteAddr) -> Option<usize>
     requires { (gates_of gates.now).count ≤ 64 }
     ensures place { result ≡ place_of (gates_of gates.now) domain address.0 }

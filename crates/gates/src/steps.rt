@@ -21,6 +21,7 @@ fn gate_below(g: GateAt, domains: u32) -> bool
     g.domain < domains && leads_below(g.gate, domains)
 }
 
+// Gates and frames are asked each by a line of their own: one for both would read them by a trait.
 fn gates_below(gates: &[u32; GATES_WORDS], domains: u32) -> bool
     requires { (gates_of gates.now).count ≤ 64 }
     ensures { result ≡ list_all (gate_below domains) (held (gates_of gates.now)) }

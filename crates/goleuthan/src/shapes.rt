@@ -5,7 +5,7 @@ ghost use Rattle.goleuthan.specs.Calls.{shape_long, shape_in, NotLong};
 use refusals::Refusal;
 use table::Shape;
 
-// The paper's form: eight rights an entry.
+// The paper's form: eight rights an entry. The C interface says a form by a number.
 const EIGHTS: u32 = 0;
 
 // The one reader of the five words of a shape, form, D, M, L and V: a call that takes a shape sees the struct alone. D is

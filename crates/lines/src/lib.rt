@@ -15,6 +15,7 @@ use std::fmt;
 
 const ROOM: usize = 60;
 
+// A length that says that the line is too long; which one it is, `feed` promises.
 const TOO_LONG: usize = ROOM + 1;
 
 // What a line asks for.
@@ -56,7 +57,8 @@ pub struct Fed {
     pub line: LineSoFar,
 }
 
-// The number that a word writes. It is bounded at each digit, so that leading zeros cost nothing and no sum wraps.
+// The number that a word writes. It is bounded at each digit, so that leading zeros cost nothing and no sum wraps. (What
+// the library parses may begin with a sign.)
 #[tactic(auto, using(crate::proofs::ReadLaws::reading))]
 fn number(word: &[u8]) -> Option<u32>
     ensures { result ≡ number_of word.now }

@@ -7,7 +7,7 @@ ghost use Rattle.lookaside.specs.Flushes.{meets};
 use super::Slot;
 use words::{ByteAddr, Region};
 
-// How many bytes the block of a level has.
+// How many bytes the block of a level has. Each level has its number here, so that nothing is multiplied.
 pub fn block_bytes(level: u32) -> u32
     ensures { result ≡ block_bytes level }
 {

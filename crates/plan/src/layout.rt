@@ -1,5 +1,5 @@
 // How a plan lies in sixteen lent words: a plan by value would be copied into every function that asks it, and a
-// supervisor's stack is short.
+// supervisor's stack is short. What a plan fits (`PlanFits`) stands in clauses, since its words may say any number.
 ghost use Rattle.std.specs.Prelude.{◌≡◌, ◌+◌, ◌<◌, ◌≤◌, get_or};
 ghost use Rattle.plan.specs.Plan.{edge_word, edge_in, paint_in, plan_in, ends_of, put_edge};
 

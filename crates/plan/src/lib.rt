@@ -193,7 +193,8 @@ fn plan_ends(
 }
 
 // The plan of a change, before its first store: which entries it ends with, and where its new tables stand. False
-// where the finished rights need more tables than there are places; the plan's words then say nothing.
+// where the finished rights need more tables than there are places; the plan's words then say nothing. By value, in an
+// Option, it would be copied into whoever asks it.
 pub fn plan_change(
     pool: &[u32],
     shape: Shape,

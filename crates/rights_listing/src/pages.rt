@@ -9,7 +9,8 @@ use crate::text::write_number;
 // The runs of a page.
 pub const RUNS: usize = 1024;
 
-// What came of a page: how many bytes were written, and how many runs come after it.
+// What came of a page: how many bytes were written, and how many runs come after it. (There is no heap: the bytes are
+// lent.)
 #[derive(Clone, Copy)]
 pub struct Page {
     pub len: usize,
@@ -42,6 +43,7 @@ pub fn write_page(pool: &[u32], from: u32, out: &mut [u8]) -> Page
     ensures { ShowsPage pool.now from result out.new }
 {
     let mut runs = [0u32; 4 * RUNS];
+    // A pool that is not sound has no runs, and so a page of nothing; the program's is sound.
     let Ok(n) = listing::list_runs(pool, shape(), from, &mut runs) else {
         return Page { len: 0, left: 0 };
     };

@@ -10,10 +10,10 @@ use words::ByteAddr;
 // An allowance that suffices: no pool has as many words.
 const SUFFICES: u32 = u32::MAX;
 
-// The number for a line that is not of the form.
+// The number for a line that is not of the form: what is written for a line is a number.
 const NOT_OF_FORM: u32 = 99;
 
-// What came of a chunk: how many bytes were written, and the line that has begun.
+// What came of a chunk: how many bytes were written, and the line that has begun. (There is no heap: the bytes are lent.)
 #[derive(Clone, Copy)]
 pub struct Served {
     pub len: usize,

@@ -33,7 +33,7 @@ pub const MAX_LEAVES: u32 = 64;
 // Places are numbered: the middle ones from 0 on, the leaf places from this number on.
 pub const FIRST_LEAF: usize = 8;
 
-// The kinds of access, as numbers from outside.
+// The kinds of access, as numbers from outside and no enum: `passes` promises an answer for every number.
 pub const LOAD: u32 = 0;
 
 pub const STORE: u32 = 1;
@@ -50,7 +50,7 @@ pub struct Shape {
 }
 
 // What an entry says: it is rights; or it leads to the table that begins at a pool word, in the place of a number; or
-// it is bad.
+// it is bad. These are the paper's three cases: with a Result for the bad one, who asks would match twice.
 #[derive(Clone, Copy)]
 pub enum Entry {
     Rights(u32),

@@ -26,7 +26,7 @@ pub struct Paint {
     pub right: u32,
 }
 
-// The empty region: rights as they stand.
+// The empty region: rights as they stand. It is a paint like any other and no Option, so that one search serves both.
 pub const UNPAINTED: Paint = Paint {
     lo: 0,
     hi: 0,

@@ -84,7 +84,7 @@ impl PoolWord {
         requires { self.0 < 4294967296 }
         ensures { result ≡ self.0 }
     {
-        self.0 as u32
+        self.index() as u32
     }
 }
 
@@ -128,8 +128,8 @@ fn all_rights(words: &[u32]) -> bool
     words.iter().fold(true, |all, w| all & good_rights(*w))
 }
 
-// Whether the words are all `value`, each asked as above. It is a fold of its own: with the test as a parameter there
-// would be three functions for two lines.
+// Whether the words are all `value`, each asked as above. It is a fold of its own: one over any test would need a ghost
+// argument for what the test says, and two clauses that tie them.
 fn all_are(words: &[u32], value: u32) -> bool
     ensures { result ≡ fold (λ all w. all && (w == value)) true words.now }
 {
