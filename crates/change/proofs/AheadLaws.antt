@@ -21,8 +21,7 @@ use Rattle.places.proofs.HeightLaws.{each_height}
 use Rattle.targets.specs.Steps.{inside}
 use Rattle.targets.proofs.EntryLaws.{leads_high}
 use Rattle.targets.proofs.PaintLaws.{inside_low, inside_high, said_after, after_apart}
-use Rattle.plan.specs.declared.Plan.{Plan}
-use Rattle.plan.specs.Plan.{ends_of, edge_of, of_table, of_new, entry_after, new_word, PlanFits}
+use Rattle.plan.specs.Plan.{Plan, ends_of, edge_of, of_table, of_new, entry_after, new_word, PlanFits}
 use Rattle.plan.specs.Goals.{Planned}
 use Rattle.plan.specs.Aims.{Aim}
 use Rattle.plan.proofs.DraftLaws.{words_bytes}

@@ -17,8 +17,7 @@ use Rattle.targets.specs.declared.Paint.{Paint}
 use Rattle.words.specs.Region.{region_of}
 use Rattle.words.specs.declared.Region.{Region}
 use Rattle.words.proofs.RegionLaws.{region_covering}
-use Rattle.plan.specs.declared.Plan.{Plan}
-use Rattle.plan.specs.Plan.{PlanFits}
+use Rattle.plan.specs.Plan.{Plan, PlanFits}
 use Rattle.plan.specs.Planning.{Regular, first_of, last_of}
 use Rattle.plan.specs.Goals.{Planned}
 use Rattle.plan.specs.Edges.{PlanReady, PlansChange}

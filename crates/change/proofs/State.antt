@@ -19,8 +19,7 @@ use Rattle.table.specs.declared.Shape.{Shape}
 use Rattle.table.specs.Map.{form_of, leads, zone}
 use Rattle.table.proofs.FormLaws.{lawful, exact}
 use Rattle.table.proofs.WantLaws.{wanting}
-use Rattle.plan.specs.declared.Plan.{Plan}
-use Rattle.plan.specs.Plan.{after, phase_of}
+use Rattle.plan.specs.Plan.{Plan, after, phase_of}
 use Rattle.plan.specs.Aims.{Aim, aimed_at}
 use Rattle.change.specs.Cuts.{Due}
 use Rattle.change.proofs.CutLaws.{put_cuts}

@@ -10,8 +10,7 @@ use Rattle.table.specs.Shape.{size}
 use Rattle.table.specs.Map.{leads}
 use Rattle.places.specs.Count.{heights, blocks}
 use Rattle.plan.specs.declared.Edge.{Edge}
-use Rattle.plan.specs.declared.Plan.{Plan}
-use Rattle.plan.specs.Plan.{ends_of, edge_of, InTable, of_table, PlanFits}
+use Rattle.plan.specs.Plan.{Plan, ends_of, edge_of, InTable, of_table, PlanFits}
 use Rattle.plan.proofs.MeetLaws.{ends_below, end_below}
 
 -- A table has at most 1,024 words.

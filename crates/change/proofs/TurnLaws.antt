@@ -7,8 +7,7 @@ use native.Mathlib.Decide.{ℕ_discrete}
 use lib.ListN.{length}
 use Rattle.theory.specs.Pool.{words}
 use Rattle.table.specs.declared.Shape.{Shape}
-use Rattle.plan.specs.declared.Plan.{Plan}
-use Rattle.plan.specs.Plan.{after, phase_of}
+use Rattle.plan.specs.Plan.{Plan, after, phase_of}
 use Rattle.change.specs.Runs.{Change}
 use Rattle.change.specs.Runs.{Run, Stands, Stores}
 use Rattle.change.specs.Ahead.{Idle}

@@ -6,8 +6,7 @@ use Rattle.table.specs.declared.Shape.{Shape}
 use Rattle.table.specs.Shape.{size}
 use Rattle.table.specs.Map.{leads}
 use Rattle.plan.specs.declared.Edge.{Edge}
-use Rattle.plan.specs.declared.Plan.{Plan}
-use Rattle.plan.specs.Plan.{edge_of, InTable, of_table, of_new, entry_after, table_after, after, new_word}
+use Rattle.plan.specs.Plan.{Plan, edge_of, InTable, of_table, of_new, entry_after, table_after, after, new_word}
 use Rattle.change.specs.declared.Cursor.{Cursor}
 use Rattle.change.specs.Runs.{Change}
 use Rattle.change.specs.declared.ahead.Span.{Span}

@@ -8,7 +8,7 @@ use Rattle.words.specs.declared.Region.{Region}
 use Rattle.table.specs.declared.Shape.{Shape}
 use Rattle.table.specs.Map.{form_of}
 use Rattle.change.specs.Runs.{Change}
-use Rattle.plan.specs.declared.Plan.{Plan}
+use Rattle.plan.specs.Plan.{Plan}
 use Rattle.plan.specs.Aims.{Aim, change_aim}
 use Rattle.change.specs.Answers.{Asked, ChangesRegion, Changes}
 use Rattle.change.specs.Runs.{Ready}

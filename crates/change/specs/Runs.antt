@@ -6,8 +6,7 @@ use Rattle.theory.specs.Phase.{phase, midway}
 use Rattle.table.specs.declared.Shape.{Shape}
 use Rattle.table.specs.Shape.{Fits, first_middle}
 use Rattle.table.specs.Map.{form_of}
-use Rattle.plan.specs.declared.Plan.{Plan}
-use Rattle.plan.specs.Plan.{PlanFits}
+use Rattle.plan.specs.Plan.{Plan, PlanFits}
 use Rattle.plan.specs.Aims.{Aim, no_aim, Goal}
 use Rattle.plan.specs.Goals.{Planned}
 use Rattle.change.specs.declared.Ending.{Ending}

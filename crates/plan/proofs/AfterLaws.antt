@@ -9,7 +9,7 @@ use Rattle.table.specs.Map.{leads}
 use Rattle.places.specs.Count.{heights}
 use Rattle.places.proofs.HeightLaws.{each_height}
 use Rattle.plan.specs.declared.Edge.{Edge}
-use Rattle.plan.specs.declared.Plan.{Plan}
+use Rattle.plan.specs.Plan.{Plan}
 use Rattle.plan.specs.Plan.{ends_of, edge_of, InTable, of_table, of_new, entry_after, table_after, ends_after, after}
 use Rattle.plan.specs.Plan.{new_word}
 

@@ -27,8 +27,7 @@ use Rattle.targets.specs.Paints.{region}
 use Rattle.targets.specs.Targets.{painted, virtual_of}
 use Rattle.plan.specs.Planning.{first_of, last_of}
 use Rattle.plan.specs.declared.Edge.{Edge}
-use Rattle.plan.specs.declared.Plan.{Plan}
-use Rattle.plan.specs.Plan.{ends_of, of_table, painted_leaf, entry_after, entry_before, table_after}
+use Rattle.plan.specs.Plan.{Plan, ends_of, of_table, painted_leaf, entry_after, entry_before, table_after}
 use Rattle.plan.specs.Aims.{aim_of, aimed_at}
 use Rattle.plan.proofs.AimLaws.{aims_covered}
 use Rattle.plan.specs.Edges.{EdgeIs, Edges}

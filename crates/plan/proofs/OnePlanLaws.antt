@@ -25,8 +25,7 @@ use Rattle.places.proofs.FinalLaws.{final_encodes, final_placing, final_finished
 use Rattle.places.proofs.Exists.{finished_fits}
 use Rattle.targets.specs.declared.Paint.{Paint}
 use Rattle.plan.specs.declared.Edge.{Edge}
-use Rattle.plan.specs.declared.Plan.{Plan}
-use Rattle.plan.specs.Plan.{ends_of}
+use Rattle.plan.specs.Plan.{Plan, ends_of}
 use Rattle.plan.specs.Aims.{aim_of, aimed_at}
 use Rattle.plan.specs.Planning.{Regular, first_of, last_of}
 use Rattle.plan.specs.Edges.{EdgeIs, PlanReady, PlansChange}

@@ -11,8 +11,7 @@ use Rattle.places.proofs.HeightLaws.{choose}
 use Rattle.targets.specs.declared.Paint.{Paint}
 use Rattle.plan.specs.declared.Edge.{Edge}
 use Rattle.plan.specs.declared.Ends.{Ends}
-use Rattle.plan.specs.declared.Plan.{Plan}
-use Rattle.plan.specs.Plan.{ends_of}
+use Rattle.plan.specs.Plan.{Plan, ends_of}
 use Rattle.plan.specs.Planning.{Regular}
 use Rattle.plan.specs.Edges.{EdgeIs, EndsIs, PlanReady, Placed, EndsPlaced}
 use Rattle.plan.proofs.Giving.{ends_at, EndsTold}

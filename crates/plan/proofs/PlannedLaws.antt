@@ -23,8 +23,7 @@ use Rattle.places.proofs.FinalLaws.{final_finished}
 use Rattle.places.proofs.TellsLaws.{final_tells}
 use Rattle.targets.specs.declared.Paint.{Paint}
 use Rattle.plan.specs.declared.Edge.{Edge}
-use Rattle.plan.specs.declared.Plan.{Plan}
-use Rattle.plan.specs.Plan.{edge_of, InTable, of_table, of_new, entry_after, after, new_word}
+use Rattle.plan.specs.Plan.{Plan, edge_of, InTable, of_table, of_new, entry_after, after, new_word}
 use Rattle.plan.specs.Aims.{aim_of, aimed_at}
 use Rattle.plan.specs.Planning.{Regular, end_of}
 use Rattle.plan.specs.Goals.{Planned}

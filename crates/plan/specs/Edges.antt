@@ -15,8 +15,7 @@ use Rattle.targets.specs.declared.Paint.{Paint}
 use Rattle.targets.specs.Targets.{painted, target_of, virtual_of, Gives, Readable}
 use Rattle.plan.specs.declared.Edge.{Edge}
 use Rattle.plan.specs.declared.Ends.{Ends}
-use Rattle.plan.specs.declared.Plan.{Plan}
-use Rattle.plan.specs.Plan.{edge_word, edge_in, ends_in, Beside, ends_of, is_new}
+use Rattle.plan.specs.Plan.{Plan, edge_word, edge_in, ends_in, Beside, ends_of, is_new}
 use Rattle.plan.specs.Aims.{aim_of, aimed_at}
 use Rattle.plan.specs.Planning.{first_of, last_of}
 

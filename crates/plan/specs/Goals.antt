@@ -4,8 +4,7 @@ use Rattle.theory.specs.Pool.{words}
 use Rattle.table.specs.declared.Shape.{Shape}
 use Rattle.table.specs.Map.{zone}
 use Rattle.places.specs.Count.{heights}
-use Rattle.plan.specs.declared.Plan.{Plan}
-use Rattle.plan.specs.Plan.{edge_of, of_table, after, new_word}
+use Rattle.plan.specs.Plan.{Plan, edge_of, of_table, after, new_word}
 use Rattle.plan.specs.Aims.{Aim, aim_of, Goal}
 
 -- The plan is right at every word of the pool `p`.

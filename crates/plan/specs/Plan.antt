@@ -12,7 +12,14 @@ use Rattle.targets.specs.Targets.{painted, virtual_of}
 use Rattle.plan.specs.Planning.{Regular, first_of, last_of}
 use Rattle.plan.specs.declared.Edge.{Edge}
 use Rattle.plan.specs.declared.Ends.{Ends}
-use Rattle.plan.specs.declared.Plan.{Plan}
+
+-- All that the stores of a change need to know. The blocks and pages between the two edges are covered whole; those
+-- outside stay.
+pub record Plan : Type 0 where
+  pub domain : ℕ
+  pub paint : Paint
+  pub blocks : Ends
+  pub pages : Ends
 
 -- A plan lies in sixteen words: the domain, the region and its right, then four edges of three words each.
 abbrev pub plan_words : ℕ

@@ -46,16 +46,6 @@ pub struct Ends {
     pub last: Edge,
 }
 
-// All that the stores of a change need to know, for the contracts: what the lent words of a plan say. The blocks and
-// pages between the two edges are covered whole; those outside stay.
-#[derive(Clone, Copy)]
-pub struct Plan {
-    pub domain: u32,
-    pub paint: Paint,
-    pub blocks: Ends,
-    pub pages: Ends,
-}
-
 // An edge before places are given out. A table that it had stays where it is.
 fn edge_of(number: u32, old: u32, target: Option<u32>) -> Edge
     ensures { result ≡ edge_for number old target }

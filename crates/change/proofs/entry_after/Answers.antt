@@ -8,8 +8,7 @@ use lib.Dec.{ltb}
 use borrow.Author.Tests.{lt-ltb, le-ltb, ne_eqb}
 use Rattle.words.specs.Rights.{eight_of}
 use Rattle.plan.specs.declared.Ends.{Ends}
-use Rattle.plan.specs.declared.Plan.{Plan}
-use Rattle.plan.specs.Plan.{ends_of, entry_after, entry_before, plan_in}
+use Rattle.plan.specs.Plan.{Plan, ends_of, entry_after, entry_before, plan_in}
 use Rattle.change.proofs.entry_after.Goals as goal
 
 -- An entry above the leaves that is at neither end of the region.
