@@ -115,9 +115,9 @@
  *   gol_change             912
  *   gol_change_by          928
  *   gol_tidy               832
- *   gol_lookup              88
+ *   gol_lookup              64
  *   gol_list               872
- *   gol_check              144
+ *   gol_check              128
  *   gol_flush_all           24
  *   gol_flush_domain         8
  *   gol_flush_region         8
