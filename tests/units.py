@@ -71,6 +71,9 @@ GIVES_NUMBER = {
 }
 SAYS_WORD = re.compile(r"(?:^|_)(?:word|addr|address|start)$")
 
+# Functions of a trait that have no body.
+NO_BODY = {("change", "next_store")}
+
 # Functions that go on from an index of the pool, with the reason.
 OFFSETS = {
     ("targets", "entries_have"): "its loop passes over the pages of a block, for most of the time of a plan",
@@ -81,7 +84,7 @@ OFFSETS = {
 INDEX = r"\w+(?:\.\w+)*(?:\.after\((?:[^()]|\([^()]*\))*\))*\.index\(\)"
 
 # The names of slices of words that are not the pool.
-SLICES = {"runs", "out", "ws", "shape", "buffer", "gates", "stack", "regions"}
+SLICES = {"part", "runs", "out", "ws", "shape", "buffer", "gates", "stack", "regions"}
 
 
 def closing(text, start, pair):
@@ -98,24 +101,42 @@ def code(text):
     """The text without comments, imports of definitions, and contracts."""
     text = re.sub(r"//[^\n]*", "", text)
     text = re.sub(r"(?m)^ghost use [^;]*;", "", text)
-    clause = re.compile(r"(?m)^\s+(?:requires|ensures)\b[^{]*")
+    clause = re.compile(r"(?m)^\s+(?:requires|ensures|ghost)\b[^{]*")
     while found := clause.search(text):
         text = text[:found.start()] + "\n" + text[closing(text, found.end(), "{}") + 1:]
     return text
 
 
+def past_generics(text, at):
+    """Where the parameters of a function begin whose name ends at `at`: what it is generic over stands between."""
+    depth = 0
+    while depth or text[at] != "(":
+        depth += (text[at] == "<") - (text[at] == ">" and text[at - 1] != "-")
+        at += 1
+    return at
+
+
+def outside_brackets(text, at, wanted):
+    """Where what is wanted comes next after `at`, not within brackets: an array's type has a semicolon of its own."""
+    while text[at] in "[(" or not re.compile(wanted).match(text, at):
+        at = closing(text, at, "[]" if text[at] == "[" else "()") + 1 if text[at] in "[(" else at + 1
+    return at
+
+
 def functions(text):
-    """Of each function: its name, parameters, result type and body."""
-    for found in re.finditer(r"\bfn (\w+)\(", text):
-        end = closing(text, found.end() - 1, "()")
-        brace = text.index("{", end)
-        body = text[brace:closing(text, brace, "{}") + 1]
-        yield found.group(1), text[found.end():end], text[end + 1:brace].replace("->", "").strip(), body
+    """Of each function: its name, parameters, result type and body, which a trait's function may lack."""
+    for found in re.finditer(r"\bfn (\w+)", text):
+        begin = past_generics(text, found.end())
+        end = closing(text, begin, "()")
+        past = outside_brackets(text, end + 1, r"[{;]|\bwhere\b")
+        brace = outside_brackets(text, past, r"[{;]")
+        body = text[brace:closing(text, brace, "{}") + 1] if text[brace] == "{" else ""
+        yield found.group(1), text[begin + 1:end], text[end + 1:past].replace("->", "").strip(), body
 
 
 def structs(text):
     """Of each struct or enum: its name and what it holds."""
-    for found in re.finditer(r"\b(?:struct|enum) (\w+)\s*\{", text):
+    for found in re.finditer(r"\b(?:struct|enum) (\w+)\s*(?:<[^{]*>\s*)?\{", text):
         yield found.group(1), text[found.end():closing(text, found.end() - 1, "{}")]
 
 
@@ -161,6 +182,8 @@ def faults(crate, text, met):
             if lent != "pool" and lent not in SLICES:
                 yield f"no known slice: {lent} of {owner}"
     for name, _, result, body in functions(text):
+        if not body and (crate, name) not in NO_BODY:
+            yield f"has no body: {name}"
         if SAYS_WORD.search(name) and re.fullmatch(NUMBER, result) and (crate, name) not in GIVES_NUMBER:
             yield f"gives a bare number: {name}"
         met.add((crate, name))
@@ -184,7 +207,7 @@ WRONG = [
     ("gates/steps", "if caller.back != target {", "if caller.back.0 != target.0 {", "taken apart"),
     ("listing", "let w = pool[entry.index()];", "let w = pool[entry.0];", "taken apart"),
     ("table", "let word = pool[at.index()];", "let word = pool[before as usize];", "load: pool[before as usize]"),
-    ("table", "pool[..first_middle.index()].fill(", "pool[..shape.domains as usize].fill(", "fresh: pool[..shape.domains as usize]"),
+    ("table", "fill(&mut pool[..first_middle.index()],", "fill(&mut pool[..shape.domains as usize],", "fresh: pool[..shape.domains as usize]"),
     ("plan", "pool[page.index()]", "pool[root as usize]", "old_entry: pool[root as usize]"),
     ("census", "let w = pool[word.index()];", "let w = pool[word.index() + 1];", "table_check: pool[word.index() + 1]"),
     ("targets", "let w = pool[start + j as usize];", "let w = pool[number + j as usize];",
@@ -195,6 +218,16 @@ WRONG = [
     ("change/tidying", "base: PoolWord, i: u32", "base: u32, i: u32", "a bare number: base of target_at"),
     ("gates", "    pub back: ByteAddr,", "    pub back: u32,", "a bare number: back of Frame"),
     ("census", "n: usize) -> PoolWord", "n: usize) -> u32", "gives a bare number: place_word"),
+    ("change", "    guide: &G,", "    word: u32,\n    guide: &G,", "a bare number: word of make_stores"),
+    ("owners/list", "place_of<F: Fn(Owned) -> bool>(ws: &[u32]", "place_of<F: Fn(Owned) -> bool>(at: u32, ws: &[u32]",
+     "a bare number: at of place_of"),
+    ("change/tidying", "pub struct ByOwners<'a> {", "pub struct ByOwners<'a> {\n    pub past: u32,",
+     "a bare number: past of ByOwners"),
+    ("goleuthan/calls", "let by = table::lookup(pool,", "let seen = pool[domain as usize]; let by = table::lookup(pool,",
+     "look_up: pool[domain as usize]"),
+    ("goleuthan/calls", "let count = listing::list_runs(pool,", "pool.first(); let count = listing::list_runs(pool,",
+     "list: pool.first"),
+    ("goleuthan/results", "results: &[u32; N], out:", "cells: &[u32], out:", "no known slice: cells of put"),
     ("census", "fn census(pool: &[u32],", "fn census(cells: &[u32],", "no known slice: cells"),
 ]
 
@@ -206,7 +239,7 @@ def main():
         passed += not found
         failed += [f"{path.relative_to(ROOT)}: {fault}" for fault in found]
     crates = {crate for crate, _ in sources()}
-    for entry in [*BARE, *GIVES_NUMBER, *OFFSETS]:
+    for entry in [*BARE, *GIVES_NUMBER, *NO_BODY, *OFFSETS]:
         if entry[0] in crates and entry not in met:
             failed.append(f"nothing is called {'::'.join(entry)}, which a list allows")
     for name, old, new, begins in WRONG:

@@ -5,7 +5,7 @@ CHANGE, TIDYING, AHEAD = (f"crates/change/src/{name}.rt" for name in ("lib", "ti
 FACE, TABLE, CENSUS, PLAN = (f"crates/{name}/src/lib.rt" for name in ("goleuthan", "table", "census", "plan"))
 CALLS = "crates/goleuthan/src/calls.rt"
 BUFFER, STEPS = "crates/lookaside/src/lib.rt", "crates/gates/src/steps.rt"
-OWNERS, REGIONS = (f"crates/owners/src/{name}.rt" for name in ("lib", "calls"))
+OWNERS, REGIONS, LIST = (f"crates/owners/src/{name}.rt" for name in ("lib", "calls", "list"))
 MAIN, SERVING = (f"crates/rights_listing/src/{name}.rt" for name in ("main", "serving"))
 
 ASKED = "    plan_request(\n        pool,"
@@ -18,7 +18,7 @@ PUT = "put(pool, shape, domain, paint, at, value);"
 CHANGED = "make_stores(pool, shape, domain, paint, &guide, allowance)"
 TIDIED = "make_stores(pool, shape, 0, UNPAINTED, &guide, allowance)"
 FRESH = "table::fresh(&mut pool, serving::shape())"
-FILL = "pool[first_middle.index()..].fill(0);"
+FILL = "fill(&mut pool[first_middle.index()..], 0);"
 LOAD = "let got = load(pool, at, loads);"
 WALK = "let by = decide(pool, shape, domain, address)?;"
 WALK_OF_A_CHECK = "let by = table::decide(pool, shape, domain, address)?;"
@@ -90,7 +90,8 @@ WRONG = [
     ("lends a plan to be altered once more", "held",
      [before(CHANGE, "    let guide = ByPlan", "plan::put_edge(&mut plan, 4, edge);")]),
     ("fills a part of the pool twice", "below",
-     [before(TABLE, FILL, FILL.replace("0", "7"))]),
+     [before(TABLE, FILL, FILL.replace("0)", "7)"))]),
+    ("stores a word twice where the pool is made fresh", "below", [before(TABLE, "part[i] = value;", "part[i] = 7;")]),
     ("turns a part of the pool round where it is made fresh", "below", [before(TABLE, FILL, "pool[..9].reverse();")]),
     ("turns the pool round in the one store", "handed on", [before(CHANGE, STORE, "pool.reverse(); pool.reverse();")]),
     ("makes a pool fresh in a tidying", "nobody else", [before(TIDYING, TIDIED, "table::fresh(pool, shape);")]),
@@ -141,6 +142,9 @@ WRONG += [
     ("knows the allowance of a caller by another name", "the allowance", [before(OWNERS, BY, "let n = allowance;")]),
     ("writes a word of a list and writes it back before a region is made", "states",
      [before(REGIONS, MET, "let was = ws[0]; ws[0] = 7; ws[0] = was;")]),
+    ("writes a word of a list and writes it back in the search", "states",
+     [(LIST, "-> bool>(ws: &[u32]", "-> bool>(ws: &mut [u32]"),
+      before(LIST, "for i in 0..ws[COUNT] as usize {", "let was = ws[0]; ws[0] = 7; ws[0] = was;")]),
     ("stores the count of a list twice", "states",
      [before(REGIONS, "ws[COUNT] = count + 1;", "ws[COUNT] = count;")]),
 ]

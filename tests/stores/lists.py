@@ -2,7 +2,7 @@
 
 # Who holds the pool to write in, and all that each does with it.
 HOLDERS = {
-    "table": {"fresh": ["length", "part.fill", "part.fill"]},
+    "table": {"fresh": ["length", "part to fill", "part to fill"], "fill": ["length", "store"]},
     "change": {
         "put": ["store"],
         "make_stores": ["to next_store", "to put"],

@@ -99,7 +99,7 @@ def below(house):
     """Below crate change words are lent to be made fresh, to count the owners and to plan, and for nothing else."""
     wrong = handed_on(house, "table")
     for crate in BELOW:
-        may = {"table": {"fresh": ["pool"]}, "census": OWNERS, "plan": PLANNERS}
+        may = {"table": {"fresh": ["pool"], "fill": ["part"]}, "census": OWNERS, "plan": PLANNERS}
         listed = may.get(crate, {})
         if house.lent(crate) != listed:
             wrong.append(f"{crate}: words to write in are {house.lent(crate)}, and may be {listed}")

@@ -34,6 +34,16 @@ def opening(tokens, i):
     return -1
 
 
+def past_generics(tokens, i):
+    """Where the parameters of a function begin after its name: what it is generic over stands between, a call's type
+    with brackets of its own among it."""
+    depth = 0
+    while depth or tokens[i] != "(":
+        depth += (tokens[i] == "<") - (tokens[i] == ">")
+        i += 1
+    return i
+
+
 def split(tokens):
     """The parts between commas that stand in no bracket."""
     parts, depth = [[]], 0
@@ -63,7 +73,7 @@ class Function:
             self.begin -= 1
         self.public = "pub" in tokens[self.begin:i]
         self.exported = "extern" in tokens[self.begin:i]
-        at = tokens.index("(", i)
+        at = past_generics(tokens, i + 2)
         k = closing(tokens, at)
         self.parameters = dict(named_type(part) for part in split(tokens[at + 1:k]))
         k += 1

@@ -1,7 +1,7 @@
 // The table: the shape of a pool, what its entries say, making it fresh, and the lookup of one word.
 #![tactic(auto)]
 
-ghost use Rattle.std.specs.Prelude.{◌≡◌, ◌+◌, ◌*◌, ◌<◌, ◌≤◌, length};
+ghost use Rattle.std.specs.Prelude.{◌≡◌, ◌+◌, ◌*◌, ◌<◌, ◌≤◌, length, replicate};
 ghost use Rattle.theory.specs.Pool.{words};
 ghost use Rattle.theory.specs.Walk.{walk};
 ghost use Rattle.table.specs.Shape.{fits_of, pool_length, Fits, InRange};
@@ -168,6 +168,16 @@ pub fn decode(shape: Shape, height: u32, w: u32) -> Entry
     }
 }
 
+// Each word of a part becomes the value. A slice's own `fill` stores the last one by itself, and keeps where it is while
+// it stores the others: 16 bytes of stack more. By index, so that what it stores is seen to be this one store.
+fn fill(part: &mut [u32], value: u32)
+    ensures { part.new ≡ replicate (length part.old) value }
+{
+    for i in 0..part.len() {
+        part[i] = value;
+    }
+}
+
 // Every root word says eight times none; all places are zero.
 pub fn fresh(pool: &mut [u32], shape: Shape) -> Result<(), Refusal>
     ensures { MakesFresh shape pool.old result pool.new }
@@ -176,8 +186,8 @@ pub fn fresh(pool: &mut [u32], shape: Shape) -> Result<(), Refusal>
         return Err(Refusal::NoShape);
     }
     let first_middle = first_place(shape, 1);
-    pool[..first_middle.index()].fill(words::BIT_31);
-    pool[first_middle.index()..].fill(0);
+    fill(&mut pool[..first_middle.index()], words::BIT_31);
+    fill(&mut pool[first_middle.index()..], 0);
     Ok(())
 }
 
