@@ -1,15 +1,28 @@
 -- Laws of the buffer's two loops: the search for the lowest match, and the flush of each slot. Assumes nothing.
-use Prim.Native.Nat.{ℕ, zero, suc, ◌+◌, ◌≤◌}
+use Prim.Native.Nat.{ℕ, zero, suc, ◌+◌, ◌≤◌, ◌<◌}
 use mathlib.Core.Path.{◌≡◌, refl, sym, ap, ◌∙◌}
 use mathlib.Core.Bool.{Bool, true, false, cond}
 use mathlib.Core.List.{List, [], ◌∷◌, map}
 use native.Mathlib.Nat.{not-suc-le-zero, le_of_suc-le-suc}
 use native.Mathlib.Numerals.{add-one}
 use native.Mathlib.Omega.{arith}
-use lib.ListN.{length, get_or, set}
+use lib.ListN.{length, get_or, drop, set, drop_of_length-le}
+use lib.Seq.{drop-cons}
+use Rattle.std.specs.List.{find}
 use Rattle.lookaside.specs.declared.Slot.{Slot}
-use Rattle.std.specs.Prelude.{Some}
-use Rattle.lookaside.specs.Slots.{Buffer, matches, first_match, empty_buffer}
+use Rattle.std.specs.Prelude.{Some, None}
+use Rattle.lookaside.specs.Slots.{Buffer, matches, first_match, empty_slot, empty_buffer}
+
+-- A search in what is left of the list: at a slot that passes the test, at one that does not, and past the end.
+module _ (test : Slot → Bool) (l : List Slot) (i : ℕ) where
+  pub find_here : i < length l → test (get_or l i empty_slot) ≡ true → find test (drop i l) ≡ Some (get_or l i empty_slot)
+  find_here h m = rw (drop-cons l i empty_slot h, m)
+
+  pub find_later : i < length l → test (get_or l i empty_slot) ≡ false → find test (drop i l) ≡ find test (drop (i + 1) l)
+  find_later h m = rw (drop-cons l i empty_slot h, m, add-one)
+
+  pub find_none : length l ≤ i → find test (drop i l) ≡ None
+  find_none h = rw (drop_of_length-le l h)
 
 -- The slot that the search finds matches.
 pub first_matches : (l : List Slot) (d a : ℕ) (s : Slot) → first_match l d a ≡ Some s → matches s d a ≡ true

@@ -21,7 +21,7 @@ use Rattle.std.specs.Prelude.{Option, Some, None, Result, Ok, Err}
 use Rattle.lookaside.specs.declared.Slot.{Slot}
 use Rattle.lookaside.specs.Slots.{Buffer, first_match}
 use Rattle.lookaside.specs.Check.{Checked, is_access, demand, refusal_of, refusing, walked, answered}
-use Rattle.lookaside.specs.Check.{check_of}
+use Rattle.lookaside.specs.Check.{check_of, unless_refused, Ruling, walk_decided, hit_decided, decided_unless, decide_of, filled_by}
 
 -- Accesses.
 
@@ -128,6 +128,29 @@ module _ (p : List ℕ) (s : Shape) (b : Buffer) (d kind size a : ℕ) where
       answers : (t : Option Slot) → (answered t p s b d kind a).buffer.next < 64
       answers (Some t) = h
       answers None = walks (lookup_of p s d a)
+
+  -- A check is what it decides, done to its buffer.
+
+  abbrev joined : Ruling → Checked
+  joined x = record { verdict = x.verdict; buffer = filled_by b x.fill }
+
+  walks_joined : (f : Result Deciding Refusal) → walked f b d kind a ≡ joined (walk_decided f d kind a)
+  walks_joined (Ok x) = refl
+  walks_joined (Err e) = refl
+
+  hits_joined : (h : Option Slot) → answered h p s b d kind a ≡ joined (hit_decided h p s d kind a)
+  hits_joined (Some t) = refl
+  hits_joined None = walks_joined (lookup_of p s d a)
+
+  pub check_decided : check_of p s b d kind size a
+      ≡ joined (decide_of p s b.next (first_match b.slots d a) d kind size a)
+  unfolding check_of decide_of
+  check_decided = go (refusal_of s (length p) b.next d kind size a)
+    where
+      go : (r : Result (Unit {0}) Refusal) → unless_refused r b (answered (first_match b.slots d a) p s b d kind a)
+          ≡ joined (decided_unless r (hit_decided (first_match b.slots d a) p s d kind a))
+      go (Ok _) = hits_joined (first_match b.slots d a)
+      go (Err e) = refl
 
   -- There is one answer.
   pub one_check : (q r : Checked) → q ≡ check_of p s b d kind size a → r ≡ check_of p s b d kind size a → q ≡ r

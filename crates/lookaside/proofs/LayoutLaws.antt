@@ -1,19 +1,16 @@
 -- A buffer in words: words of the right length say one buffer whose words they are, the words of a buffer say it
 -- again, and a slot or the pointer stored in the words is stored in the buffer. Assumes nothing.
-use Prim.Native.Nat.{ℕ, zero, suc, ◌+◌, ◌*◌, ◌%◌, ◌≤◌, ◌<◌}
+use Prim.Native.Nat.{ℕ, suc, ◌+◌, ◌*◌, ◌%◌, ◌≤◌, ◌<◌}
 use mathlib.Core.Path.{◌≡◌, refl, sym, ap, ◌∙◌}
 use mathlib.Core.Bool.{Bool, true, false, cond}
 use lib.Dec.{ltb}
-use mathlib.Core.List.{List, [], ◌∷◌, ◌++◌, map}
-use native.Mathlib.Nat.{zero-add}
+use mathlib.Core.List.{List, [], ◌∷◌, ◌++◌}
 use native.Mathlib.Numerals.{add-one}
 use native.Mathlib.Omega.{arith}
 use lib.ListN.{length, get_or, take, drop, set, replicate, length-set, drop_of_length-le}
 use lib.Seq.{sets, set-get_or, drop-cons, get_or_at, get_or-append_seam, get_or-append-add}
-use Rattle.std.specs.List.{range_with_len}
-use Rattle.std.proofs.lemmas.List.FromFn.{map-range_with_len_more}
 use Rattle.refusals.specs.declared.Refusal.TheVariants.{BadState}
-use Rattle.rows.specs.Rows.{rows_of, words_of}
+use Rattle.rows.specs.Rows.{words_of}
 use Rattle.rows.proofs.Layouts.{Layout}
 use Rattle.rows.proofs.RowLaws.{add_two, add_three, length_said, length_words, row_again, words_set, words_set_after}
 use Rattle.rows.proofs.RowLaws.{words_said, rows_words}
@@ -60,16 +57,6 @@ slot_layout = record {
 
 pub slots_said : (ws : List ℕ) → length (buffer_of ws).slots ≡ 64
 slots_said ws = length_said slot_layout 64 ws
-
--- The slots one by one.
-rows_by_one : {A : Type 0} (n : ℕ) (f : ℕ → A) → rows_of n f ≡ map f (range_with_len 0 n)
-unfolding rows_of
-rows_by_one zero f = refl
-rows_by_one {A = A} (suc n) f = ap (λ (l : List A). l ++ f n ∷ []) (rows_by_one n f)
-    ∙ sym (map-range_with_len_more f 0 n n (zero-add n)) ∙ ap (λ k. map f (range_with_len 0 k)) (add-one n)
-
-pub slots_by_one : (ws : List ℕ) → (buffer_of ws).slots ≡ map (λ i. slot_at ws (4 * i)) (range_with_len 0 64)
-slots_by_one ws = rows_by_one 64 (λ i. slot_at ws (4 * i))
 
 pub buffer_words_lem : (ws : List ℕ) → IsBuffer ws → buffer_words (buffer_of ws) ≡ ws
 buffer_words_lem ws h =

@@ -83,3 +83,36 @@ unfoldable pub check_of : List ℕ → Shape → Buffer → ℕ → ℕ → ℕ 
 check_of p s b d kind size a =
     unless_refused (refusal_of s (length p) b.next d kind size a) b
     (answered (first_match b.slots d a) p s b d kind a)
+
+-- ---- The same in two parts: what a check decides, and what is then done to the buffer.
+
+-- What a check decides: what it says, and the slot that is kept, if one is.
+pub record Ruling : Type 0 where
+  pub verdict : Result Verdict Refusal
+  pub fill : Option Slot
+
+-- A miss, by what the lookup found.
+abbrev pub walk_decided : Result Deciding Refusal → ℕ → ℕ → ℕ → Ruling
+walk_decided (Ok x) d kind a =
+    record { verdict = Ok (verdict_of kind x.right x.loads); fill = Some (slot_for d a x.entry x.loads) }
+walk_decided (Err e) d kind a = record { verdict = Err e; fill = None }
+
+-- A check that is not refused, by the slot that answers.
+abbrev pub hit_decided : Option Slot → List ℕ → Shape → ℕ → ℕ → ℕ → Ruling
+hit_decided (Some t) p s d kind a = record { verdict = Ok (verdict_of kind (slot_right t a) 0); fill = None }
+hit_decided None p s d kind a = walk_decided (lookup_of p s d a) d kind a
+
+-- One that would decide `x`, by whether it is refused before it asks the buffer.
+abbrev pub decided_unless : Result (Unit {0}) Refusal → Ruling → Ruling
+decided_unless (Ok _) x = x
+decided_unless (Err e) x = record { verdict = Err e; fill = None }
+
+-- What a check decides, by the pointer and the lowest slot that matches.
+unfoldable pub decide_of : List ℕ → Shape → ℕ → Option Slot → ℕ → ℕ → ℕ → ℕ → Ruling
+decide_of p s next h d kind size a =
+    decided_unless (refusal_of s (length p) next d kind size a) (hit_decided h p s d kind a)
+
+-- What is done to a buffer.
+abbrev pub filled_by : Buffer → Option Slot → Buffer
+filled_by b None = b
+filled_by b (Some t) = filled b t

@@ -37,16 +37,22 @@ fn one_of(block: ByteAddr, root: ByteAddr, middle: ByteAddr, leaf: ByteAddr) -> 
 }
 
 // The lowest slot that matches. Most slots are passed over by one word: a slot that matches has the block of its level
-// that the address lies in.
+// that the address lies in. A chain of `map` and `find` would make each slot whole before it asks.
 pub fn find(ws: &[u32; BUFFER_WORDS], domain: u32, address: ByteAddr) -> Option<Slot>
     ensures { result ≡ first_match (buffer_of ws.now).slots domain address.0 }
 {
     let root = slots::block_of(1, address);
     let middle = slots::block_of(2, address);
     let leaf = slots::block_of(3, address);
-    (0..SLOTS as usize).map(|i| slot_at(ws, 4 * i)).find(|s| {
-        one_of(s.block, root, middle, leaf) && s.matches(domain, address)
-    })
+    for i in 0..SLOTS as usize {
+        if one_of(ByteAddr::from(ws[4 * i + 2]), root, middle, leaf) {
+            let s = slot_at(ws, 4 * i);
+            if s.matches(domain, address) {
+                return Some(s);
+            }
+        }
+    }
+    None
 }
 
 // A slot stored at the pointer, which moves on.
