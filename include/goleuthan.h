@@ -111,13 +111,13 @@
  * STACK, in bytes, of the library as it is compiled for x86-64: the most that a call takes, its arguments that are
  * passed on the stack and its return address included.
  *
- *   gol_fresh               40
+ *   gol_fresh               24
  *   gol_change             912
  *   gol_change_by          928
  *   gol_tidy               832
  *   gol_lookup              64
  *   gol_list               872
- *   gol_check              128
+ *   gol_check              120
  *   gol_flush_all           24
  *   gol_flush_domain         8
  *   gol_flush_region         8
